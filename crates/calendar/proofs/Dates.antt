@@ -1,0 +1,123 @@
+-- Dates and day numbers are each other's inverse over the whole calendar, and day numbers follow the order of dates.
+-- Assumes nothing.
+use Prim.Native.Nat.{ℕ, zero, suc, _+_, _-_, _≤_, _<_}
+use mathlib.Core.Bool.{Bool, true, false, cond, _&&_}
+use mathlib.Core.Path.{_≡_, refl, sym, ap, _∙_}
+use mathlib.Core.Logic.{⊎-elim}
+use native.Mathlib.Decide.{decLe}
+use native.Mathlib.Nat.{eq-or-lt-of-le, lt-of-not-le}
+use native.Mathlib.Omega.{arith}
+use borrow.Author.Tests.{le-leb, lt-leb, leb-true}
+use lib.Dec.{eqb, leb}
+use Rattle.calendar.specs.Calendar.{
+  date, sum, yearLength, monthLength, within, lastYear, dateFault, dayOfYear, daysBefore, dayNumber, days, yearOf, monthOf, dateIn, dateOf
+}
+use Rattle.calendar.specs.declared.Date.{Date}
+use Rattle.calendar.proofs.Sum.{sum-suc, sum-mono, locate}
+use Rattle.calendar.proofs.Years.{year-is, days-before-is}
+use Rattle.calendar.proofs.Months.{month-is, month-most, year-months}
+
+-- the fields of a valid date
+pub record Valid (y m d : ℕ) : Type 0 where
+  pub year-low : 0 < y
+  pub year-high : y ≤ lastYear
+  pub month-low : 0 < m
+  pub month-high : m ≤ 12
+  pub day-low : 0 < d
+  pub day-high : d ≤ monthLength y m
+
+-- a date is valid exactly if it has no bad field
+pub valid-no-fault : (y m d : ℕ) → Valid y m d → dateFault y m d ≡ 0
+unfolding dateFault
+valid-no-fault y m d v =
+    simp
+    (le-leb 1 y (v .year-low), le-leb y lastYear (v .year-high), le-leb 1 m (v .month-low), le-leb m 12 (v .month-high),
+     le-leb 1 d (v .day-low), le-leb d (monthLength y m) (v .day-high))
+
+day-of-year-is : (y q d : ℕ) → dayOfYear y (suc q) d ≡ sum (monthLength y) q + d
+unfolding dayOfYear
+day-of-year-is y q d = let e : suc q - 1 ≡ q = omega arith in rw e
+
+-- a day of a month lies within its year
+pub within-year : (y m d : ℕ) → Valid y m d → (0 < dayOfYear y m d) × (dayOfYear y m d ≤ yearLength y)
+within-year y zero d v = absurd (omega (arith, v .month-low))
+within-year y (suc q) d v =
+    rw (day-of-year-is y q d)
+    (omega (arith, v .day-low),
+     omega
+     (arith, v .day-high, sum-suc (monthLength y) q, sum-mono (monthLength y) (suc q) 12 (v .month-high), year-months y))
+
+-- every valid date is the date of its day number
+pub date-of-number : (y m d : ℕ) → Valid y m d → dateOf (dayNumber y m d) ≡ date y m d
+unfolding dateOf dateIn dayNumber
+date-of-number zero m d v = absurd (omega (arith, v .year-low))
+date-of-number (suc p) zero d v = absurd (omega (arith, v .month-low))
+date-of-number (suc p) (suc q) d v =
+    let n = dayOfYear (suc p) (suc q) d in
+    let w = within-year (suc p) (suc q) d v in
+    let b = days-before-is (suc p) p refl in
+    let year : yearOf (daysBefore (suc p) + n) ≡ suc p
+        = year-is p (daysBefore (suc p) + n) (omega (arith, b, w)) (omega (arith, b, w, sum-suc yearLength p)) in
+    let left : daysBefore (suc p) + n - daysBefore (suc p) ≡ n = omega arith in
+    let f = monthLength (suc p) in
+    let e = day-of-year-is (suc p) q d in
+    let month : monthOf (suc p) n ≡ suc q
+        = month-is (suc p) q n (omega (arith, v .month-high)) (omega (arith, e, v .day-low)) (omega (arith, e, v .day-high, sum-suc f q)) in
+    let start : suc q - 1 ≡ q = omega arith in
+    rw (year, left, month) (ap (date (suc p) (suc q)) (omega (arith, e, ap (sum f) start)))
+
+-- every day number of the calendar is the number of its date, which is valid
+pub record Found (k : ℕ) (t : Date) : Type 0 where
+  pub valid : Valid (t .year) (t .month) (t .day)
+  pub number : dayNumber (t .year) (t .month) (t .day) ≡ k
+
+-- from where a day falls, its date
+found : (k p q d : ℕ) → dayNumber (suc p) (suc q) d ≡ k → Valid (suc p) (suc q) d → Found k (dateOf k)
+found k p q d e v =
+    let t : dateOf k ≡ date (suc p) (suc q) d = ap dateOf (sym e) ∙ date-of-number (suc p) (suc q) d v in
+    rw t (record { valid = v; number = e })
+
+pub number-of-date : (k : ℕ) → 0 < k → k ≤ days → Found k (dateOf k)
+unfolding dayNumber days
+number-of-date k h l =
+    let y = locate yearLength lastYear k h l in
+    let p = y .0 .past in
+    let n = k - sum yearLength p in
+    let m = locate (monthLength (suc p)) 12 n (omega (arith, y .0 .after)) (omega (arith, y .0 .upto, sum-suc yearLength p, year-months (suc p))) in
+    let q = m .0 .past in
+    let d = n - sum (monthLength (suc p)) q in
+    found k p q d
+    (omega (arith, days-before-is (suc p) p refl, day-of-year-is (suc p) q d, m .0 .after, y .0 .after))
+    (record
+    { year-low = omega arith
+    ; year-high = y .1
+    ; month-low = omega arith
+    ; month-high = m .1
+    ; day-low = omega (arith, m .0 .after)
+    ; day-high = omega (arith, m .0 .upto, sum-suc (monthLength (suc p)) q)
+    })
+
+-- the same, part by part, as the code works the date out
+pub record Parts (k y n m : ℕ) : Type 0 where
+  pub year-high : y ≤ lastYear
+  pub start : daysBefore y < k
+  pub end : n ≤ yearLength y
+  pub month-high : m ≤ 12
+  pub month-start : sum (monthLength y) (m - 1) ≤ n
+  pub day-high : n - sum (monthLength y) (m - 1) ≤ 31
+
+pub parts : (k : ℕ) → 0 < k → k ≤ days → Parts k (yearOf k) (k - daysBefore (yearOf k)) (monthOf (yearOf k) (k - daysBefore (yearOf k)))
+unfolding dayNumber dateOf dateIn
+parts k h l =
+    let f = number-of-date k h l in
+    let y = yearOf k in
+    let m = monthOf y (k - daysBefore y) in
+    let w = within-year y m (k - daysBefore y - sum (monthLength y) (m - 1)) (f .valid) in
+    record
+    { year-high = f .valid .year-high
+    ; start = omega (arith, f .number, w)
+    ; end = omega (arith, f .number, w)
+    ; month-high = f .valid .month-high
+    ; month-start = omega (arith, f .valid .day-low)
+    ; day-high = omega (arith, f .valid .day-high, month-most y m)
+    }

@@ -1,0 +1,5 @@
+pub mod Dates
+pub mod Sum
+pub mod Years
+pub mod Months
+pub mod Weeks

@@ -1,0 +1,17 @@
+-- What the calendar's constructors answer.
+use Prim.Native.Nat.{ℕ, zero, suc}
+use mathlib.Core.Bool.{cond}
+use lib.Dec.{eqb}
+use Rattle.calendar.specs.Calendar.{date, within, dateFault, days, dateOf}
+use Rattle.calendar.specs.declared.FromFields.{FromFields}
+use Rattle.calendar.specs.declared.FromFields.the-variants.{Valid, Bad}
+use Rattle.calendar.specs.declared.FromNumber.{FromNumber}
+use Rattle.calendar.specs.declared.FromNumber.the-variants.{Day, Outside}
+
+-- the date with these fields, or the first bad field
+unfoldable pub fromFields : ℕ → ℕ → ℕ → FromFields
+fromFields y m d = cond (eqb (dateFault y m d) 0) (Valid (date y m d)) (Bad (dateFault y m d))
+
+-- the date whose day number is k, for the calendar's own days
+unfoldable pub fromDayNumber : ℕ → FromNumber
+fromDayNumber k = cond (within 1 days k) (Day (dateOf k)) Outside

@@ -1,0 +1,239 @@
+// The Gregorian calendar of the years 1 to 9999: dates, day numbers, weekdays and weeks.
+ghost use mathlib.Core.Path.{_≡_};
+ghost use Prim.Native.Nat.{_-_, _<_, _≤_, _^_};
+ghost use Rattle.calendar.specs.Calendar.{sum, leap, yearLength, monthLength, dayOfYear, daysBefore, dayNumber, weekday, yearOf, monthOf, sundayWeek, mondayWeek, thursday, isoYear, isoWeek};
+ghost use Rattle.calendar.specs.Dates.{fromFields, fromDayNumber};
+
+// The days of each month in a year that is not leap, at the month's number; there is no month 0.
+const MONTH_LENGTHS: [u32; 13] = [0, 31, 28, 31, 30, 31, 30, 31, 31, 30, 31, 30, 31];
+
+// The days before each month in a year that is not leap, at the month's number.
+const DAYS_BEFORE_MONTH: [u32; 13] = [0, 0, 31, 59, 90, 120, 151, 181, 212, 243, 273, 304, 334];
+
+pub struct Date {
+    pub year: u16,
+    pub month: u8,
+    pub day: u8,
+}
+
+// What three fields give: a date, or the first bad one: 1 year, 2 month, 3 day.
+pub enum FromFields {
+    Valid(Date),
+    Bad(u32),
+}
+
+// What a day number gives.
+pub enum FromNumber {
+    Day(Date),
+    Outside,
+}
+
+pub fn is_leap(year: u32) -> bool
+    ensures { λ r. ⌜ r ≡ leap year ⌝ }
+{
+    year % 4 == 0 && (year % 100 != 0 || year % 400 == 0)
+}
+
+pub fn year_length(year: u32) -> u32
+    ensures { λ r. ⌜ r ≡ yearLength year ⌝ }
+{
+    if is_leap(year) {
+        return 366;
+    }
+    365
+}
+
+pub fn month_length(year: u32, month: u32) -> u32
+    ensures { λ r. ⌜ r ≡ monthLength year month ⌝ }
+{
+    if 12 < month {
+        return 0;
+    }
+    if month != 2 {
+        return MONTH_LENGTHS[month as usize];
+    }
+    if is_leap(year) {
+        return 29;
+    }
+    28
+}
+
+// The days of all years before `year`.
+fn days_before(year: u32) -> u32
+    requires { ⌜ year < 2 ^ 20 ⌝ }
+    ensures { λ r. ⌜ r ≡ daysBefore year ⌝ }
+{
+    if year == 0 {
+        return 0;
+    }
+    let past = year - 1;
+    365 * past + past / 4 - past / 100 + past / 400
+}
+
+// The days of the year before `month`.
+fn days_before_month(year: u32, month: u32) -> u32
+    ensures { λ r. ⌜ r ≡ sum (monthLength year) (month - 1) ⌝ }
+{
+    if 12 < month {
+        return year_length(year);
+    }
+    let days = DAYS_BEFORE_MONTH[month as usize];
+    if month <= 2 {
+        return days;
+    }
+    if is_leap(year) {
+        return days + 1;
+    }
+    days
+}
+
+// The year that day `k` falls in: the estimate is right or one year short.
+fn year_of(k: u32) -> u32
+    requires { ⌜ k < 2 ^ 25 ⌝ }
+    ensures { λ r. ⌜ r ≡ yearOf k ⌝ }
+{
+    if k == 0 {
+        return 1;
+    }
+    let year = ((k as u64 - 1) * 400 / 146097) as u32 + 1;
+    if k <= days_before(year + 1) {
+        return year;
+    }
+    year + 1
+}
+
+// The month that day `n` of `year` falls in: the estimate is right or one month short.
+fn month_of(year: u32, n: u32) -> u32
+    requires { ⌜ (0 < n) × (n ≤ yearLength year) ⌝ }
+    ensures { λ r. ⌜ r ≡ monthOf year n ⌝ }
+{
+    let month = (n - 1) / 31 + 1;
+    if n <= days_before_month(year, month + 1) {
+        return month;
+    }
+    month + 1
+}
+
+// The Thursday of the week that holds day `k`.
+fn thursday_of(k: u32) -> u32
+    requires { ⌜ k < 2 ^ 25 - 8 ⌝ }
+    ensures { λ r. ⌜ r ≡ thursday k ⌝ }
+{
+    let weekday = (k + 6) % 7 + 1;
+    if k + 4 < weekday {
+        return 0;
+    }
+    k + 4 - weekday
+}
+
+impl Date {
+    // The calendar's ends and how many days it has.
+    pub const FIRST: Date = Date {
+        year: 1,
+        month: 1,
+        day: 1,
+    };
+    pub const LAST: Date = Date {
+        year: 9999,
+        month: 12,
+        day: 31,
+    };
+    pub const DAYS: u32 = 3652059;
+
+    pub fn from_fields(year: u32, month: u32, day: u32) -> FromFields
+        ensures { λ r. ⌜ r ≡ fromFields year month day ⌝ }
+    {
+        if year < Date::FIRST.year as u32 {
+            return FromFields::Bad(1);
+        }
+        if (Date::LAST.year as u32) < year {
+            return FromFields::Bad(1);
+        }
+        if month < Date::FIRST.month as u32 {
+            return FromFields::Bad(2);
+        }
+        if (Date::LAST.month as u32) < month {
+            return FromFields::Bad(2);
+        }
+        if day < Date::FIRST.day as u32 {
+            return FromFields::Bad(3);
+        }
+        if month_length(year, month) < day {
+            return FromFields::Bad(3);
+        }
+        FromFields::Valid(Date {
+            year: year as u16,
+            month: month as u8,
+            day: day as u8,
+        })
+    }
+
+    pub fn from_day_number(k: u32) -> FromNumber
+        ensures { λ r. ⌜ r ≡ fromDayNumber k ⌝ }
+    {
+        if k < 1 {
+            return FromNumber::Outside;
+        }
+        if Date::DAYS < k {
+            return FromNumber::Outside;
+        }
+        let year = year_of(k);
+        let n = k - days_before(year);
+        let month = month_of(year, n);
+        FromNumber::Day(Date {
+            year: year as u16,
+            month: month as u8,
+            day: (n - days_before_month(year, month)) as u8,
+        })
+    }
+
+    // %j
+    pub fn day_of_year(self) -> u32
+        ensures { λ r. ⌜ r ≡ dayOfYear (self .year) (self .month) (self .day) ⌝ }
+    {
+        days_before_month(self.year as u32, self.month as u32) + self.day as u32
+    }
+
+    pub fn day_number(self) -> u32
+        ensures { λ r. ⌜ r ≡ dayNumber (self .year) (self .month) (self .day) ⌝ }
+    {
+        days_before(self.year as u32) + self.day_of_year()
+    }
+
+    // Monday 1 to Sunday 7: %u
+    pub fn weekday(self) -> u32
+        ensures { λ r. ⌜ r ≡ weekday (dayNumber (self .year) (self .month) (self .day)) ⌝ }
+    {
+        (self.day_number() + 6) % 7 + 1
+    }
+
+    // %U
+    pub fn sunday_week(self) -> u32
+        ensures { λ r. ⌜ r ≡ sundayWeek (self .year) (self .month) (self .day) ⌝ }
+    {
+        self.day_number() / 7 - days_before(self.year as u32) / 7
+    }
+
+    // %W
+    pub fn monday_week(self) -> u32
+        ensures { λ r. ⌜ r ≡ mondayWeek (self .year) (self .month) (self .day) ⌝ }
+    {
+        (self.day_number() + 6) / 7 - (days_before(self.year as u32) + 6) / 7
+    }
+
+    // %G
+    pub fn iso_year(self) -> u32
+        ensures { λ r. ⌜ r ≡ isoYear (dayNumber (self .year) (self .month) (self .day)) ⌝ }
+    {
+        year_of(thursday_of(self.day_number()))
+    }
+
+    // %V
+    pub fn iso_week(self) -> u32
+        ensures { λ r. ⌜ r ≡ isoWeek (dayNumber (self .year) (self .month) (self .day)) ⌝ }
+    {
+        let thursday = thursday_of(self.day_number());
+        let year = year_of(thursday);
+        (thursday + 3) / 7 - (days_before(year) + 3) / 7
+    }
+}
