@@ -2,19 +2,19 @@
 -- Assumes nothing.
 use Prim.Native.Nat.{ℕ, zero, suc, _+_, _-_, _≤_, _<_}
 use mathlib.Core.Bool.{Bool, true, false, cond, _&&_}
-use mathlib.Core.Path.{_≡_, refl, sym, ap, _∙_}
-use mathlib.Core.Logic.{⊎-elim}
+use mathlib.Core.Path.{_≡_, refl, sym, ap, ap₂, _∙_}
+use mathlib.Core.Logic.{_⊎_, inl, inr, ⊎-elim}
 use native.Mathlib.Decide.{decLe}
-use native.Mathlib.Nat.{eq-or-lt-of-le, lt-of-not-le}
+use native.Mathlib.Nat.{eq-or-lt-of-le}
 use native.Mathlib.Omega.{arith}
 use borrow.Author.Tests.{le-leb, lt-leb, leb-true}
 use lib.Dec.{eqb, leb}
 use Rattle.calendar.specs.Calendar.{
-  date, sum, yearLength, monthLength, within, lastYear, dateFault, dayOfYear, daysBefore, dayNumber, days, yearOf, monthOf, dateIn, dateOf
+  date, weekday, monthLengths, sum, yearLength, monthLength, within, lastYear, dateFault, dayOfYear, daysBefore, dayNumber, days, yearOf, monthOf, dateIn, dateOf
 }
 use Rattle.calendar.specs.declared.Date.{Date}
 use Rattle.calendar.proofs.Sum.{sum-suc, sum-mono, locate}
-use Rattle.calendar.proofs.Years.{year-is, days-before-is}
+use Rattle.calendar.proofs.Years.{year-is, years-closed, days-before-is, days-is}
 use Rattle.calendar.proofs.Months.{month-is, month-most, year-months}
 
 -- the fields of a valid date
@@ -121,3 +121,94 @@ parts k h l =
     ; month-start = omega (arith, f .valid .day-low)
     ; day-high = omega (arith, f .valid .day-high, month-most y m)
     }
+
+-- the calendar's ends: day 1 is 0001-01-01, a Monday, and the last is day 3,652,059, 9999-12-31, a Friday
+pub first-day : (dayNumber 1 1 1 ≡ 1) × (weekday 1 ≡ 1)
+unfolding dayNumber dayOfYear daysBefore sum
+first-day = (refl, refl)
+
+december : dayOfYear 9999 12 31 ≡ 365
+unfolding dayOfYear sum monthLength monthLengths
+december = refl
+
+pub last-day : (days ≡ 3652059) × (dayNumber 9999 12 31 ≡ 3652059) × (weekday 3652059 ≡ 5)
+unfolding dayNumber daysBefore
+last-day = (days-is, omega (arith, years-closed 9998, december), refl)
+
+-- a date comes before another
+pub Before : (y m d y′ m′ d′ : ℕ) → Type 0
+Before y m d y′ m′ d′ = (y < y′) ⊎ ((y ≡ y′) × ((m < m′) ⊎ ((m ≡ m′) × (d < d′))))
+
+-- day numbers follow the order of dates
+month-order : (y m d m′ d′ : ℕ) → Valid y m d → 0 < d′ → m < m′ → dayOfYear y m d < dayOfYear y m′ d′
+unfolding dayOfYear
+month-order y zero d m′ d′ v p h = absurd (omega (arith, v .month-low))
+month-order y (suc q) d m′ d′ v p h =
+    omega
+    (arith, v .day-high, sum-suc (monthLength y) q, sum-mono (monthLength y) (suc q) (m′ - 1) (omega arith), ap (sum (monthLength y)) start)
+  where
+    start : suc q - 1 ≡ q
+    start = omega arith
+
+year-order : (y m d y′ m′ d′ : ℕ) → Valid y m d → Valid y′ m′ d′ → y < y′ → dayNumber y m d < dayNumber y′ m′ d′
+unfolding dayNumber daysBefore
+year-order zero m d y′ m′ d′ v w h = absurd (omega (arith, v .year-low))
+year-order (suc p) m d y′ m′ d′ v w h =
+    omega
+    (arith, within-year (suc p) m d v, within-year y′ m′ d′ w, sum-suc yearLength p, sum-mono yearLength (suc p) (y′ - 1) (omega arith), ap (sum yearLength) start)
+  where
+    start : suc p - 1 ≡ p
+    start = omega arith
+
+same-year : (y m d m′ d′ : ℕ) → Valid y m d → Valid y m′ d′ → (m < m′) ⊎ ((m ≡ m′) × (d < d′)) → dayOfYear y m d < dayOfYear y m′ d′
+same-year y m d m′ d′ v w b =
+    ⊎-elim
+    (λ (h : m < m′). month-order y m d m′ d′ v (w .day-low) h)
+    (λ (t : (m ≡ m′) × (d < d′)). unfold dayOfYear in rw (t .0) (omega (arith, t .1)))
+    b
+
+pub before-number : (y m d y′ m′ d′ : ℕ) → Valid y m d → Valid y′ m′ d′ → Before y m d y′ m′ d′ → dayNumber y m d < dayNumber y′ m′ d′
+unfolding Before
+before-number y m d y′ m′ d′ v w b =
+    ⊎-elim
+    (λ (h : y < y′). year-order y m d y′ m′ d′ v w h)
+    (λ (t : (y ≡ y′) × ((m < m′) ⊎ ((m ≡ m′) × (d < d′)))).
+      unfold dayNumber in
+      let u : Valid y′ m d = rw (t .0) at v in
+      let e : dayOfYear y m d ≡ dayOfYear y′ m d = ap (λ (x : ℕ). dayOfYear x m d) (t .0) in
+      let f : daysBefore y ≡ daysBefore y′ = ap daysBefore (t .0) in
+      omega (arith, same-year y′ m d m′ d′ u w (t .1)))
+    b
+
+pub number-before : (y m d y′ m′ d′ : ℕ) → Valid y m d → Valid y′ m′ d′ → dayNumber y m d < dayNumber y′ m′ d′ → Before y m d y′ m′ d′
+unfolding Before
+number-before y m d y′ m′ d′ v w h = year (decLe (suc y) y′)
+  where
+    back : Before y′ m′ d′ y m d → ⊥
+    back b = omega (arith, before-number y′ m′ d′ y m d w v b)
+
+    day : y ≡ y′ → m ≡ m′ → d < d′
+    day e f =
+        elim (decLe (suc d) d′)
+        [ yes l ↦ l
+        | no l ↦ ⊎-elim
+          (λ (g : d′ ≡ d). absurd (omega (arith, ap₂ (λ (a b : ℕ). dayNumber a b d) e f, ap (dayNumber y′ m′) g)))
+          (λ (g : d′ < d). absurd (back (inr (sym e, inr (sym f, g)))))
+          (eq-or-lt-of-le (omega (arith, l))) ]
+
+    month : y ≡ y′ → (m < m′) ⊎ ((m ≡ m′) × (d < d′))
+    month e =
+        elim (decLe (suc m) m′)
+        [ yes l ↦ inl l
+        | no l ↦ ⊎-elim
+          (λ (g : m′ ≡ m). inr (sym g, day e (sym g)))
+          (λ (g : m′ < m). absurd (back (inr (sym e, inl g))))
+          (eq-or-lt-of-le (omega (arith, l))) ]
+
+    year : Dec (y < y′) → (y < y′) ⊎ ((y ≡ y′) × ((m < m′) ⊎ ((m ≡ m′) × (d < d′))))
+    year (yes l) = inl l
+    year (no l) =
+        ⊎-elim
+        (λ (g : y′ ≡ y). inr (sym g, month (sym g)))
+        (λ (g : y′ < y). absurd (back (inl g)))
+        (eq-or-lt-of-le (omega (arith, l)))
