@@ -12,7 +12,9 @@ use lib.Dec.{eqb, leb}
 use Rattle.calendar.specs.Calendar.{
   date, weekday, monthLengths, sum, yearLength, monthLength, within, lastYear, dateFault, dayOfYear, daysBefore, dayNumber, days, yearOf, monthOf, dateIn, dateOf
 }
+use Rattle.calendar.specs.Dates.{fromFields}
 use Rattle.calendar.specs.declared.Date.{Date}
+use Rattle.calendar.specs.declared.FromFields.{FromFields}
 use Rattle.calendar.proofs.Sum.{sum-suc, sum-mono, locate}
 use Rattle.calendar.proofs.Years.{year-is, years-closed, days-before-is, days-is}
 use Rattle.calendar.proofs.Months.{month-is, month-most, year-months}
@@ -212,3 +214,20 @@ number-before y m d y′ m′ d′ v w h = year (decLe (suc y) y′)
         (λ (g : y′ ≡ y). inr (sym g, month (sym g)))
         (λ (g : y′ < y). absurd (back (inl g)))
         (eq-or-lt-of-le (omega (arith, l)))
+
+-- what the constructor's answer tells of the fields
+bad-of : (b : Bool) (f g : ℕ) (t : Date) → cond b (FromFields.Valid t) (FromFields.Bad f) ≡ FromFields.Bad g → (b ≡ false) × (f ≡ g)
+bad-of true f g t e = let z : _≡_ {A = ℕ} 0 1 = cc in absurd (omega arith)
+bad-of false f g t e = (refl, cc)
+
+valid-of : (b : Bool) (f : ℕ) (t u : Date) → cond b (FromFields.Valid t) (FromFields.Bad f) ≡ FromFields.Valid u → (b ≡ true) × (t ≡ u)
+valid-of true f t u e = (refl, cc)
+valid-of false f t u e = let z : _≡_ {A = ℕ} 0 1 = cc in absurd (omega arith)
+
+pub fields-bad : (y m d f : ℕ) → fromFields y m d ≡ FromFields.Bad f → (eqb (dateFault y m d) 0 ≡ false) × (dateFault y m d ≡ f)
+unfolding fromFields
+fields-bad y m d f e = bad-of (eqb (dateFault y m d) 0) (dateFault y m d) f (date y m d) e
+
+pub fields-valid : (y m d : ℕ) (t : Date) → fromFields y m d ≡ FromFields.Valid t → (eqb (dateFault y m d) 0 ≡ true) × (date y m d ≡ t)
+unfolding fromFields
+fields-valid y m d t e = valid-of (eqb (dateFault y m d) 0) (dateFault y m d) (date y m d) t e

@@ -1,0 +1,3 @@
+-- What a moment is and which value each kind of fact has for it.
+pub mod Moments
+pub mod Values

@@ -1,0 +1,20 @@
+-- A moment (paper 01): "year 1 to 9999, month 1 to 12, day 1 to the month's length, hour 0 to 23, minute 0 to 59, second 0 to 60".
+use Prim.Native.Nat.{ℕ}
+use mathlib.Core.Bool.{cond}
+use lib.Dec.{eqb, leb}
+use Rattle.calendar.specs.Calendar.{date, dateFault}
+use Rattle.values.specs.declared.Moment.{Moment}
+use Rattle.values.specs.declared.MomentFields.{MomentFields}
+use Rattle.values.specs.declared.MomentFields.the-variants.{Valid, Bad}
+
+-- the first bad field: 1 year, 2 month, 3 day, 4 hour, 5 minute, 6 second; 0 where the moment is valid
+unfoldable pub momentFault : ℕ → ℕ → ℕ → ℕ → ℕ → ℕ → ℕ
+momentFault y m d h n s =
+    cond (eqb (dateFault y m d) 0) (cond (leb h 23) (cond (leb n 59) (cond (leb s 60) 0 6) 5) 4) (dateFault y m d)
+
+-- the moment with these fields, or the first bad field
+unfoldable pub momentOf : ℕ → ℕ → ℕ → ℕ → ℕ → ℕ → MomentFields
+momentOf y m d h n s =
+    cond (eqb (momentFault y m d h n s) 0)
+    (Valid (record { date = date y m d; hour = h; minute = n; second = s }))
+    (Bad (momentFault y m d h n s))

@@ -1,0 +1,120 @@
+// Moments, and the value that each kind of fact has for one.
+use calendar::Date;
+
+ghost use mathlib.Core.Path.{_≡_};
+ghost use Rattle.values.specs.Moments.{momentOf};
+ghost use Rattle.values.specs.Values.{dateValue, hourOfTwelve, halfOfDay, hourValue, value};
+
+pub struct Moment {
+    pub date: Date,
+    pub hour: u8,
+    pub minute: u8,
+    pub second: u8,
+}
+
+// What six fields give: a moment, or the first bad one: 1 year, 2 month, 3 day, 4 hour, 5 minute, 6 second.
+pub enum MomentFields {
+    Valid(Moment),
+    Bad(u32),
+}
+
+impl Moment {
+    pub fn from_fields(year: u32, month: u32, day: u32, hour: u32, minute: u32, second: u32) -> MomentFields
+        ensures { λ r. ⌜ r ≡ momentOf year month day hour minute second ⌝ }
+    {
+        match Date::from_fields(year, month, day) {
+            calendar::FromFields::Bad(field) => MomentFields::Bad(field),
+            calendar::FromFields::Valid(date) => {
+                if 23 < hour {
+                    return MomentFields::Bad(4);
+                }
+                if 59 < minute {
+                    return MomentFields::Bad(5);
+                }
+                if 60 < second {
+                    return MomentFields::Bad(6);
+                }
+                MomentFields::Valid(Moment {
+                    date,
+                    hour: hour as u8,
+                    minute: minute as u8,
+                    second: second as u8,
+                })
+            }
+        }
+    }
+
+    // The value of a kind of fact, 1 to 17.
+    pub fn value(self, kind: u32) -> u32
+        ensures { λ r. ⌜ r ≡ value kind self ⌝ }
+    {
+        if kind <= 12 {
+            return date_value(kind, self.date);
+        }
+        if kind <= 15 {
+            return hour_value(kind, self.hour as u32);
+        }
+        if kind == 16 {
+            return self.minute as u32;
+        }
+        if kind == 17 {
+            return self.second as u32;
+        }
+        0
+    }
+}
+
+// The value of a date fact, kinds 1 to 12.
+pub fn date_value(kind: u32, date: Date) -> u32
+    ensures { λ r. ⌜ r ≡ dateValue kind date ⌝ }
+{
+    match kind {
+        1 => date.year as u32,
+        2 => date.year as u32 / 100,
+        3 => date.year as u32 % 100,
+        4 => date.month as u32,
+        5 => date.day as u32,
+        6 => date.day_of_year(),
+        7 => date.weekday(),
+        8 => date.sunday_week(),
+        9 => date.monday_week(),
+        10 => date.iso_year(),
+        11 => date.iso_year() % 100,
+        12 => date.iso_week(),
+        _ => 0,
+    }
+}
+
+pub fn hour_of_twelve(hour: u32) -> u32
+    ensures { λ r. ⌜ r ≡ hourOfTwelve hour ⌝ }
+{
+    if hour % 12 == 0 {
+        return 12;
+    }
+    hour % 12
+}
+
+pub fn half_of_day(hour: u32) -> u32
+    ensures { λ r. ⌜ r ≡ halfOfDay hour ⌝ }
+{
+    if 12 <= hour {
+        return 1;
+    }
+    0
+}
+
+// The value of an hour fact, kinds 13 to 15.
+pub fn hour_value(kind: u32, hour: u32) -> u32
+    ensures { λ r. ⌜ r ≡ hourValue kind hour ⌝ }
+{
+    if kind == 13 {
+        return hour;
+    }
+    if kind == 14 {
+        return hour_of_twelve(hour);
+    }
+    if kind == 15 {
+        return half_of_day(hour);
+    }
+    0
+}
