@@ -1,23 +1,21 @@
 -- Dates and day numbers are each other's inverse over the whole calendar, and day numbers follow the order of dates.
 -- Assumes nothing.
 use Prim.Native.Nat.{ℕ, zero, suc, _+_, _-_, _≤_, _<_}
-use mathlib.Core.Bool.{Bool, true, false, cond, _&&_}
-use mathlib.Core.Path.{_≡_, refl, sym, ap, ap₂, _∙_}
+use mathlib.Core.Bool.{Bool, true, false, cond}
 use mathlib.Core.Logic.{_⊎_, inl, inr, ⊎-elim}
+use mathlib.Core.Path.{_≡_, refl, sym, ap, ap₂, _∙_}
 use native.Mathlib.Decide.{decLe}
 use native.Mathlib.Nat.{eq-or-lt-of-le}
 use native.Mathlib.Omega.{arith}
-use borrow.Author.Tests.{le-leb, lt-leb, leb-true}
-use lib.Dec.{eqb, leb}
-use Rattle.calendar.specs.Calendar.{
-  date, weekday, monthLengths, sum, yearLength, monthLength, within, lastYear, dateFault, dayOfYear, daysBefore, dayNumber, days, yearOf, monthOf, dateIn, dateOf
-}
+use borrow.Author.Tests.{le-leb}
+use lib.Dec.{eqb}
+use Rattle.calendar.specs.Calendar.{date, weekday, monthLengths, sum, yearLength, monthLength, lastYear, dateFault, dayOfYear, daysBefore, dayNumber, days, yearOf, monthOf, dateIn, dateOf}
 use Rattle.calendar.specs.Dates.{fromFields}
 use Rattle.calendar.specs.declared.Date.{Date}
 use Rattle.calendar.specs.declared.FromFields.{FromFields}
+use Rattle.calendar.proofs.Months.{month-is, month-most, year-months}
 use Rattle.calendar.proofs.Sum.{sum-suc, sum-mono, locate}
 use Rattle.calendar.proofs.Years.{year-is, years-closed, days-before-is, days-is}
-use Rattle.calendar.proofs.Months.{month-is, month-most, year-months}
 
 -- the fields of a valid date
 pub record Valid (y m d : ℕ) : Type 0 where
@@ -32,9 +30,14 @@ pub record Valid (y m d : ℕ) : Type 0 where
 pub valid-no-fault : (y m d : ℕ) → Valid y m d → dateFault y m d ≡ 0
 unfolding dateFault
 valid-no-fault y m d v =
-    simp
-    (le-leb 1 y (v .year-low), le-leb y lastYear (v .year-high), le-leb 1 m (v .month-low), le-leb m 12 (v .month-high),
-     le-leb 1 d (v .day-low), le-leb d (monthLength y m) (v .day-high))
+    simp (
+      le-leb 1 y (v .year-low),
+      le-leb y lastYear (v .year-high),
+      le-leb 1 m (v .month-low),
+      le-leb m 12 (v .month-high),
+      le-leb 1 d (v .day-low),
+      le-leb d (monthLength y m) (v .day-high),
+    )
 
 day-of-year-is : (y q d : ℕ) → dayOfYear y (suc q) d ≡ sum (monthLength y) q + d
 unfolding dayOfYear
@@ -44,10 +47,11 @@ day-of-year-is y q d = let e : suc q - 1 ≡ q = omega arith in rw e
 pub within-year : (y m d : ℕ) → Valid y m d → (0 < dayOfYear y m d) × (dayOfYear y m d ≤ yearLength y)
 within-year y zero d v = absurd (omega (arith, v .month-low))
 within-year y (suc q) d v =
-    rw (day-of-year-is y q d)
-    (omega (arith, v .day-low),
-     omega
-     (arith, v .day-high, sum-suc (monthLength y) q, sum-mono (monthLength y) (suc q) 12 (v .month-high), year-months y))
+    rw (day-of-year-is y q d) (
+      omega (arith, v .day-low),
+      omega
+          (arith, v .day-high, sum-suc (monthLength y) q, sum-mono (monthLength y) (suc q) 12 (v .month-high), year-months y),
+    )
 
 -- every valid date is the date of its day number
 pub date-of-number : (y m d : ℕ) → Valid y m d → dateOf (dayNumber y m d) ≡ date y m d
@@ -59,12 +63,12 @@ date-of-number (suc p) (suc q) d v =
     let w = within-year (suc p) (suc q) d v in
     let b = days-before-is (suc p) p refl in
     let year : yearOf (daysBefore (suc p) + n) ≡ suc p
-        = year-is p (daysBefore (suc p) + n) (omega (arith, b, w)) (omega (arith, b, w, sum-suc yearLength p)) in
+    = year-is p (daysBefore (suc p) + n) (omega (arith, b, w)) (omega (arith, b, w, sum-suc yearLength p)) in
     let left : daysBefore (suc p) + n - daysBefore (suc p) ≡ n = omega arith in
     let f = monthLength (suc p) in
     let e = day-of-year-is (suc p) q d in
     let month : monthOf (suc p) n ≡ suc q
-        = month-is (suc p) q n (omega (arith, v .month-high)) (omega (arith, e, v .day-low)) (omega (arith, e, v .day-high, sum-suc f q)) in
+    = month-is (suc p) q n (omega (arith, v .month-high)) (omega (arith, e, v .day-low)) (omega (arith, e, v .day-high, sum-suc f q)) in
     let start : suc q - 1 ≡ q = omega arith in
     rw (year, left, month) (ap (date (suc p) (suc q)) (omega (arith, e, ap (sum f) start)))
 
@@ -90,13 +94,13 @@ number-of-date k h l =
     let d = n - sum (monthLength (suc p)) q in
     found k p q d
     (omega (arith, days-before-is (suc p) p refl, day-of-year-is (suc p) q d, m .0 .after, y .0 .after))
-    (record
-    { year-low = omega arith
-    ; year-high = y .1
-    ; month-low = omega arith
-    ; month-high = m .1
-    ; day-low = omega (arith, m .0 .after)
-    ; day-high = omega (arith, m .0 .upto, sum-suc (monthLength (suc p)) q)
+    (record {
+      year-low = omega arith;
+      year-high = y .1;
+      month-low = omega arith;
+      month-high = m .1;
+      day-low = omega (arith, m .0 .after);
+      day-high = omega (arith, m .0 .upto, sum-suc (monthLength (suc p)) q);
     })
 
 -- the same, part by part, as the code works the date out
@@ -115,13 +119,13 @@ parts k h l =
     let y = yearOf k in
     let m = monthOf y (k - daysBefore y) in
     let w = within-year y m (k - daysBefore y - sum (monthLength y) (m - 1)) (f .valid) in
-    record
-    { year-high = f .valid .year-high
-    ; start = omega (arith, f .number, w)
-    ; end = omega (arith, f .number, w)
-    ; month-high = f .valid .month-high
-    ; month-start = omega (arith, f .valid .day-low)
-    ; day-high = omega (arith, f .valid .day-high, month-most y m)
+    record {
+      year-high = f .valid .year-high;
+      start = omega (arith, f .number, w);
+      end = omega (arith, f .number, w);
+      month-high = f .valid .month-high;
+      month-start = omega (arith, f .valid .day-low);
+      day-high = omega (arith, f .valid .day-high, month-most y m);
     }
 
 -- the calendar's ends: day 1 is 0001-01-01, a Monday, and the last is day 3,652,059, 9999-12-31, a Friday
@@ -175,11 +179,11 @@ before-number y m d y′ m′ d′ v w b =
     ⊎-elim
     (λ (h : y < y′). year-order y m d y′ m′ d′ v w h)
     (λ (t : (y ≡ y′) × ((m < m′) ⊎ ((m ≡ m′) × (d < d′)))).
-      unfold dayNumber in
-      let u : Valid y′ m d = rw (t .0) at v in
-      let e : dayOfYear y m d ≡ dayOfYear y′ m d = ap (λ (x : ℕ). dayOfYear x m d) (t .0) in
-      let f : daysBefore y ≡ daysBefore y′ = ap daysBefore (t .0) in
-      omega (arith, same-year y′ m d m′ d′ u w (t .1)))
+    unfold dayNumber in
+    let u : Valid y′ m d = rw (t .0) at v in
+    let e : dayOfYear y m d ≡ dayOfYear y′ m d = ap (λ (x : ℕ). dayOfYear x m d) (t .0) in
+    let f : daysBefore y ≡ daysBefore y′ = ap daysBefore (t .0) in
+    omega (arith, same-year y′ m d m′ d′ u w (t .1)))
     b
 
 pub number-before : (y m d y′ m′ d′ : ℕ) → Valid y m d → Valid y′ m′ d′ → dayNumber y m d < dayNumber y′ m′ d′ → Before y m d y′ m′ d′
@@ -191,21 +195,23 @@ number-before y m d y′ m′ d′ v w h = year (decLe (suc y) y′)
 
     day : y ≡ y′ → m ≡ m′ → d < d′
     day e f =
-        elim (decLe (suc d) d′)
-        [ yes l ↦ l
-        | no l ↦ ⊎-elim
-          (λ (g : d′ ≡ d). absurd (omega (arith, ap₂ (λ (a b : ℕ). dayNumber a b d) e f, ap (dayNumber y′ m′) g)))
-          (λ (g : d′ < d). absurd (back (inr (sym e, inr (sym f, g)))))
-          (eq-or-lt-of-le (omega (arith, l))) ]
+        elim (decLe (suc d) d′) [
+          | yes l ↦ l
+          | no l ↦ ⊎-elim
+              (λ (g : d′ ≡ d). absurd (omega (arith, ap₂ (λ (a b : ℕ). dayNumber a b d) e f, ap (dayNumber y′ m′) g)))
+              (λ (g : d′ < d). absurd (back (inr (sym e, inr (sym f, g)))))
+              (eq-or-lt-of-le (omega (arith, l)))
+        ]
 
     month : y ≡ y′ → (m < m′) ⊎ ((m ≡ m′) × (d < d′))
     month e =
-        elim (decLe (suc m) m′)
-        [ yes l ↦ inl l
-        | no l ↦ ⊎-elim
-          (λ (g : m′ ≡ m). inr (sym g, day e (sym g)))
-          (λ (g : m′ < m). absurd (back (inr (sym e, inl g))))
-          (eq-or-lt-of-le (omega (arith, l))) ]
+        elim (decLe (suc m) m′) [
+          | yes l ↦ inl l
+          | no l ↦ ⊎-elim
+              (λ (g : m′ ≡ m). inr (sym g, day e (sym g)))
+              (λ (g : m′ < m). absurd (back (inr (sym e, inl g))))
+              (eq-or-lt-of-le (omega (arith, l)))
+        ]
 
     year : Dec (y < y′) → (y < y′) ⊎ ((y ≡ y′) × ((m < m′) ⊎ ((m ≡ m′) × (d < d′))))
     year (yes l) = inl l

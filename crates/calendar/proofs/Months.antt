@@ -3,8 +3,8 @@
 use Prim.Native.Nat.{ℕ, zero, suc, _+_, _-_, _*_, _/_, _≤_, _<_}
 use mathlib.Core.Bool.{Bool, true, false, cond, _&&_}
 use mathlib.Core.List.{List, [], _∷_}
-use mathlib.Core.Path.{_≡_, refl, sym, ap, _∙_}
 use mathlib.Core.Logic.{⊎-elim}
+use mathlib.Core.Path.{_≡_, refl, sym, ap}
 use native.Mathlib.Decide.{decLe}
 use native.Mathlib.Nat.{eq-or-lt-of-le, lt-of-not-le}
 use native.Mathlib.Omega.{arith}
@@ -52,9 +52,10 @@ all-most false = tt
 pub month-most : (y m : ℕ) → monthLength y m ≤ 31
 unfolding monthLength months
 month-most y m =
-    elim (decLe 13 m)
-    [ yes l ↦ omega (arith, no-month y m l)
-    | no l ↦ leb→le (months (leap y) m) 31 (at (λ q. leb (months (leap y) q) 31) 13 (all-most (leap y)) m (lt-of-not-le l)) ]
+    elim (decLe 13 m) [
+      | yes l ↦ omega (arith, no-month y m l)
+      | no l ↦ leb→le (months (leap y) m) 31 (at (λ q. leb (months (leap y) q) 31) 13 (all-most (leap y)) m (lt-of-not-le l))
+    ]
 
 pub month-sum-past : (y n : ℕ) → 12 ≤ n → sum (monthLength y) n ≡ sum (monthLength y) 12
 month-sum-past y zero h = absurd (omega arith)
@@ -103,12 +104,6 @@ month-is y q n a h l =
     period-is (monthLength y) 11 0 q (n - sum (monthLength y) q) n (omega arith) (omega arith) (omega arith)
     (omega (arith, sum-suc (monthLength y) q)) (omega arith)
 
--- every day of a year falls in a month
-pub month-located : (y n : ℕ) → 0 < n → n ≤ yearLength y → (l : Located (monthLength y) n) × (l .past < 12) × (monthOf y n ≡ suc (l .past))
-month-located y n p h =
-    let r = locate (monthLength y) 12 n p (omega (arith, year-months y)) in
-    (r .0, r .1, month-is y (r .0 .past) n (omega (arith, r .1)) (r .0 .after) (r .0 .upto))
-
 -- the estimate of a month from a day of the year is right, or one month short
 module _ (y n : ℕ) (p : 0 < n) (h : n ≤ yearLength y) where
   abbrev passed : ℕ
@@ -119,10 +114,11 @@ module _ (y n : ℕ) (p : 0 < n) (h : n ≤ yearLength y) where
 
   fewer : sum (monthLength y) (suc passed) < n → passed ≤ 10
   fewer l =
-      elim (decLe passed 10)
-      [ yes a ↦ a
-      | no a ↦ (let e : passed ≡ 11 = omega (arith, a, few) in
-          absurd (omega (arith, ap (λ (i : ℕ). sum (monthLength y) (suc i)) e, year-months y))) ]
+      elim (decLe passed 10) [
+        | yes a ↦ a
+        | no a ↦ (let e : passed ≡ 11 = omega (arith, a, few) in
+            absurd (omega (arith, ap (λ (i : ℕ). sum (monthLength y) (suc i)) e, year-months y)))
+      ]
 
   pub month-right : n ≤ sum (monthLength y) (suc passed) → monthOf y n ≡ suc passed
   month-right l = month-is y passed n few (omega (arith, months-bounds y passed (omega (arith, few)))) l
@@ -134,6 +130,7 @@ module _ (y n : ℕ) (p : 0 < n) (h : n ≤ yearLength y) where
 
 pub months-small : (y n : ℕ) → sum (monthLength y) n ≤ 366
 months-small y n =
-    elim (decLe 12 n)
-    [ yes l ↦ omega (arith, month-sum-past y n l, year-months y, year-length-most y)
-    | no l ↦ omega (arith, sum-mono (monthLength y) n 12 (omega (arith, l)), year-months y, year-length-most y) ]
+    elim (decLe 12 n) [
+      | yes l ↦ omega (arith, month-sum-past y n l, year-months y, year-length-most y)
+      | no l ↦ omega (arith, sum-mono (monthLength y) n 12 (omega (arith, l)), year-months y, year-length-most y)
+    ]

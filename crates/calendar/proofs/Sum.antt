@@ -1,8 +1,8 @@
 -- Laws of `sum` and of counting off periods, over any lengths: years and months cite the same ones.
 -- Assumes nothing.
 use Prim.Native.Nat.{ℕ, zero, suc, _+_, _-_, _≤_, _<_}
-use mathlib.Core.Path.{_≡_, refl, ap}
 use mathlib.Core.Logic.{⊎-elim}
+use mathlib.Core.Path.{_≡_, refl, ap}
 use native.Mathlib.Decide.{decLe}
 use native.Mathlib.Nat.{eq-or-lt-of-le, lt-of-not-le}
 use native.Mathlib.Omega.{arith}
@@ -43,6 +43,7 @@ module _ (f : ℕ → ℕ) where
   unfolding sum
   locate zero x p h = absurd (omega arith)
   locate (suc n) x p h =
-      elim (decLe x (sum f n))
-      [ yes l ↦ (let r = locate n x p l in (r .0, omega (arith, r .1)))
-      | no l ↦ (record { past = n; after = lt-of-not-le l; upto = h }, omega arith) ]
+      elim (decLe x (sum f n)) [
+        | yes l ↦ (let r = locate n x p l in (r .0, omega (arith, r .1)))
+        | no l ↦ (record { past = n; after = lt-of-not-le l; upto = h }, omega arith)
+      ]

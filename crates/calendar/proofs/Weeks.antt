@@ -1,16 +1,16 @@
 -- Counts of a weekday by whole-number division; the Thursday of a week.
 -- Assumes nothing.
-use Prim.Native.Nat.{ℕ, zero, suc, _+_, _-_, _/_, _%_, _^_, _≤_, _<_}
+use Prim.Native.Nat.{ℕ, zero, suc, _+_, _-_, _/_, _^_, _≤_, _<_}
 use mathlib.Core.Bool.{cond}
 use mathlib.Core.Path.{_≡_}
+use native.Mathlib.Decide.{ℕ-discrete}
 use native.Mathlib.Nat.{add-suc}
 use native.Mathlib.Omega.{arith}
-use native.Mathlib.Decide.{ℕ-discrete}
 use borrow.Author.Tests.{eq-eqb, ne-eqb}
 use lib.Dec.{eqb, lit<, lit≤}
-use Rattle.calendar.specs.Calendar.{sum, weekday, monthLength, dayOfYear, daysBefore, dayNumber, yearOf, countOf, thursday, isoYear, isoWeek}
-use Rattle.calendar.proofs.Years.{year-starts, days-before-small}
+use Rattle.calendar.specs.Calendar.{sum, weekday, dayOfYear, daysBefore, dayNumber, yearOf, countOf, thursday, isoYear, isoWeek}
 use Rattle.calendar.proofs.Months.{months-small}
+use Rattle.calendar.proofs.Years.{year-starts, days-before-small}
 
 -- day k is a weekday w or it is not: how the count of weeks that end on it grows
 one-more : (w k : ℕ) → 0 < w → w ≤ 7 → (suc k + 7 - w) / 7 ≡ (k + 7 - w) / 7 + cond (eqb (weekday (suc k)) w) 1 0
@@ -34,10 +34,6 @@ count-is w y n p q = count-closed w (daysBefore y) n p q
 pub number-small : (y m d : ℕ) → y < 2 ^ 16 → d < 2 ^ 8 → dayNumber y m d < 2 ^ 25 - 8
 unfolding dayNumber dayOfYear
 number-small y m d p q = omega (arith, days-before-small y p, months-small y (m - 1))
-
-pub thursday-close : (k : ℕ) → thursday k ≤ k + 3
-unfolding thursday
-thursday-close k = omega arith
 
 pub iso-week-is : (k : ℕ) → isoWeek k + (daysBefore (isoYear k) + 3) / 7 ≡ (thursday k + 3) / 7
 unfolding isoWeek isoYear

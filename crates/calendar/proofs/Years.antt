@@ -2,9 +2,9 @@
 -- Assumes nothing.
 use Prim.Native.Nat.{ℕ, zero, suc, _+_, _-_, _*_, _/_, _%_, _^_, _≤_, _<_}
 use mathlib.Core.Bool.{Bool, true, false, cond, not, _&&_, _||_}
-use mathlib.Core.Path.{_≡_, refl, sym, ap, subst, _∙_}
 use mathlib.Core.Logic.{⊎-elim}
-use native.Mathlib.Nat.{eq-or-lt-of-le, div-add-mod', mod-lt, add-mul, one-mul, add-zero}
+use mathlib.Core.Path.{_≡_, refl, sym, ap, subst, _∙_}
+use native.Mathlib.Nat.{eq-or-lt-of-le, div-add-mod', mod-lt, add-mul, add-zero}
 use native.Mathlib.Omega.{arith}
 use borrow.Author.Tests.{eq-eqb, ne-eqb}
 use lib.Arith.{digits-div, digits-mod}
@@ -19,14 +19,14 @@ grows d p h =
     let below : p % d < d = mod-lt p h in
     ⊎-elim
     (λ (e : suc (p % d) ≡ d).
-      let whole : suc p ≡ (p / d + 1) * d + 0 = omega (arith, add-mul (p / d) 1 d) in
-      rw (eq-eqb (suc p % d) 0 (ap (λ (x : ℕ). x % d) whole ∙ digits-mod (p / d + 1) h))
-      (ap (λ (x : ℕ). x / d) whole ∙ digits-div (p / d + 1) h))
+    let whole : suc p ≡ (p / d + 1) * d + 0 = omega (arith, add-mul (p / d) 1 d) in
+    rw (eq-eqb (suc p % d) 0 (ap (λ (x : ℕ). x % d) whole ∙ digits-mod (p / d + 1) h))
+    (ap (λ (x : ℕ). x / d) whole ∙ digits-div (p / d + 1) h))
     (λ (l : suc (p % d) < d).
-      let part : suc p ≡ p / d * d + suc (p % d) = omega arith in
-      let left : suc p % d ≡ suc (p % d) = ap (λ (x : ℕ). x % d) part ∙ digits-mod (p / d) l in
-      rw (ne-eqb (suc p % d) 0 (λ (z : suc p % d ≡ 0). omega arith), add-zero)
-      (ap (λ (x : ℕ). x / d) part ∙ digits-div (p / d) l))
+    let part : suc p ≡ p / d * d + suc (p % d) = omega arith in
+    let left : suc p % d ≡ suc (p % d) = ap (λ (x : ℕ). x % d) part ∙ digits-mod (p / d) l in
+    rw (ne-eqb (suc p % d) 0 (λ (z : suc p % d ≡ 0). omega arith), add-zero)
+    (ap (λ (x : ℕ). x / d) part ∙ digits-div (p / d) l))
     (eq-or-lt-of-le below)
 
 -- a leap year has one day more: the three tests as numbers
@@ -96,13 +96,6 @@ year-starts zero = omega arith
 year-starts (suc k) =
     let l = year-located (suc k) (omega arith) in
     rw (l .1) (omega (arith, l .0 .after, days-before-is (suc (l .0 .past)) (l .0 .past) refl))
-
-pub year-small : (k : ℕ) → k < 2 ^ 25 → yearOf k < 2 ^ 20
-unfolding yearOf periodOf
-year-small zero h = lit< tt
-year-small (suc k) h =
-    let l = year-located (suc k) (omega arith) in
-    rw (l .1) (omega (arith, l .0 .after, years-above (l .0 .past)))
 
 pub days-before-small : (y : ℕ) → y < 2 ^ 16 → daysBefore y < 24000000
 unfolding daysBefore

@@ -1,5 +1,5 @@
 -- What the calendar's constructors answer.
-use Prim.Native.Nat.{ℕ, zero, suc}
+use Prim.Native.Nat.{ℕ}
 use mathlib.Core.Bool.{cond}
 use lib.Dec.{eqb}
 use Rattle.calendar.specs.Calendar.{date, within, dateFault, days, dateOf}

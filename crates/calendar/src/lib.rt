@@ -61,7 +61,7 @@ pub fn month_length(year: u32, month: u32) -> u32
 // The days of all years before `year`.
 fn days_before(year: u32) -> u32
     requires { ⌜ year < 2 ^ 20 ⌝ }
-    ensures { λ r. ⌜ r ≡ daysBefore year ⌝ }
+    ensures { λ r. ⌜ (r ≡ daysBefore year) × (r < 2 ^ 29) ⌝ }
 {
     if year == 0 {
         return 0;
@@ -90,7 +90,7 @@ fn days_before_month(year: u32, month: u32) -> u32
 // The year that day `k` falls in: the estimate is right or one year short.
 fn year_of(k: u32) -> u32
     requires { ⌜ k < 2 ^ 25 ⌝ }
-    ensures { λ r. ⌜ r ≡ yearOf k ⌝ }
+    ensures { λ r. ⌜ (r ≡ yearOf k) × (r < 2 ^ 20) ⌝ }
 {
     if k == 0 {
         return 1;
@@ -114,11 +114,20 @@ fn month_of(year: u32, n: u32) -> u32
     month + 1
 }
 
-// The Thursday of the week that holds day `k`.
-fn thursday_of(k: u32) -> u32
-    requires { ⌜ k < 2 ^ 25 - 8 ⌝ }
-    ensures { λ r. ⌜ r ≡ thursday k ⌝ }
+// The day number of a date, within what its fields allow.
+fn number_of(date: Date) -> u32
+    ensures { λ r. ⌜ (r ≡ dayNumber (date .year) (date .month) (date .day)) × (r < 2 ^ 25 - 8) ⌝ }
 {
+    days_before(date.year as u32)
+        + days_before_month(date.year as u32, date.month as u32)
+        + date.day as u32
+}
+
+// The Thursday of the week that holds a date.
+fn thursday_of(date: Date) -> u32
+    ensures { λ r. ⌜ (r ≡ thursday (dayNumber (date .year) (date .month) (date .day))) × (r < 2 ^ 25) ⌝ }
+{
+    let k = number_of(date);
     let weekday = (k + 6) % 7 + 1;
     if k + 4 < weekday {
         return 0;
@@ -133,11 +142,13 @@ impl Date {
         month: 1,
         day: 1,
     };
+
     pub const LAST: Date = Date {
         year: 9999,
         month: 12,
         day: 31,
     };
+
     pub const DAYS: u32 = 3652059;
 
     pub fn from_fields(year: u32, month: u32, day: u32) -> FromFields
@@ -197,42 +208,42 @@ impl Date {
     pub fn day_number(self) -> u32
         ensures { λ r. ⌜ r ≡ dayNumber (self .year) (self .month) (self .day) ⌝ }
     {
-        days_before(self.year as u32) + self.day_of_year()
+        number_of(self)
     }
 
     // Monday 1 to Sunday 7: %u
     pub fn weekday(self) -> u32
         ensures { λ r. ⌜ r ≡ weekday (dayNumber (self .year) (self .month) (self .day)) ⌝ }
     {
-        (self.day_number() + 6) % 7 + 1
+        (number_of(self) + 6) % 7 + 1
     }
 
     // %U
     pub fn sunday_week(self) -> u32
         ensures { λ r. ⌜ r ≡ sundayWeek (self .year) (self .month) (self .day) ⌝ }
     {
-        self.day_number() / 7 - days_before(self.year as u32) / 7
+        number_of(self) / 7 - days_before(self.year as u32) / 7
     }
 
     // %W
     pub fn monday_week(self) -> u32
         ensures { λ r. ⌜ r ≡ mondayWeek (self .year) (self .month) (self .day) ⌝ }
     {
-        (self.day_number() + 6) / 7 - (days_before(self.year as u32) + 6) / 7
+        (number_of(self) + 6) / 7 - (days_before(self.year as u32) + 6) / 7
     }
 
     // %G
     pub fn iso_year(self) -> u32
         ensures { λ r. ⌜ r ≡ isoYear (dayNumber (self .year) (self .month) (self .day)) ⌝ }
     {
-        year_of(thursday_of(self.day_number()))
+        year_of(thursday_of(self))
     }
 
     // %V
     pub fn iso_week(self) -> u32
         ensures { λ r. ⌜ r ≡ isoWeek (dayNumber (self .year) (self .month) (self .day)) ⌝ }
     {
-        let thursday = thursday_of(self.day_number());
+        let thursday = thursday_of(self);
         let year = year_of(thursday);
         (thursday + 3) / 7 - (days_before(year) + 3) / 7
     }

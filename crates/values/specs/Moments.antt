@@ -3,7 +3,6 @@ use Prim.Native.Nat.{ℕ}
 use mathlib.Core.Bool.{cond}
 use lib.Dec.{eqb, leb}
 use Rattle.calendar.specs.Calendar.{date, dateFault}
-use Rattle.values.specs.declared.Moment.{Moment}
 use Rattle.values.specs.declared.MomentFields.{MomentFields}
 use Rattle.values.specs.declared.MomentFields.the-variants.{Valid, Bad}
 

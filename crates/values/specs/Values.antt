@@ -1,6 +1,6 @@
 -- The value of each kind of fact (paper 01, "Kinds of fact" and "What is written"): what the writer writes and agreement compares.
 -- Kinds 1 to 15 are the values of the conversions Y, C, y, m, d, j, u, U, W, G, g, V, H, I, p, kinds 16 and 17 those of M and S.
-use Prim.Native.Nat.{ℕ, _-_, _/_, _%_}
+use Prim.Native.Nat.{ℕ, _/_, _%_}
 use mathlib.Core.Bool.{cond}
 use mathlib.Core.List.{List, [], _∷_}
 use lib.Dec.{eqb, leb}

@@ -1,6 +1,5 @@
 // Moments, and the value that each kind of fact has for one.
 use calendar::Date;
-
 ghost use mathlib.Core.Path.{_≡_};
 ghost use Rattle.values.specs.Moments.{momentOf};
 ghost use Rattle.values.specs.Values.{dateValue, hourOfTwelve, halfOfDay, hourValue, value};
@@ -19,7 +18,14 @@ pub enum MomentFields {
 }
 
 impl Moment {
-    pub fn from_fields(year: u32, month: u32, day: u32, hour: u32, minute: u32, second: u32) -> MomentFields
+    pub fn from_fields(
+        year: u32,
+        month: u32,
+        day: u32,
+        hour: u32,
+        minute: u32,
+        second: u32,
+    ) -> MomentFields
         ensures { λ r. ⌜ r ≡ momentOf year month day hour minute second ⌝ }
     {
         match Date::from_fields(year, month, day) {

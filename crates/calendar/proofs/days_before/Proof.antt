@@ -1,39 +1,33 @@
+-- `calendar::days_before` meets its contract. Assumes nothing.
 use Prim.Native.Nat.{_-_}
+use mathlib.Core.Path.{refl}
 use native.Mathlib.Omega.{arith}
+use borrow.Author.Needs.{needs}
+use lib.Dec.{lit<}
 use Rattle.calendar.specs.Calendar.{sum, daysBefore}
 use Rattle.calendar.proofs.Years.{years-closed}
-use borrow.Author.Needs.{needs}
 use Rattle.calendar.proofs.days_before.Statement.{statement}
 use Rattle.calendar.proofs.days_before.Tie as tie
-use Rattle.calendar.proofs.days_before.Reads as reads
-use Rattle.calendar.proofs.days_before.Lts as lts
 
--- src/lib.rt:66:9
 returns : tie.Need-returns
 unfolding daysBefore sum
-returns c = rw (c .if1 .taken)
+returns c = rw (c .if1 .taken) (refl, lit< tt)
 
--- src/lib.rt:68:16
 sub-past : tie.Need-sub-past
 sub-past c = search needs
 
--- src/lib.rt:69:5
 mul-result : tie.Need-mul-result
 mul-result c = search needs
 
--- src/lib.rt:69:5
 add-result : tie.Need-add-result
 add-result c = search needs
 
--- src/lib.rt:69:5
 sub-result : tie.Need-sub-result
 sub-result c = search needs
 
--- src/lib.rt:69:5
 add-result-2 : tie.Need-add-result-2
 add-result-2 c = search needs
 
--- src/lib.rt:61:1
 returns-2 : tie.Need-returns-2
 unfolding daysBefore
 returns-2 c = omega (arith, years-closed (c .before .args .year - 1))

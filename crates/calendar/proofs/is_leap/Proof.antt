@@ -1,10 +1,8 @@
 -- `calendar::is_leap` meets its contract: each way out is one way through the three tests.
 -- Assumes nothing.
-use borrow.Author.Tests.{eq-eqb, ne-eqb, not-true, not-false}
+use borrow.Author.Tests.{eq-eqb, ne-eqb}
 use Rattle.calendar.proofs.is_leap.Statement.{statement}
 use Rattle.calendar.proofs.is_leap.Tie as tie
-use Rattle.calendar.proofs.is_leap.Reads as reads
-use Rattle.calendar.proofs.is_leap.Lts as lts
 
 returns : tie.Need-returns
 returns c = simp (eq-eqb _ _ (c .before .if1 .taken), ne-eqb _ _ (c .if2 .taken))

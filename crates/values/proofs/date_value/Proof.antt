@@ -1,22 +1,15 @@
-use native.Mathlib.Decide.{decLe}
-use native.Mathlib.Omega.{arith}
-use lib.ListN.{List·getD-eq-default}
+-- `values::date_value` meets its contract. Assumes nothing.
 use Prim.Native.Nat.{ℕ, _+_, _%_, _≤_}
-use native.Mathlib.Nat.{lt-of-not-le, le-of-suc-le-suc}
-use lib.Arith.{le-zero}
 use mathlib.Core.Path.{_≡_, ap}
-use Rattle.values.specs.Values.{none, dateValue, dateValues}
+use native.Mathlib.Decide.{decLe}
+use native.Mathlib.Nat.{lt-of-not-le, le-of-suc-le-suc}
+use native.Mathlib.Omega.{arith}
 use borrow.Author.Needs.{needs}
+use lib.Arith.{le-zero}
+use lib.ListN.{List·getD-eq-default}
+use Rattle.values.specs.Values.{none, dateValue, dateValues}
 use Rattle.values.proofs.date_value.Statement.{statement}
 use Rattle.values.proofs.date_value.Tie as tie
-use Rattle.values.proofs.date_value.Reads as reads
-use Rattle.values.proofs.date_value.Lts as lts
-use Rattle.calendar.proofs.Date.day_of_year.Reads as day-of-year-reads
-use Rattle.calendar.proofs.Date.iso_week.Reads as iso-week-reads
-use Rattle.calendar.proofs.Date.iso_year.Reads as iso-year-reads
-use Rattle.calendar.proofs.Date.monday_week.Reads as monday-week-reads
-use Rattle.calendar.proofs.Date.sunday_week.Reads as sunday-week-reads
-use Rattle.calendar.proofs.Date.weekday.Reads as weekday-reads
 
 -- a number that is none of the six after n, and no larger, is at most n
 six-less :
@@ -24,126 +17,102 @@ six-less :
     → k ≤ n
 six-less k n h a b c d e f = omega arith
 
--- src/lib.rt:72:14
 cast-result : tie.Need-cast-result
 cast-result c = search needs
 
--- src/lib.rt:73:14
 cast-result-2 : tie.Need-cast-result-2
 cast-result-2 c = search needs
 
--- src/lib.rt:74:14
 cast-result-3 : tie.Need-cast-result-3
 cast-result-3 c = search needs
 
--- src/lib.rt:75:14
 cast-result-4 : tie.Need-cast-result-4
 cast-result-4 c = search needs
 
--- src/lib.rt:76:14
 cast-result-5 : tie.Need-cast-result-5
 cast-result-5 c = search needs
 
--- src/lib.rt:77:14
 day-of-year-requires : tie.Need-day-of-year-requires
 day-of-year-requires c κs = search needs
 
--- src/lib.rt:78:14
 weekday-requires : tie.Need-weekday-requires
 weekday-requires c κs = search needs
 
--- src/lib.rt:79:14
 sunday-week-requires : tie.Need-sunday-week-requires
 sunday-week-requires c κs = search needs
 
--- src/lib.rt:80:14
 monday-week-requires : tie.Need-monday-week-requires
 monday-week-requires c κs = search needs
 
--- src/lib.rt:81:15
 iso-year-requires : tie.Need-iso-year-requires
 iso-year-requires c κs = search needs
 
--- src/lib.rt:82:15
 iso-year-requires-2 : tie.Need-iso-year-requires-2
 iso-year-requires-2 c κs = search needs
 
--- src/lib.rt:83:15
 iso-week-requires : tie.Need-iso-week-requires
 iso-week-requires c κs = search needs
 
--- src/lib.rt:68:1
 returns : tie.Need-returns
 unfolding dateValue dateValues
 returns c = rw (c .before .match .keys1)
 
--- src/lib.rt:68:1
 returns-2 : tie.Need-returns-2
 unfolding dateValue dateValues
 returns-2 c = rw (c .before .match .keys2)
 
--- src/lib.rt:68:1
 returns-3 : tie.Need-returns-3
 unfolding dateValue dateValues
 returns-3 c = rw (c .before .match .keys3)
 
--- src/lib.rt:68:1
 returns-4 : tie.Need-returns-4
 unfolding dateValue dateValues
 returns-4 c = rw (c .before .match .keys4)
 
--- src/lib.rt:68:1
 returns-5 : tie.Need-returns-5
 unfolding dateValue dateValues
 returns-5 c = rw (c .before .match .keys5)
 
--- src/lib.rt:68:1
 returns-6 : tie.Need-returns-6
 unfolding dateValue dateValues
 returns-6 c = rw (c .before .match .keys6) (c .day-of-year .ensures)
 
--- src/lib.rt:68:1
 returns-7 : tie.Need-returns-7
 unfolding dateValue dateValues
 returns-7 c = rw (c .before .match .keys7) (c .weekday .ensures)
 
--- src/lib.rt:68:1
 returns-8 : tie.Need-returns-8
 unfolding dateValue dateValues
 returns-8 c = rw (c .before .match .keys8) (c .sunday-week .ensures)
 
--- src/lib.rt:68:1
 returns-9 : tie.Need-returns-9
 unfolding dateValue dateValues
 returns-9 c = rw (c .before .match .keys9) (c .monday-week .ensures)
 
--- src/lib.rt:68:1
 returns-10 : tie.Need-returns-10
 unfolding dateValue dateValues
 returns-10 c = rw (c .before .match .keys10) (c .iso-year .ensures)
 
--- src/lib.rt:68:1
 returns-11 : tie.Need-returns-11
 unfolding dateValue dateValues
 returns-11 c = rw (c .before .match .keys11) (ap (λ (x : ℕ). x % 100) (c .iso-year2 .ensures))
 
--- src/lib.rt:68:1
 returns-12 : tie.Need-returns-12
 unfolding dateValue dateValues
 returns-12 c = rw (c .before .match .keys12) (c .iso-week .ensures)
 
--- src/lib.rt:68:1
 returns-13 : tie.Need-returns-13
 unfolding dateValue dateValues
 returns-13 c =
     let k = c .before .args .kind in
     let r = c .match .rest in
-    elim (decLe 13 k)
-    [ yes h ↦ rw (List·getD-eq-default dateValues none h)
-    | no h ↦
-      (let q = r .0 .0 .0 .0 .0 .0 in
-       let six = six-less k 6 (le-of-suc-le-suc (lt-of-not-le h)) (r .1) (r .0 .1) (r .0 .0 .1) (r .0 .0 .0 .1) (r .0 .0 .0 .0 .1) (r .0 .0 .0 .0 .0 .1) in
-       rw (le-zero (six-less k 0 six (q .1) (q .0 .1) (q .0 .0 .1) (q .0 .0 .0 .1) (q .0 .0 .0 .0 .1) (q .0 .0 .0 .0 .0 .1)))) ]
+    elim (decLe 13 k) [
+      | yes h ↦ rw (List·getD-eq-default dateValues none h)
+      | no h ↦
+          (let q = r .0 .0 .0 .0 .0 .0 in
+          let six = six-less k 6 (le-of-suc-le-suc (lt-of-not-le h)) (r .1) (r .0 .1) (r .0 .0 .1) (r .0 .0 .0 .1) (r .0 .0 .0 .0 .1) (r .0 .0 .0 .0 .0 .1) in
+          rw (le-zero (six-less k 0 six (q .1) (q .0 .1) (q .0 .0 .1) (q .0 .0 .0 .1) (q .0 .0 .0 .0 .1) (q .0 .0 .0 .0 .0 .1))))
+    ]
 
 pub date-value-spec : {M : Type 1} → statement M
 date-value-spec =

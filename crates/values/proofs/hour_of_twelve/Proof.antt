@@ -1,16 +1,13 @@
+-- `values::hour_of_twelve` meets its contract. Assumes nothing.
 use borrow.Author.Tests.{ne-eqb}
 use Rattle.values.specs.Values.{hourOfTwelve}
 use Rattle.values.proofs.hour_of_twelve.Statement.{statement}
 use Rattle.values.proofs.hour_of_twelve.Tie as tie
-use Rattle.values.proofs.hour_of_twelve.Reads as reads
-use Rattle.values.proofs.hour_of_twelve.Lts as lts
 
--- src/lib.rt:92:9
 returns : tie.Need-returns
 unfolding hourOfTwelve
 returns c = rw (c .if1 .taken)
 
--- src/lib.rt:88:1
 returns-2 : tie.Need-returns-2
 unfolding hourOfTwelve
 returns-2 c = rw (ne-eqb _ 0 (c .if1 .left))

@@ -1,37 +1,28 @@
+-- `values::hour_value` meets its contract. Assumes nothing.
+use borrow.Author.Needs.{needs}
 use borrow.Author.Tests.{ne-eqb}
 use Rattle.values.specs.Values.{hourValue}
-use borrow.Author.Needs.{needs}
 use Rattle.values.proofs.hour_value.Statement.{statement}
 use Rattle.values.proofs.hour_value.Tie as tie
-use Rattle.values.proofs.hour_value.Reads as reads
-use Rattle.values.proofs.hour_value.Lts as lts
-use Rattle.values.proofs.half_of_day.Reads as half-of-day-reads
-use Rattle.values.proofs.hour_of_twelve.Reads as hour-of-twelve-reads
 
--- src/lib.rt:111:9
 returns : tie.Need-returns
 unfolding hourValue
 returns c = rw (c .if1 .taken)
 
--- src/lib.rt:114:9
 hour-of-twelve-requires : tie.Need-hour-of-twelve-requires
 hour-of-twelve-requires c κs = search needs
 
--- src/lib.rt:114:9
 returns-2 : tie.Need-returns-2
 unfolding hourValue
 returns-2 c = rw (c .before .if2 .taken) (c .hour-of-twelve .ensures)
 
--- src/lib.rt:117:9
 half-of-day-requires : tie.Need-half-of-day-requires
 half-of-day-requires c κs = search needs
 
--- src/lib.rt:117:9
 returns-3 : tie.Need-returns-3
 unfolding hourValue
 returns-3 c = rw (c .before .if3 .taken) (c .half-of-day .ensures)
 
--- src/lib.rt:107:1
 returns-4 : tie.Need-returns-4
 unfolding hourValue
 returns-4 c = simp (ne-eqb _ 13 (c .before .before .if1 .left), ne-eqb _ 14 (c .before .if2 .left), ne-eqb _ 15 (c .if3 .left))

@@ -1,35 +1,27 @@
+-- `calendar::Date::day_of_year` meets its contract. Assumes nothing.
 use Prim.Native.Nat.{_-_}
 use native.Mathlib.Omega.{arith}
+use borrow.Author.Needs.{needs}
 use Rattle.calendar.specs.Calendar.{dayOfYear}
 use Rattle.calendar.proofs.Months.{months-small}
-use borrow.Author.Needs.{needs}
 use Rattle.calendar.proofs.Date.day_of_year.Statement.{statement}
 use Rattle.calendar.proofs.Date.day_of_year.Tie as tie
-use Rattle.calendar.proofs.Date.day_of_year.Reads as reads
-use Rattle.calendar.proofs.Date.day_of_year.Lts as lts
-use Rattle.calendar.proofs.days_before_month.Reads as days-before-month-reads
 
--- src/lib.rt:194:27
 cast-days-before-month : tie.Need-cast-days-before-month
 cast-days-before-month c = search needs
 
--- src/lib.rt:194:45
 cast-days-before-month-2 : tie.Need-cast-days-before-month-2
 cast-days-before-month-2 c = search needs
 
--- src/lib.rt:194:9
 days-before-month-requires : tie.Need-days-before-month-requires
 days-before-month-requires c κs = search needs
 
--- src/lib.rt:194:66
 cast-result : tie.Need-cast-result
 cast-result c = search needs
 
--- src/lib.rt:194:9
 add-result : tie.Need-add-result
 add-result c = omega (arith, c .before .days-before-month .ensures, months-small (c .before .before .before .before .args .self .year) (c .before .before .before .before .args .self .month - 1))
 
--- src/lib.rt:191:5
 returns : tie.Need-returns
 unfolding dayOfYear
 returns c = rw (← c .before .days-before-month .ensures)

@@ -1,73 +1,56 @@
+-- `calendar::Date::from_day_number` meets its contract. Assumes nothing.
 use native.Mathlib.Omega.{arith}
+use borrow.Author.Needs.{needs}
 use borrow.Author.Tests.{le-leb, lt-leb}
 use Rattle.calendar.specs.Calendar.{days, dateOf, dateIn}
 use Rattle.calendar.specs.Dates.{fromDayNumber}
-use Rattle.calendar.proofs.Years.{days-is}
 use Rattle.calendar.proofs.Dates.{parts}
-use borrow.Author.Needs.{needs}
+use Rattle.calendar.proofs.Years.{days-is}
 use Rattle.calendar.proofs.Date.from_day_number.Statement.{statement}
 use Rattle.calendar.proofs.Date.from_day_number.Tie as tie
-use Rattle.calendar.proofs.Date.from_day_number.Reads as reads
-use Rattle.calendar.proofs.Date.from_day_number.Lts as lts
-use Rattle.calendar.proofs.days_before.Reads as days-before-reads
-use Rattle.calendar.proofs.days_before_month.Reads as days-before-month-reads
-use Rattle.calendar.proofs.month_of.Reads as month-of-reads
-use Rattle.calendar.proofs.year_of.Reads as year-of-reads
 
--- src/lib.rt:175:13
 returns : tie.Need-returns
 unfolding fromDayNumber
 returns c = simp (lt-leb 1 (c .before .args .k) (omega arith))
 
--- src/lib.rt:178:13
 returns-2 : tie.Need-returns-2
 unfolding fromDayNumber
 returns-2 c = simp (le-leb 1 (c .before .before .args .k) (omega arith), lt-leb (c .before .before .args .k) days (omega (arith, days-is)))
 
--- src/lib.rt:180:13
 year-of-requires : tie.Need-year-of-requires
 year-of-requires c κs = search needs
 
--- src/lib.rt:181:21
 days-before-requires : tie.Need-days-before-requires
-days-before-requires c κs = omega (arith, c .year-of .ensures, parts (c .before .before .before .args .k) (omega arith) (omega (arith, days-is)) .year-high)
+days-before-requires c κs = omega (arith, c .year-of .ensures .0, parts (c .before .before .before .args .k) (omega arith) (omega (arith, days-is)) .year-high)
 
--- src/lib.rt:181:17
 sub-n : tie.Need-sub-n
-sub-n c = omega (arith, rw (c .before .year-of .ensures) at (c .days-before .ensures), parts (c .before .before .before .before .args .k) (omega arith) (omega (arith, days-is)) .start)
+sub-n c = omega (arith, rw (c .before .year-of .ensures .0) at (c .days-before .ensures .0), parts (c .before .before .before .before .args .k) (omega arith) (omega (arith, days-is)) .start)
 
--- src/lib.rt:182:13
 month-of-requires : tie.Need-month-of-requires
-month-of-requires c κs = 
+month-of-requires c κs =
     let p = parts (c .before .before .before .before .args .k) (omega arith) (omega (arith, days-is)) in
-    rw (c .days-before .ensures, c .before .year-of .ensures) (omega (arith, p .start), p .end)
+    rw (c .days-before .ensures .0, c .before .year-of .ensures .0) (omega (arith, p .start), p .end)
 
--- src/lib.rt:184:19
 cast-t7 : tie.Need-cast-t7
-cast-t7 c = omega (arith, c .before .before .year-of .ensures, parts (c .before .before .before .before .before .args .k) (omega arith) (omega (arith, days-is)) .year-high)
+cast-t7 c = omega (arith, c .before .before .year-of .ensures .0, parts (c .before .before .before .before .before .args .k) (omega arith) (omega (arith, days-is)) .year-high)
 
--- src/lib.rt:185:20
 cast-t8 : tie.Need-cast-t8
-cast-t8 c = omega (arith, rw (c .before .days-before .ensures, c .before .before .year-of .ensures) at (c .month-of .ensures), parts (c .before .before .before .before .before .args .k) (omega arith) (omega (arith, days-is)) .month-high)
+cast-t8 c = omega (arith, rw (c .before .days-before .ensures .0, c .before .before .year-of .ensures .0) at (c .month-of .ensures), parts (c .before .before .before .before .before .args .k) (omega arith) (omega (arith, days-is)) .month-high)
 
--- src/lib.rt:186:23
 days-before-month-requires : tie.Need-days-before-month-requires
 days-before-month-requires c κs = search needs
 
--- src/lib.rt:186:19
 sub-t9 : tie.Need-sub-t9
-sub-t9 c = rw (c .days-before-month .ensures, c .before .month-of .ensures, c .before .before .days-before .ensures, c .before .before .before .year-of .ensures) (parts (c .before .before .before .before .before .before .args .k) (omega arith) (omega (arith, days-is)) .month-start)
+sub-t9 c = rw (c .days-before-month .ensures, c .before .month-of .ensures, c .before .before .days-before .ensures .0, c .before .before .before .year-of .ensures .0) (parts (c .before .before .before .before .before .before .args .k) (omega arith) (omega (arith, days-is)) .month-start)
 
--- src/lib.rt:186:18
 cast-t10 : tie.Need-cast-t10
-cast-t10 c = rw (c .days-before-month .ensures, c .before .month-of .ensures, c .before .before .days-before .ensures, c .before .before .before .year-of .ensures) (omega (arith, parts (c .before .before .before .before .before .before .args .k) (omega arith) (omega (arith, days-is)) .day-high))
+cast-t10 c = rw (c .days-before-month .ensures, c .before .month-of .ensures, c .before .before .days-before .ensures .0, c .before .before .before .year-of .ensures .0) (omega (arith, parts (c .before .before .before .before .before .before .args .k) (omega arith) (omega (arith, days-is)) .day-high))
 
--- src/lib.rt:171:5
 returns-3 : tie.Need-returns-3
 unfolding fromDayNumber dateOf dateIn
-returns-3 c = 
+returns-3 c =
     let k = c .before .before .before .before .before .before .args .k in
-    rw (le-leb 1 k (omega arith), le-leb k days (omega (arith, days-is)), c .days-before-month .ensures, c .before .month-of .ensures, c .before .before .days-before .ensures, c .before .before .before .year-of .ensures)
+    rw (le-leb 1 k (omega arith), le-leb k days (omega (arith, days-is)), c .days-before-month .ensures, c .before .month-of .ensures, c .before .before .days-before .ensures .0, c .before .before .before .year-of .ensures .0)
 
 pub from-day-number-spec : {M : Type 1} → statement M
 from-day-number-spec =

@@ -1,82 +1,64 @@
+-- `calendar::Date::from_fields` meets its contract. Assumes nothing.
 use native.Mathlib.Omega.{arith}
+use borrow.Author.Needs.{needs}
 use borrow.Author.Tests.{le-leb, lt-leb}
 use Rattle.calendar.specs.Calendar.{dateFault, monthLength}
 use Rattle.calendar.specs.Dates.{fromFields}
 use Rattle.calendar.proofs.Months.{month-most}
-use borrow.Author.Needs.{needs}
 use Rattle.calendar.proofs.Date.from_fields.Statement.{statement}
 use Rattle.calendar.proofs.Date.from_fields.Tie as tie
-use Rattle.calendar.proofs.Date.from_fields.Reads as reads
-use Rattle.calendar.proofs.Date.from_fields.Lts as lts
-use Rattle.calendar.proofs.month_length.Reads as month-length-reads
 
--- src/lib.rt:146:19
 cast-if1 : tie.Need-cast-if1
 cast-if1 c = search needs
 
--- src/lib.rt:147:13
 returns : tie.Need-returns
 unfolding fromFields dateFault
 returns c = simp (lt-leb 1 (c .before .before .args .year) (omega arith))
 
--- src/lib.rt:149:13
 cast-if2 : tie.Need-cast-if2
 cast-if2 c = search needs
 
--- src/lib.rt:150:13
 returns-2 : tie.Need-returns-2
 unfolding fromFields dateFault
 returns-2 c = simp (le-leb 1 (c .before .before .before .before .args .year) (omega arith), lt-leb (c .before .before .before .before .args .year) 9999 (omega arith))
 
--- src/lib.rt:152:20
 cast-if3 : tie.Need-cast-if3
 cast-if3 c = search needs
 
--- src/lib.rt:153:13
 returns-3 : tie.Need-returns-3
 unfolding fromFields dateFault
 returns-3 c = simp (le-leb 1 (c .before .before .before .before .before .before .args .year) (omega arith), le-leb (c .before .before .before .before .before .before .args .year) 9999 (omega arith), lt-leb 1 (c .before .before .before .before .before .before .args .month) (omega arith))
 
--- src/lib.rt:155:13
 cast-if4 : tie.Need-cast-if4
 cast-if4 c = search needs
 
--- src/lib.rt:156:13
 returns-4 : tie.Need-returns-4
 unfolding fromFields dateFault
 returns-4 c = simp (le-leb 1 (c .before .before .before .before .before .before .before .before .args .year) (omega arith), le-leb (c .before .before .before .before .before .before .before .before .args .year) 9999 (omega arith), le-leb 1 (c .before .before .before .before .before .before .before .before .args .month) (omega arith), lt-leb (c .before .before .before .before .before .before .before .before .args .month) 12 (omega arith))
 
--- src/lib.rt:158:18
 cast-if5 : tie.Need-cast-if5
 cast-if5 c = search needs
 
--- src/lib.rt:159:13
 returns-5 : tie.Need-returns-5
 unfolding fromFields dateFault
 returns-5 c = simp (le-leb 1 (c .before .before .before .before .before .before .before .before .before .before .args .year) (omega arith), le-leb (c .before .before .before .before .before .before .before .before .before .before .args .year) 9999 (omega arith), le-leb 1 (c .before .before .before .before .before .before .before .before .before .before .args .month) (omega arith), le-leb (c .before .before .before .before .before .before .before .before .before .before .args .month) 12 (omega arith), lt-leb 1 (c .before .before .before .before .before .before .before .before .before .before .args .day) (omega arith))
 
--- src/lib.rt:161:12
 month-length-requires : tie.Need-month-length-requires
 month-length-requires c κs = search needs
 
--- src/lib.rt:162:13
 returns-6 : tie.Need-returns-6
 unfolding fromFields dateFault
 returns-6 c = simp (le-leb 1 (c .before .before .before .before .before .before .before .before .before .before .before .before .args .year) (omega arith), le-leb (c .before .before .before .before .before .before .before .before .before .before .before .before .args .year) 9999 (omega arith), le-leb 1 (c .before .before .before .before .before .before .before .before .before .before .before .before .args .month) (omega arith), le-leb (c .before .before .before .before .before .before .before .before .before .before .before .before .args .month) 12 (omega arith), le-leb 1 (c .before .before .before .before .before .before .before .before .before .before .before .before .args .day) (omega arith), lt-leb (c .before .before .before .before .before .before .before .before .before .before .before .before .args .day) (monthLength (c .before .before .before .before .before .before .before .before .before .before .before .before .args .year) (c .before .before .before .before .before .before .before .before .before .before .before .before .args .month)) (omega (arith, c .before .month-length .ensures)))
 
--- src/lib.rt:165:19
 cast-t7 : tie.Need-cast-t7
 cast-t7 c = search needs
 
--- src/lib.rt:166:20
 cast-t8 : tie.Need-cast-t8
 cast-t8 c = search needs
 
--- src/lib.rt:167:18
 cast-t9 : tie.Need-cast-t9
 cast-t9 c = omega (arith, c .before .month-length .ensures, month-most (c .before .before .before .before .before .before .before .before .before .before .before .before .args .year) (c .before .before .before .before .before .before .before .before .before .before .before .before .args .month))
 
--- src/lib.rt:143:5
 returns-7 : tie.Need-returns-7
 unfolding fromFields dateFault
 returns-7 c = simp (le-leb 1 (c .before .before .before .before .before .before .before .before .before .before .before .before .args .year) (omega arith), le-leb (c .before .before .before .before .before .before .before .before .before .before .before .before .args .year) 9999 (omega arith), le-leb 1 (c .before .before .before .before .before .before .before .before .before .before .before .before .args .month) (omega arith), le-leb (c .before .before .before .before .before .before .before .before .before .before .before .before .args .month) 12 (omega arith), le-leb 1 (c .before .before .before .before .before .before .before .before .before .before .before .before .args .day) (omega arith), le-leb (c .before .before .before .before .before .before .before .before .before .before .before .before .args .day) (monthLength (c .before .before .before .before .before .before .before .before .before .before .before .before .args .year) (c .before .before .before .before .before .before .before .before .before .before .before .before .args .month)) (omega (arith, c .before .month-length .ensures)))

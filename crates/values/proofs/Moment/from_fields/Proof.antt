@@ -1,76 +1,63 @@
-use native.Mathlib.Omega.{arith}
+-- `values::Moment::from_fields` meets its contract. Assumes nothing.
 use mathlib.Core.Path.{sym, ap, _∙_}
+use native.Mathlib.Omega.{arith}
+use borrow.Author.Needs.{needs}
 use borrow.Author.Tests.{le-leb, lt-leb}
 use Rattle.values.specs.Moments.{momentFault, momentOf}
 use Rattle.values.specs.declared.MomentFields.the-variants.{Bad}
 use Rattle.calendar.proofs.Dates.{fields-bad, fields-valid}
-use borrow.Author.Needs.{needs}
 use Rattle.values.proofs.Moment.from_fields.Statement.{statement}
 use Rattle.values.proofs.Moment.from_fields.Tie as tie
-use Rattle.values.proofs.Moment.from_fields.Reads as reads
-use Rattle.values.proofs.Moment.from_fields.Lts as lts
-use Rattle.calendar.proofs.Date.from_fields.Reads as from-fields-reads
 
--- src/lib.rt:25:15
 from-fields-requires : tie.Need-from-fields-requires
 from-fields-requires c κs = search needs
 
--- src/lib.rt:26:39
 enum-known-field : tie.Need-enum-known-field
 enum-known-field c = search needs
 
--- src/lib.rt:27:41
 enum-known-date : tie.Need-enum-known-date
 enum-known-date c = search needs
 
--- src/lib.rt:29:21
 returns : tie.Need-returns
 unfolding momentFault momentOf
-returns c = 
+returns c =
     let a = c .before .before .before .before .before .args in
     let v = fields-valid (a .year) (a .month) (a .day) (c .before .before .date .given .0 .0) (sym (c .before .before .before .before .from-fields .ensures) ∙ c .before .before .date .given .1) in
     simp (v .0, lt-leb (a .hour) 23 (omega arith))
 
--- src/lib.rt:32:21
 returns-2 : tie.Need-returns-2
 unfolding momentFault momentOf
-returns-2 c = 
+returns-2 c =
     let a = c .before .before .before .before .before .before .args in
     let v = fields-valid (a .year) (a .month) (a .day) (c .before .before .before .date .given .0 .0) (sym (c .before .before .before .before .before .from-fields .ensures) ∙ c .before .before .before .date .given .1) in
     simp (v .0, le-leb (a .hour) 23 (omega arith), lt-leb (a .minute) 59 (omega arith))
 
--- src/lib.rt:35:21
 returns-3 : tie.Need-returns-3
 unfolding momentFault momentOf
-returns-3 c = 
+returns-3 c =
     let a = c .before .before .before .before .before .before .before .args in
     let v = fields-valid (a .year) (a .month) (a .day) (c .before .before .before .before .date .given .0 .0) (sym (c .before .before .before .before .before .before .from-fields .ensures) ∙ c .before .before .before .before .date .given .1) in
     simp (v .0, le-leb (a .hour) 23 (omega arith), le-leb (a .minute) 59 (omega arith), lt-leb (a .second) 60 (omega arith))
 
--- src/lib.rt:39:27
 cast-t12 : tie.Need-cast-t12
 cast-t12 c = search needs
 
--- src/lib.rt:40:29
 cast-t13 : tie.Need-cast-t13
 cast-t13 c = search needs
 
--- src/lib.rt:41:29
 cast-t14 : tie.Need-cast-t14
 cast-t14 c = search needs
 
--- src/lib.rt:22:5
 returns-4 : tie.Need-returns-4
 unfolding momentFault momentOf
-returns-4 c = 
+returns-4 c =
     let a = c .before .before .before .before .args in
     let b = fields-bad (a .year) (a .month) (a .day) (c .before .field .given .0 .0) (sym (c .before .before .before .from-fields .ensures) ∙ c .before .field .given .1) in
     simp (b .0) (ap Bad (sym (b .1)))
 
--- src/lib.rt:22:5
 returns-5 : tie.Need-returns-5
 unfolding momentFault momentOf
-returns-5 c = 
+returns-5 c =
     let a = c .before .before .before .before .before .before .before .args in
     let v = fields-valid (a .year) (a .month) (a .day) (c .before .before .before .before .date .given .0 .0) (sym (c .before .before .before .before .before .before .from-fields .ensures) ∙ c .before .before .before .before .date .given .1) in
     simp (v .0, le-leb (a .hour) 23 (omega arith), le-leb (a .minute) 59 (omega arith), le-leb (a .second) 60 (omega arith), v .1)
