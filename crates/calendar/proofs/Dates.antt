@@ -14,7 +14,7 @@ use Rattle.calendar.specs.Dates.{fromFields}
 use Rattle.calendar.specs.declared.Date.{Date}
 use Rattle.calendar.specs.declared.FromFields.{FromFields}
 use Rattle.calendar.proofs.Months.{month-is, month-most, year-months}
-use Rattle.calendar.proofs.Sum.{sum-suc, sum-mono, locate}
+use Rattle.calendar.proofs.Sum.{sum-suc, sum-last, sum-mono, locate}
 use Rattle.calendar.proofs.Years.{year-is, years-closed, days-before-is, days-is}
 
 -- the fields of a valid date
@@ -52,6 +52,13 @@ within-year y (suc q) d v =
       omega
           (arith, v .day-high, sum-suc (monthLength y) q, sum-mono (monthLength y) (suc q) 12 (v .month-high), year-months y),
     )
+
+-- a valid date's day number is one of the calendar's
+pub number-within : (y m d : ℕ) → Valid y m d → (0 < dayNumber y m d) × (dayNumber y m d ≤ days)
+unfolding dayNumber daysBefore days
+number-within y m d v =
+    omega
+    (arith, within-year y m d v, sum-last yearLength y (v .year-low), sum-mono yearLength y lastYear (v .year-high))
 
 -- every valid date is the date of its day number
 pub date-of-number : (y m d : ℕ) → Valid y m d → dateOf (dayNumber y m d) ≡ date y m d

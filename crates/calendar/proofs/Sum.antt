@@ -20,6 +20,10 @@ module _ (f : ℕ → ℕ) where
   unfolding sum
   sum-suc n = refl
 
+  pub sum-last : (n : ℕ) → 0 < n → sum f n ≡ sum f (n - 1) + f n
+  sum-last zero h = absurd (omega arith)
+  sum-last (suc n) h = let e : suc n - 1 ≡ n = omega arith in rw e (sum-suc n)
+
   pub sum-mono : (m n : ℕ) → m ≤ n → sum f m ≤ sum f n
   sum-mono m zero h = let e : m ≡ 0 = omega arith in rw e (omega arith)
   sum-mono m (suc n) h =

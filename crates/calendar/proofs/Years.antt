@@ -10,7 +10,7 @@ use borrow.Author.Tests.{eq-eqb, ne-eqb}
 use lib.Arith.{digits-div, digits-mod}
 use lib.Dec.{T, eqb, eqb→eq, lit<}
 use Rattle.calendar.specs.Calendar.{sum, yearLength, daysBefore, days, periodOf, yearOf}
-use Rattle.calendar.proofs.Sum.{Located, sum-suc, period-is, locate}
+use Rattle.calendar.proofs.Sum.{Located, sum-suc, sum-last, period-is, locate}
 
 -- one more: a quotient grows exactly where the remainder turns to 0
 pub grows : (d p : ℕ) → 0 < d → suc p / d ≡ p / d + cond (eqb (suc p % d) 0) 1 0
@@ -105,3 +105,7 @@ days-before-small y h = omega (arith, years-below (y - 1))
 pub days-is : days ≡ 3652059
 unfolding days
 days-is = omega (arith, years-closed 9999)
+
+pub days-before-next : (y : ℕ) → 0 < y → daysBefore (y + 1) ≡ daysBefore y + yearLength y
+unfolding daysBefore
+days-before-next y h = let e : y + 1 - 1 ≡ y = omega arith in rw e (sum-last yearLength y h)
