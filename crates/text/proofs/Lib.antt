@@ -1,0 +1,7 @@
+-- Laws that the proofs of several functions cite, and that callers may cite.
+pub mod Decimals
+pub mod Distinct
+pub mod OnePass
+pub mod Rows
+pub mod Spaces
+pub mod Table

@@ -1,0 +1,126 @@
+-- A name held in its row; a text copied over a buffer; a name compared with a text.
+use Prim.Native.Nat.{ℕ, suc, _+_, _≤_, _<_}
+use mathlib.Core.Path.{_≡_, refl, sym}
+use mathlib.Core.Bool.{Bool, true, false, not, cond}
+use mathlib.Core.List.{List, [], _∷_, _++_, map}
+use native.Mathlib.Nat.{zero-add}
+use native.Mathlib.Numerals.{add-one}
+use native.Mathlib.Omega.{arith}
+use borrow.Author.Tests.{leb-true, not-true, not-false}
+use lib.Dec.{eqb, leb}
+use lib.ListN.{length, getD, take, drop, set, replicate, length-append, length-take, length-map, length-replicate, drop-of-length-le, List·getD-map}
+use lib.Seq.{drop-cons, take-take, take-append-seam, take-all, paste-suc}
+use Rattle.text.specs.Case.{fold, lowered}
+use Rattle.text.specs.Names.{namesOf, nameAt, computes}
+use Rattle.text.specs.Rows.{padded, overlaid, agreeing}
+use Rattle.text.specs.Distinct.{every}
+use Rattle.text.specs.declared.names.Names.{Names}
+use Rattle.text.specs.declared.names.Names.the-variants.{Weekdays, Months, Halves}
+use Rattle.text.proofs.Table.{entry, each}
+
+-- ---- a name in its row
+
+nine-letters : (t : Names) → every (λ (n : List ℕ). leb (length n) 9) (namesOf t) ≡ true
+unfolding every computes
+nine-letters Weekdays = refl
+nine-letters Months = refl
+nine-letters Halves = refl
+
+at-most-nine : (t : Names) (i : ℕ) → length (nameAt t i) ≤ 9
+unfolding nameAt
+at-most-nine t i =
+    leb-true (length (nameAt t i)) 9
+    (each (λ (n : List ℕ). leb (length n) 9) (namesOf t) (nine-letters t) i (λ l. refl))
+
+padded-length : (x : List ℕ) → length (padded x) ≡ 9
+unfolding padded
+padded-length x = simp (length-take, length-append, length-replicate) (omega arith)
+
+unpadded : (x : List ℕ) → length x ≤ 9 → take (length x) (padded x) ≡ x
+unfolding padded
+unpadded x h = rw (take-take (length x) 9 (x ++ replicate 9 32) h) (take-append-seam x (replicate 9 32))
+
+-- a name's length and its row, as the code has them
+pub record Held (t : Names) (i n : ℕ) (row : List ℕ) : Type 0 where
+  pub long : n ≡ length (nameAt t i)
+  pub fits : n ≤ length row
+  pub name : take n row ≡ nameAt t i
+
+pub held : (t : Names) (i : ℕ) {n : ℕ} {row : List ℕ} → n ≡ length (nameAt t i) → row ≡ padded (nameAt t i) → Held t i n row
+held t i e p =
+    rw (e, p)
+    record {
+      long = refl;
+      fits = rw (padded-length (nameAt t i)) (at-most-nine t i);
+      name = unpadded (nameAt t i) (at-most-nine t i);
+    }
+
+-- the same at a place of a whole table
+module _ (t : Names) {rows : List (List ℕ)} {lengths : List ℕ} (p : rows ≡ map padded (namesOf t))
+    (e : lengths ≡ map length (namesOf t)) where
+  pub counts : (length rows ≡ length (namesOf t)) × (length lengths ≡ length (namesOf t))
+  counts = rw (p, e) (length-map (namesOf t) padded, length-map (namesOf t) length)
+
+  pub tabled : (i : ℕ) → i < length (namesOf t) → Held t i (getD lengths i 0) (getD rows i [])
+  unfolding nameAt
+  tabled i h = held t i (rw e (entry length 0 (namesOf t) i h)) (rw p (entry padded [] (namesOf t) i h))
+
+-- ---- copying
+
+lowered-length : (lower : Bool) (x : List ℕ) → length (lowered lower x) ≡ length x
+unfolding lowered
+lowered-length true x = length-map x fold
+lowered-length false x = refl
+
+lowered-at : (lower : Bool) (x : List ℕ) (j : ℕ) → cond lower (fold (getD x j 0)) (getD x j 0) ≡ getD (lowered lower x) j 0
+unfolding lowered fold
+lowered-at true x j = sym (List·getD-map fold x j 0)
+lowered-at false x j = refl
+
+module _ (lower : Bool) (x buf : List ℕ) (j : ℕ) where
+  -- the next byte is stored
+  pub copied : {b : ℕ} → j < length x → j < length buf → b ≡ cond lower (fold (getD x j 0)) (getD x j 0)
+      → set (take j (lowered lower x) ++ drop j buf) j b ≡ take (j + 1) (lowered lower x) ++ drop (j + 1) buf
+  copied {b} h l e =
+      let m : j < length (lowered lower x) = rw (lowered-length lower x) h in
+      rw (e, lowered-at lower x j, add-one j)
+      (rw (zero-add j, zero-add (suc j)) at (paste-suc buf 0 (lowered lower x) j 0 (rw zero-add l) m))
+
+  -- the buffer is full
+  pub all-room : j ≡ length buf → j ≤ length x → take j (lowered lower x) ++ drop j buf ≡ overlaid (lowered lower x) buf
+  unfolding overlaid
+  all-room e h =
+      rw
+      (lowered-length lower x, drop-of-length-le buf {i = j} (omega arith), drop-of-length-le buf {i = length x} (omega arith), ← e)
+
+  -- the text has ended
+  pub all-text : j ≡ length x → j ≤ length buf → take j (lowered lower x) ++ drop j buf ≡ overlaid (lowered lower x) buf
+  unfolding overlaid
+  all-text e h =
+      let m = lowered-length lower x in
+      rw (take-all j (lowered lower x) (omega arith), take-all (length buf) (lowered lower x) (omega arith), m, ← e)
+
+-- ---- comparing
+
+none-left : (x : List ℕ) → agreeing x [] ≡ 0
+unfolding agreeing
+none-left [] = refl
+none-left (a ∷ x) = refl
+
+module _ (x s : List ℕ) (j k : ℕ) where
+  pub all-agree : length x ≤ j → agreeing (drop j x) (drop k s) ≡ 0
+  unfolding agreeing
+  all-agree h = rw (drop-of-length-le x h)
+
+  pub at-end : length s ≤ k → agreeing (drop j x) (drop k s) ≡ 0
+  at-end h = rw (drop-of-length-le s h) (none-left (drop j x))
+
+  pub differs : {t : Bool} → j < length x → k < length s → t ≡ eqb (fold (getD x j 0)) (fold (getD s k 0)) → not t ≡ true
+      → agreeing (drop j x) (drop k s) ≡ 0
+  unfolding agreeing
+  differs {t} h l e f = rw (drop-cons x j 0 h, drop-cons s k 0 l, ← e, not-true t f)
+
+  pub agrees : {t : Bool} → j < length x → k < length s → t ≡ eqb (fold (getD x j 0)) (fold (getD s k 0)) → not t ≡ false
+      → agreeing (drop j x) (drop k s) ≡ suc (agreeing (drop (suc j) x) (drop (suc k) s))
+  unfolding agreeing
+  agrees {t} h l e f = rw (drop-cons x j 0 h, drop-cons s k 0 l, ← e, not-false t f)
