@@ -1,0 +1,4 @@
+pub mod Every
+pub mod Parts
+pub mod Scan
+pub mod Position

@@ -1,0 +1,65 @@
+-- `judge::agreement::date_kinds_agree` meets its contract. Assumes nothing.
+use Prim.Native.Nat.{_≤_, _-_}
+use mathlib.Core.Path.{_≡_, refl, sym, _∙_}
+use native.Mathlib.Omega.{arith}
+use borrow.Author.Needs.{needs}
+use borrow.Author.Tests.{not-true, not-false}
+use lib.ListN.{getD}
+use Rattle.judge.specs.Agreement.{every, agrees}
+use Rattle.values.specs.Values.{dateValue}
+use Rattle.judge.proofs.Every.{every-turn, every-stop, every-done}
+use Rattle.judge.proofs.agreement.date_kinds_agree.Statement.{statement}
+use Rattle.judge.proofs.agreement.date_kinds_agree.Tie as tie
+
+abbrev Inv-loop : tie.InvT-loop
+Inv-loop date from end said kind₀ kind = (kind ≤ end) × (every (λ k. agrees (getD said k 0) (dateValue k date)) kind (end - kind) ≡ every (λ k. agrees (getD said k 0) (dateValue k date)) from (end - from))
+
+abbrev μ-loop : tie.MeasureT-loop
+μ-loop date from end said kind₀ kind = end - kind
+
+loop-holds : tie.Need-loop-holds Inv-loop μ-loop
+loop-holds c = (omega arith, refl)
+
+cast-date-kind-agrees : tie.Need-cast-date-kind-agrees Inv-loop μ-loop
+cast-date-kind-agrees c = omega arith
+
+mul-date-kind-agrees : tie.Need-mul-date-kind-agrees Inv-loop μ-loop
+mul-date-kind-agrees c = omega arith
+
+array-read-date-kind-agrees : tie.Need-array-read-date-kind-agrees Inv-loop μ-loop
+array-read-date-kind-agrees c = omega arith
+
+date-kind-agrees-requires : tie.Need-date-kind-agrees-requires Inv-loop μ-loop
+date-kind-agrees-requires c κs = search needs
+
+returns : tie.Need-returns Inv-loop μ-loop
+returns c = sym (sym (c .before .before .before .loop .inv .1) ∙ every-stop _ _ _ (omega arith) (sym (c .before .date-kind-agrees .ensures) ∙ not-true _ (c .if1 .taken)))
+
+add-kind : tie.Need-add-kind Inv-loop μ-loop
+add-kind c = omega arith
+
+loop-less : tie.Need-loop-less Inv-loop μ-loop
+loop-less c = omega arith
+
+loop-again : tie.Need-loop-again Inv-loop μ-loop
+loop-again c = (omega arith, sym (every-turn _ _ _ (omega arith) (sym (c .before .date-kind-agrees .ensures) ∙ not-false _ (c .if1 .left))) ∙ c .before .before .before .loop .inv .1)
+
+returns-2 : tie.Need-returns-2 Inv-loop μ-loop
+returns-2 c = sym (sym (c .before .loop .inv .1) ∙ every-done _ _ _ (omega arith))
+
+pub date-kinds-agree-spec : {M : Type 1} → statement M
+date-kinds-agree-spec =
+    tie.close
+    (tie.spec
+    Inv-loop
+    μ-loop
+    loop-holds
+    cast-date-kind-agrees
+    mul-date-kind-agrees
+    array-read-date-kind-agrees
+    date-kind-agrees-requires
+    returns
+    add-kind
+    loop-less
+    loop-again
+    returns-2)

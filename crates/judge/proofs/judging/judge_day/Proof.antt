@@ -1,0 +1,29 @@
+-- `judge::judging::judge_day` meets its contract. Assumes nothing.
+use mathlib.Core.Path.{sym, ap, _∙_}
+use borrow.Author.Needs.{needs}
+use Rattle.judge.specs.Agreement.{dayBorne}
+use Rattle.judge.specs.Verdicts.{verdictOf, dayVerdict}
+use Rattle.judge.proofs.judging.judge_day.Statement.{statement}
+use Rattle.judge.proofs.judging.judge_day.Tie as tie
+
+any-said-requires : tie.Need-any-said-requires
+any-said-requires c κs = search needs
+
+search-days-requires : tie.Need-search-days-requires
+search-days-requires c κs = search needs
+
+verdict-of-requires : tie.Need-verdict-of-requires
+verdict-of-requires c κs = search needs
+
+returns : tie.Need-returns
+unfolding dayVerdict dayBorne
+returns c = rw (sym (c .before .before .before .any-said .ensures) ∙ c .before .before .if1 .taken) (c .verdict-of .ensures ∙ ap verdictOf (c .before .search-days .ensures))
+
+returns-2 : tie.Need-returns-2
+unfolding dayVerdict dayBorne
+returns-2 c = rw (sym (c .before .any-said .ensures) ∙ c .if1 .left)
+
+pub judge-day-spec : {M : Type 1} → statement M
+judge-day-spec =
+    tie.close
+    (tie.spec any-said-requires search-days-requires verdict-of-requires returns returns-2)

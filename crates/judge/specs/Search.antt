@@ -1,0 +1,24 @@
+-- The first two of a range of numbers that pass a test, in order.
+use Prim.Native.Nat.{ℕ, zero, suc}
+use mathlib.Core.Bool.{Bool, true, false, cond}
+use Rattle.judge.specs.declared.Found.{Found}
+use Rattle.judge.specs.declared.Found.the-variants.{Nothing, One, Two}
+
+-- what is found once k has passed, and whether two are
+unfoldable pub hit : ℕ → Found → Found
+hit k Nothing = One k
+hit k (One a) = Two a k
+hit k (Two a b) = Two a b
+
+unfoldable pub isTwo : Found → Bool
+isTwo Nothing = false
+isTwo (One a) = false
+isTwo (Two a b) = true
+
+-- k, k + 1, .., n numbers in all, are looked at, after what was found before; "a day search may stop at the second agreeing day"
+unfoldable pub scan : (ℕ → Bool) → ℕ → ℕ → Found → Found
+scan p zero k h = h
+scan p (suc n) k h = let more = scan p n (suc k) (cond (p k) (hit k h) h) in cond (isTwo h) h more
+
+unfoldable pub firstTwo : (ℕ → Bool) → ℕ → ℕ → Found
+firstTwo p from n = scan p n from Nothing

@@ -1,0 +1,24 @@
+-- Judging the day and the hour.
+use mathlib.Core.Bool.{cond}
+use Rattle.calendar.specs.Calendar.{days}
+use Rattle.judge.specs.Agreement.{dayBorne, hourBorne, dayAgrees, hourAgrees}
+use Rattle.judge.specs.Search.{firstTwo}
+use Rattle.judge.specs.declared.Facts.{Facts}
+use Rattle.judge.specs.declared.Found.{Found}
+use Rattle.judge.specs.declared.Found.the-variants.{Nothing, One, Two}
+use Rattle.judge.specs.declared.Verdict.{Verdict}
+use Rattle.judge.specs.declared.Verdict.the-variants.{Unsaid, Impossible, Open, Agreed}
+
+-- none agrees: impossible; two or more do: open, with the first two; otherwise the one that agrees
+unfoldable pub verdictOf : Found → Verdict
+verdictOf Nothing = Impossible
+verdictOf (One a) = Agreed a
+verdictOf (Two a b) = Open a b
+
+-- the verdict on the day, by its day number
+unfoldable pub dayVerdict : Facts → Verdict
+dayVerdict f = let found = verdictOf (firstTwo (dayAgrees f) 1 days) in cond (dayBorne f) found Unsaid
+
+-- the verdict on the hour
+unfoldable pub hourVerdict : Facts → Verdict
+hourVerdict f = let found = verdictOf (firstTwo (hourAgrees f) 0 24) in cond (hourBorne f) found Unsaid

@@ -1,0 +1,119 @@
+// The day-by-day search, and the same over the hours.
+use crate::Facts;
+use crate::Found;
+use crate::agreement::date_kinds_agree;
+use crate::agreement::hour_agrees;
+use calendar::Date;
+use calendar::month_length;
+ghost use mathlib.Core.Bool.{_&&_};
+ghost use mathlib.Core.Path.{_≡_};
+ghost use Prim.Native.Nat.{_<_, _^_};
+ghost use Rattle.calendar.specs.Calendar.{date, days};
+ghost use Rattle.values.specs.Values.{dateValue};
+ghost use Rattle.judge.specs.Agreement.{said, every, agrees, dayAgrees, hourAgrees};
+ghost use Rattle.judge.specs.Search.{firstTwo};
+
+// Whether the year agrees, which is known, and the month too.
+fn month_agrees(facts: Facts, year_agrees: bool, year: u32, month: u32) -> bool
+    requires { ⌜ (year < 2 ^ 16) × (month < 2 ^ 8) ⌝ }
+    ensures { λ r. ⌜ r ≡ «year_agrees» && every (λ k. agrees (said facts k) (dateValue k (date year month 1))) 4 1 ⌝ }
+{
+    if !year_agrees {
+        return false;
+    }
+    date_kinds_agree(
+        facts,
+        Date {
+            year: year as u16,
+            month: month as u8,
+            day: 1,
+        },
+        4,
+        5,
+    )
+}
+
+// The first two days that agree with all date facts, by their day numbers. What hangs on the year or the month alone is tested once for it.
+pub fn search_days(facts: Facts) -> Found
+    ensures { λ r. ⌜ r ≡ firstTwo (dayAgrees facts) 1 days ⌝ }
+{
+    let mut found = Found::Nothing;
+    let mut number: u32 = 1;
+    let mut year: u32 = 1;
+    'years: while year <= 9999 {
+        let year_agrees = date_kinds_agree(
+            facts,
+            Date {
+                year: year as u16,
+                month: 1,
+                day: 1,
+            },
+            1,
+            4,
+        );
+        let mut month: u32 = 1;
+        while month <= 12 {
+            let month_agrees = month_agrees(facts, year_agrees, year, month);
+            let length = month_length(year, month);
+            let mut day: u32 = 1;
+            while day <= length {
+                if month_agrees {
+                    if date_kinds_agree(
+                        facts,
+                        Date {
+                            year: year as u16,
+                            month: month as u8,
+                            day: day as u8,
+                        },
+                        5,
+                        13,
+                    ) {
+                        match found {
+                            Found::Nothing => {
+                                found = Found::One(number);
+                            }
+                            Found::One(first) => {
+                                found = Found::Two(first, number);
+                                break 'years;
+                            }
+                            Found::Two(_, _) => {
+                                break 'years;
+                            }
+                        }
+                    }
+                }
+                day += 1;
+                number += 1;
+            }
+            month += 1;
+        }
+        year += 1;
+    }
+    found
+}
+
+// The first two hours that agree with all hour facts.
+pub fn search_hours(facts: Facts) -> Found
+    ensures { λ r. ⌜ r ≡ firstTwo (hourAgrees facts) 0 24 ⌝ }
+{
+    let mut found = Found::Nothing;
+    let mut hour: u32 = 0;
+    while hour < 24 {
+        if hour_agrees(facts, hour) {
+            match found {
+                Found::Nothing => {
+                    found = Found::One(hour);
+                }
+                Found::One(first) => {
+                    found = Found::Two(first, hour);
+                    break;
+                }
+                Found::Two(_, _) => {
+                    break;
+                }
+            }
+        }
+        hour += 1;
+    }
+    found
+}
