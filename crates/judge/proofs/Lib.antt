@@ -1,4 +1,6 @@
+pub mod Demand
 pub mod Every
 pub mod Parts
-pub mod Scan
 pub mod Position
+pub mod Scan
+pub mod Tells

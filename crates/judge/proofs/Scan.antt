@@ -20,7 +20,7 @@ module _ (p : ℕ → Bool) where
   either true a b k n = sym (two-stays n (suc k) a b)
   either false a b k n = sym (two-stays n (suc k) a b)
 
-  scan-suc : (n k : ℕ) (h : Found) → scan p (suc n) k h ≡ scan p n (suc k) (cond (p k) (hit k h) h)
+  pub scan-suc : (n k : ℕ) (h : Found) → scan p (suc n) k h ≡ scan p n (suc k) (cond (p k) (hit k h) h)
   unfolding scan isTwo
   scan-suc n k Nothing = refl
   scan-suc n k (One a) = refl

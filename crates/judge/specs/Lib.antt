@@ -2,3 +2,4 @@
 pub mod Agreement
 pub mod Search
 pub mod Verdicts
+pub mod Demand

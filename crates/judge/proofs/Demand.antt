@@ -1,0 +1,206 @@
+-- Demand 3: the verdicts are those of the paper's words, for the day and for the hour.
+-- Assumes nothing.
+use Prim.Native.Nat.{ℕ, zero, suc, _+_, _-_, _≤_, _<_}
+use mathlib.Core.Bool.{Bool, true, false, cond, not, _&&_, true≢false, false≢true}
+use mathlib.Core.Logic.{⊎-elim}
+use mathlib.Core.Path.{_≡_, refl, sym, ap, _∙_}
+use native.Mathlib.Decide.{decLe}
+use native.Mathlib.Nat.{le-antisymm, lt-of-not-le, eq-or-lt-of-le}
+use native.Mathlib.Omega.{arith}
+use borrow.Author.Tests.{eq-eqb, ne-eqb, eqb-true, not-false}
+use lib.Dec.{eqb, lit≤}
+use Rattle.calendar.specs.Calendar.{days, dateOf}
+use Rattle.judge.specs.Agreement.{said, every, agrees, dateAgrees, dayAgrees, hourAgrees, dayBorne, hourBorne}
+use Rattle.judge.specs.Demand.{NoneBears, IsDay, IsHour, DayAgrees, HourAgrees, Only, Earliest, Judged, DayJudged, HourJudged}
+use Rattle.judge.specs.Search.{firstTwo}
+use Rattle.judge.specs.Verdicts.{verdictOf, dayVerdict, hourVerdict}
+use Rattle.judge.specs.declared.Facts.{Facts}
+use Rattle.judge.specs.declared.Found.{Found}
+use Rattle.judge.specs.declared.Found.the-variants.{Nothing, One, Two}
+use Rattle.judge.specs.declared.Verdict.the-variants.{Unsaid, Agreed}
+use Rattle.values.specs.Values.{dateValue, hourValue}
+use Rattle.calendar.proofs.Years.{days-is}
+use Rattle.judge.proofs.Tells.{Tells, none, single, double, tells}
+
+-- two different verdicts, or two different Booleans, are not equal
+clash : {A : Type 0} → _≡_ {A = ℕ} 0 1 → A
+clash z = absurd (omega arith)
+
+-- The words over any test p of the n numbers from `from` on that says just what agreement is, where nothing said leaves the first of them free
+module _
+    (None : Type 0) (Is Agrees : ℕ → Type 0) (p : ℕ → Bool) (from n : ℕ) (borne : Bool)
+    (unborne : borne ≡ false → None) (unborne′ : None → borne ≡ false)
+    (in-range : (k : ℕ) → Is k → (from ≤ k) × (k < from + n)) (range-in : (k : ℕ) → from ≤ k → k < from + n → Is k)
+    (agreeing : (k : ℕ) → p k ≡ true → Agrees k) (passing : (k : ℕ) → Agrees k → p k ≡ true)
+    (free : None → Is from × Agrees from)
+  where
+    borne-by : borne ≡ true → None → ⊥
+    borne-by e z = true≢false (sym e ∙ unborne′ z)
+
+    -- one that agrees, against what was found
+    none-agrees : ((k : ℕ) → from ≤ k → k < from + n → p k ≡ false) → (k : ℕ) → Is k → Agrees k → ⊥
+    none-agrees f k i a = false≢true (sym (f k (in-range k i .0) (in-range k i .1)) ∙ passing k a)
+
+    one-agrees : (c : ℕ) → ((k : ℕ) → from ≤ k → k < from + n → p k ≡ true → k ≡ c) → (k : ℕ) → Is k → Agrees k → k ≡ c
+    one-agrees c f k i a = f k (in-range k i .0) (in-range k i .1) (passing k a)
+
+    two-agree : (c d : ℕ) → ((k : ℕ) → from ≤ k → k < d → p k ≡ true → k ≡ c) → (k : ℕ) → Is k → Agrees k → k < d → k ≡ c
+    two-agree c d f k i a l = f k (in-range k i .0) l (passing k a)
+
+    -- the two earliest are these two and no others
+    same-two : (a b c d : ℕ) → Earliest Is Agrees a b → Earliest Is Agrees c d → (c ≡ a) × (d ≡ b)
+    same-two a b c d u v =
+        let e : d ≡ b = le-antisymm (later c d a b v u) (later a b c d u v) in
+        (u .none-before c (v .is-first) (v .first-agrees) (omega (arith, v .earlier)), e)
+      where
+        later : (a b c d : ℕ) → Earliest Is Agrees a b → Earliest Is Agrees c d → b ≤ d
+        later a b c d u v =
+            elim (decLe b d) [
+              | yes l ↦ l
+              | no l ↦
+                  (let m : d < b = lt-of-not-le l in
+                  let x = u .none-before c (v .is-first) (v .first-agrees) (omega (arith, v .earlier)) in
+                  let y = u .none-before d (v .is-second) (v .second-agrees) m in
+                  absurd (omega (arith, v .earlier)))
+            ]
+
+    judged-by : (b : Bool) (h : Found) → borne ≡ b → Tells p from (from + n) h → Judged None Is Agrees (cond b (verdictOf h) Unsaid)
+    unfolding verdictOf
+    judged-by false h e t =
+        record {
+          unsaid = (λ q. unborne e, λ z. refl);
+          impossible = (λ q. clash (cc), λ f. absurd (f from (free (unborne e) .0) (free (unborne e) .1)));
+          «open» = λ a b. (λ q. clash (cc), λ r. absurd (r .0 (unborne e)));
+          agreed = λ a. (λ q. clash (cc), λ r. absurd (r .0 (unborne e)));
+        }
+    judged-by true Nothing e (none f) =
+        record {
+          unsaid = (λ x. clash (cc), λ z. absurd (borne-by e z));
+          impossible = (λ x. none-agrees f, λ g. refl);
+          «open» = λ a b. (λ x. clash (cc), λ r. absurd (none-agrees f a (r .1 .is-first) (r .1 .first-agrees)));
+          agreed = λ a. (λ x. clash (cc), λ r. absurd (none-agrees f a (r .1 .is) (r .1 .agrees)));
+        }
+    judged-by true (One c) e (single l m q f) =
+        let only : Only Is Agrees c = record { is = range-in c l m; agrees = agreeing c q; alone = one-agrees c f } in
+        record {
+          unsaid = (λ x. clash (cc), λ z. absurd (borne-by e z));
+          impossible = (λ x. clash (cc), λ g. absurd (g c (only .is) (only .agrees)));
+          «open» = λ a b. (
+            λ x. clash (cc),
+            λ r.
+                let u = only .alone a (r .1 .is-first) (r .1 .first-agrees) in
+                let v = only .alone b (r .1 .is-second) (r .1 .second-agrees) in
+                absurd (omega (arith, r .1 .earlier)),
+          );
+          agreed = λ a. (
+            λ x. let s : c ≡ a = cc in (borne-by e, rw (← s) only),
+            λ r. ap Agreed (r .1 .alone c (only .is) (only .agrees)),
+          );
+        }
+    judged-by true (Two c d) e (double l m o q r f) =
+        let first : Earliest Is Agrees c d
+        = record {
+          is-first = range-in c l (omega arith);
+          is-second = range-in d (omega arith) o;
+          first-agrees = agreeing c q;
+          second-agrees = agreeing d r;
+          earlier = m;
+          none-before = two-agree c d f;
+        } in
+        record {
+          unsaid = (λ x. clash (cc), λ z. absurd (borne-by e z));
+          impossible = (λ x. clash (cc), λ g. absurd (g c (first .is-first) (first .first-agrees)));
+          «open» = λ a b. (
+            λ x. let s : c ≡ a = cc in let t : d ≡ b = cc in (borne-by e, rw (← s, ← t) first),
+            λ u. let s = same-two a b c d (u .1) first in rw (s .0, s .1),
+          );
+          agreed = λ a. (
+            λ x. clash (cc),
+            λ u.
+                let s = u .1 .alone c (first .is-first) (first .first-agrees) in
+                let t = u .1 .alone d (first .is-second) (first .second-agrees) in
+                absurd (omega arith),
+          );
+        }
+
+    pub judged : Judged None Is Agrees (cond borne (verdictOf (firstTwo p from n)) Unsaid)
+    judged = judged-by borne (firstTwo p from n) refl (tells p from n)
+
+-- ---- the tests of the code's definitions say what agreement is
+
+both-true : (a b : Bool) → (a && b) ≡ true → (a ≡ true) × (b ≡ true)
+both-true true b e = (refl, e)
+both-true false b e = absurd (false≢true e)
+
+-- every kind of a range, as a Boolean test and in words
+module _ (q : ℕ → Bool) where
+  pub every-at : (n from : ℕ) → every q from n ≡ true → (k : ℕ) → from ≤ k → k < from + n → q k ≡ true
+  unfolding every
+  every-at zero from e k l m = absurd (omega arith)
+  every-at (suc n) from e k l m =
+      let t = both-true (q from) (every q (suc from) n) e in
+      ⊎-elim (λ (s : from ≡ k). ap q (sym s) ∙ t .0) (λ h. every-at n (suc from) (t .1) k h (omega arith)) (eq-or-lt-of-le l)
+
+  pub at-every : (n from : ℕ) → ((k : ℕ) → from ≤ k → k < from + n → q k ≡ true) → every q from n ≡ true
+  unfolding every
+  at-every zero from f = refl
+  at-every (suc n) from f = rw (f from (omega arith) (omega arith)) (at-every n (suc from) (λ k l m. f k (omega arith) (omega arith)))
+
+-- what was said of a kind, as a Boolean test and in words
+agrees-suc : (n v : ℕ) → agrees (suc n) v ≡ eqb n v
+unfolding agrees
+agrees-suc n v =
+    let e : suc n - 1 ≡ n = omega arith in
+    rw (ne-eqb (suc n) 0 (λ (z : suc n ≡ 0). omega arith), e)
+
+agrees-is : (s v n : ℕ) → agrees s v ≡ true → s ≡ suc n → v ≡ n
+agrees-is s v n e h = sym (eqb-true n v (sym (agrees-suc n v) ∙ rw h at e))
+
+is-agrees : (s v : ℕ) → ((n : ℕ) → s ≡ suc n → v ≡ n) → agrees s v ≡ true
+unfolding agrees
+is-agrees zero v f = refl
+is-agrees (suc n) v f = agrees-suc n v ∙ eq-eqb n v (sym (f n refl))
+
+-- facts of the kinds from a to b, which are n kinds
+module _ (f : Facts) (a b n : ℕ) (range : a + n ≡ suc b) where
+  none-said : not (every (λ k. eqb (said f k) 0) a n) ≡ false → NoneBears f a b
+  none-said e k l m = eqb-true (said f k) 0 (every-at (λ k. eqb (said f k) 0) n a (not-false _ e) k l (omega arith))
+
+  said-none : NoneBears f a b → not (every (λ k. eqb (said f k) 0) a n) ≡ false
+  said-none z = ap not (at-every (λ k. eqb (said f k) 0) n a (λ k l m. eq-eqb (said f k) 0 (z k l (omega arith))))
+
+  -- the values of a candidate
+  module _ (value : ℕ → ℕ) where
+    all-agree : every (λ k. agrees (said f k) (value k)) a n ≡ true → (k m : ℕ) → a ≤ k → k ≤ b → said f k ≡ suc m → value k ≡ m
+    all-agree e k m l h s = agrees-is (said f k) (value k) m (every-at (λ k. agrees (said f k) (value k)) n a e k l (omega arith)) s
+
+    agree-all : ((k m : ℕ) → a ≤ k → k ≤ b → said f k ≡ suc m → value k ≡ m) → every (λ k. agrees (said f k) (value k)) a n ≡ true
+    agree-all g = at-every (λ k. agrees (said f k) (value k)) n a (λ k l h. is-agrees (said f k) (value k) (λ m. g k m l (omega arith)))
+
+    none-disagrees : NoneBears f a b → (k m : ℕ) → a ≤ k → k ≤ b → said f k ≡ suc m → value k ≡ m
+    none-disagrees z k m l h s = absurd (omega (arith, z k l h))
+
+-- demand 3 for the day, and for the hour
+pub day-judged : (f : Facts) → DayJudged f (dayVerdict f)
+unfolding dayVerdict dayBorne dayAgrees dateAgrees
+day-judged f =
+    judged (NoneBears f 1 12) IsDay (DayAgrees f) (dayAgrees f) 1 days (dayBorne f)
+    (none-said f 1 12 12 refl)
+    (said-none f 1 12 12 refl)
+    (λ k i. omega arith)
+    (λ k l m. omega arith)
+    (λ k. all-agree f 1 12 12 refl (λ j. dateValue j (dateOf k)))
+    (λ k. agree-all f 1 12 12 refl (λ j. dateValue j (dateOf k)))
+    (λ z. ((lit≤ tt, omega (arith, days-is)), none-disagrees f 1 12 12 refl (λ j. dateValue j (dateOf 1)) z))
+
+pub hour-judged : (f : Facts) → HourJudged f (hourVerdict f)
+unfolding hourVerdict hourBorne hourAgrees
+hour-judged f =
+    judged (NoneBears f 13 15) IsHour (HourAgrees f) (hourAgrees f) 0 24 (hourBorne f)
+    (none-said f 13 15 3 refl)
+    (said-none f 13 15 3 refl)
+    (λ h i. omega arith)
+    (λ h l m. omega arith)
+    (λ h. all-agree f 13 15 3 refl (λ j. hourValue j h))
+    (λ h. agree-all f 13 15 3 refl (λ j. hourValue j h))
+    (λ z. (lit≤ tt, none-disagrees f 13 15 3 refl (λ j. hourValue j 0) z))

@@ -1,0 +1,52 @@
+-- What the first two found tell of a range of numbers, and that nothing else is told the same.
+-- Assumes nothing.
+use Prim.Native.Nat.{ℕ, zero, suc, _+_, _≤_, _<_}
+use mathlib.Core.Bool.{Bool, true, false, cond, false≢true}
+use mathlib.Core.Logic.{⊎-elim}
+use mathlib.Core.Path.{_≡_, refl, sym, ap, _∙_}
+use native.Mathlib.Nat.{eq-or-lt-of-le, le-of-suc-le-suc, add-suc, add-zero, suc-add}
+use native.Mathlib.Omega.{arith}
+use Rattle.judge.specs.Search.{hit, scan, firstTwo}
+use Rattle.judge.specs.declared.Found.{Found}
+use Rattle.judge.specs.declared.Found.the-variants.{Nothing, One, Two}
+use Rattle.judge.proofs.Scan.{scan-suc}
+
+module _ (p : ℕ → Bool) (from : ℕ) where
+  -- what was found among the numbers from `from` up to `end`
+  pub data Tells : ℕ → Found → Type 0 where
+    none : {end : ℕ} → ((k : ℕ) → from ≤ k → k < end → p k ≡ false) → Tells end Nothing
+    single : {end a : ℕ} → from ≤ a → a < end → p a ≡ true → ((k : ℕ) → from ≤ k → k < end → p k ≡ true → k ≡ a) → Tells end (One a)
+    double : {end a b : ℕ} → from ≤ a → a < b → b < end → p a ≡ true → p b ≡ true → ((k : ℕ) → from ≤ k → k < b → p k ≡ true → k ≡ a) → Tells end (Two a b)
+
+  below-suc : {k end : ℕ} {A : Type 0} → k < suc end → (k ≡ end → A) → (k < end → A) → A
+  below-suc h f g = ⊎-elim f g (eq-or-lt-of-le (le-of-suc-le-suc h))
+
+  at-end : {k end : ℕ} → p end ≡ false → p k ≡ true → k ≡ end → ⊥
+  at-end e q s = false≢true (sym e ∙ sym (ap p s) ∙ q)
+
+  -- one number more is looked at
+  tells-next : (end : ℕ) (h : Found) → from ≤ end → Tells end h → (b : Bool) → p end ≡ b → Tells (suc end) (cond b (hit end h) h)
+  unfolding hit
+  tells-next end Nothing l (none f) true e =
+      let o : end < suc end = omega arith in
+      single l o e (λ k m n q. below-suc n (λ s. s) (λ n'. absurd (false≢true (sym (f k m n') ∙ q))))
+  tells-next end Nothing l (none f) false e = none (λ k m n. below-suc n (λ s. ap p s ∙ e) (λ n'. f k m n'))
+  tells-next end (One a) l (single m n q f) true e =
+      let o : end < suc end = omega arith in
+      double m n o q e f
+  tells-next end (One a) l (single m n q f) false e =
+      let o : a < suc end = omega arith in
+      single m o q (λ k m' n' q'. below-suc n' (λ s. absurd (at-end e q' s)) (λ n''. f k m' n'' q'))
+  tells-next end (Two a b) l (double m n o q r f) true e = let o' : b < suc end = omega arith in double m n o' q r f
+  tells-next end (Two a b) l (double m n o q r f) false e = let o' : b < suc end = omega arith in double m n o' q r f
+
+  tells-scan : (n end : ℕ) (h : Found) → from ≤ end → Tells end h → Tells (end + n) (scan p n end h)
+  unfolding scan
+  tells-scan zero end h l t = rw add-zero t
+  tells-scan (suc n) end h l t =
+      rw (scan-suc p n end h, add-suc)
+      (rw suc-add at (tells-scan n (suc end) (cond (p end) (hit end h) h) (omega arith) (tells-next end h l t (p end) refl)))
+
+  pub tells : (n : ℕ) → Tells (from + n) (firstTwo p from n)
+  unfolding firstTwo
+  tells n = tells-scan n from Nothing (omega arith) (none (λ k l m. absurd (omega arith)))

@@ -1,0 +1,58 @@
+-- Demand 3 in the paper's words, as statements about a verdict. Days go by their day numbers.
+use Prim.Native.Nat.{ℕ, suc, _≤_, _<_}
+use mathlib.Core.Logic.{_↔_}
+use mathlib.Core.Path.{_≡_}
+use Rattle.calendar.specs.Calendar.{days, dateOf}
+use Rattle.judge.specs.Agreement.{said}
+use Rattle.judge.specs.declared.Facts.{Facts}
+use Rattle.judge.specs.declared.Verdict.{Verdict}
+use Rattle.judge.specs.declared.Verdict.the-variants.{Unsaid, Impossible, Open, Agreed}
+use Rattle.values.specs.Values.{dateValue, hourValue}
+
+-- no fact of kinds a to b was said
+abbrev pub NoneBears : Facts → ℕ → ℕ → Type 0
+NoneBears f a b = (k : ℕ) → a ≤ k → k ≤ b → said f k ≡ 0
+
+-- a day, and an hour
+abbrev pub IsDay : ℕ → Type 0
+IsDay k = (1 ≤ k) × (k ≤ days)
+
+abbrev pub IsHour : ℕ → Type 0
+IsHour h = h ≤ 23
+
+-- a day agrees with every date fact: for each kind 1 to 12 of which a number was said, the writer would write that number for it
+abbrev pub DayAgrees : Facts → ℕ → Type 0
+DayAgrees f d = (k n : ℕ) → 1 ≤ k → k ≤ 12 → said f k ≡ suc n → dateValue k (dateOf d) ≡ n
+
+-- an hour agrees with every hour fact, kinds 13 to 15
+abbrev pub HourAgrees : Facts → ℕ → Type 0
+HourAgrees f h = (k n : ℕ) → 13 ≤ k → k ≤ 15 → said f k ≡ suc n → hourValue k h ≡ n
+
+-- a is the only one that agrees
+pub record Only (One : ℕ → Type 0) (Agrees : ℕ → Type 0) (a : ℕ) : Type 0 where
+  pub is : One a
+  pub agrees : Agrees a
+  pub alone : (k : ℕ) → One k → Agrees k → k ≡ a
+
+-- a and b are the two earliest that agree, the earlier first
+pub record Earliest (One : ℕ → Type 0) (Agrees : ℕ → Type 0) (a b : ℕ) : Type 0 where
+  pub is-first : One a
+  pub is-second : One b
+  pub first-agrees : Agrees a
+  pub second-agrees : Agrees b
+  pub earlier : a < b
+  pub none-before : (k : ℕ) → One k → Agrees k → k < b → k ≡ a
+
+-- "unsaid, impossible, open with the two earliest shown, or the one that agrees"
+pub record Judged (None : Type 0) (One : ℕ → Type 0) (Agrees : ℕ → Type 0) (v : Verdict) : Type 0 where
+  pub unsaid : (v ≡ Unsaid) ↔ None
+  pub impossible : (v ≡ Impossible) ↔ ((k : ℕ) → One k → Agrees k → ⊥)
+  pub «open» : (a b : ℕ) → (v ≡ Open a b) ↔ ((None → ⊥) × Earliest One Agrees a b)
+  pub agreed : (a : ℕ) → (v ≡ Agreed a) ↔ ((None → ⊥) × Only One Agrees a)
+
+-- the day, and the hour, judged by all facts that bear on it
+abbrev pub DayJudged : Facts → Verdict → Type 0
+DayJudged f v = Judged (NoneBears f 1 12) IsDay (DayAgrees f) v
+
+abbrev pub HourJudged : Facts → Verdict → Type 0
+HourJudged f v = Judged (NoneBears f 13 15) IsHour (HourAgrees f) v
