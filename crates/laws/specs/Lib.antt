@@ -1,0 +1,2 @@
+-- Definitions that the specifications of several crates cite.
+pub mod Bytes
