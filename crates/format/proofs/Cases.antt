@@ -1,0 +1,27 @@
+-- Formats of paper 01 and what they open to, by computing: an unknown and an unfinished conversion alike end at the offset of their %.
+use Prim.Native.String.{String}
+use mathlib.Core.List.{[], _∷_, map}
+use mathlib.Core.Path.{_≡_, refl}
+use lib.ListN.{length}
+use Rattle.laws.specs.Bytes.{bytes}
+use Rattle.format.specs.Opening.{opening, openTo, computes}
+use Rattle.format.specs.Opening.Ended.{Whole, BadAt}
+
+where-they-end : map (λ (s : String). opening (bytes s) .ended)
+    ("" ∷ "%" ∷ "%E" ∷ "%Ed" ∷ "%Q" ∷ "%5m" ∷ "%E%" ∷ "%d %s" ∷ "100%" ∷ "%Ey%Oy%n%t%%" ∷ "%c %x %X %D %F %R %T %r" ∷ [])
+    ≡ Whole ∷ BadAt 0 ∷ BadAt 0 ∷ BadAt 0 ∷ BadAt 0 ∷ BadAt 0 ∷ BadAt 0 ∷ BadAt 3 ∷ BadAt 3 ∷ Whole ∷ Whole ∷ []
+unfolding computes
+where-they-end = refl
+
+elements : opening (bytes "a%n%t%%%D%Q.") .elements ≡ 97 ∷ 10 ∷ 9 ∷ 37 ∷ 365 ∷ 47 ∷ 356 ∷ 47 ∷ 377 ∷ []
+unfolding computes
+elements = refl
+
+-- %c names %T: two deep it opens, to 13 elements, and one deep it does not
+two-deep : length (opening (bytes "%c") .elements) ≡ 13
+unfolding computes
+two-deep = refl
+
+one-deep : openTo 1 (bytes "%c") .ended ≡ BadAt 0
+unfolding computes
+one-deep = refl
