@@ -10,9 +10,10 @@ use native.Mathlib.Omega.{arith}
 use borrow.Author.Tests.{le-leb}
 use lib.Dec.{eqb}
 use Rattle.calendar.specs.Calendar.{date, weekday, monthLengths, sum, yearLength, monthLength, lastYear, dateFault, dayOfYear, daysBefore, dayNumber, days, yearOf, monthOf, dateIn, dateOf}
-use Rattle.calendar.specs.Dates.{fromFields}
+use Rattle.calendar.specs.Dates.{fromFields, fromDayNumber}
 use Rattle.calendar.specs.declared.Date.{Date}
 use Rattle.calendar.specs.declared.FromFields.{FromFields}
+use Rattle.calendar.specs.declared.FromNumber.{FromNumber}
 use Rattle.calendar.proofs.Months.{month-is, month-most, year-months}
 use Rattle.calendar.proofs.Sum.{sum-suc, sum-last, sum-mono, locate}
 use Rattle.calendar.proofs.Years.{year-is, years-closed, days-before-is, days-is}
@@ -244,3 +245,8 @@ fields-bad y m d f e = bad-of (eqb (dateFault y m d) 0) (dateFault y m d) f (dat
 pub fields-valid : (y m d : ℕ) (t : Date) → fromFields y m d ≡ FromFields.Valid t → (eqb (dateFault y m d) 0 ≡ true) × (date y m d ≡ t)
 unfolding fromFields
 fields-valid y m d t e = valid-of (eqb (dateFault y m d) 0) (dateFault y m d) (date y m d) t e
+
+-- the constructor from a day number answers the day's date for each day of the calendar
+pub number-day : (k : ℕ) → 0 < k → k ≤ days → fromDayNumber k ≡ FromNumber.Day (dateOf k)
+unfolding fromDayNumber
+number-day k h l = rw (le-leb 1 k h, le-leb k days l)

@@ -1,0 +1,4 @@
+pub mod Sound
+pub mod Ways
+pub mod Walk
+pub mod Opens

@@ -1,0 +1,40 @@
+-- `strptime::elements::read_number` meets its contract. Assumes nothing.
+use native.Mathlib.Omega.{arith}
+use borrow.Author.Needs.{needs}
+use denote.Ref.{now}
+use Rattle.strptime.proofs.Ways.{number-none, number-low, number-high, number-fact, number-end}
+use Rattle.strptime.proofs.elements.read_number.Statement.{statement}
+use Rattle.strptime.proofs.elements.read_number.Tie as tie
+
+skip-space-requires : tie.Need-skip-space-requires
+skip-space-requires c κs = search needs
+
+read-digits-requires : tie.Need-read-digits-requires
+read-digits-requires c κs = search needs
+
+returns : tie.Need-returns
+returns c = number-none _ _ _ (c .before .before .before .skip-space .ensures) (c .before .before .read-digits .ensures) (omega arith) (c .if1 .taken)
+
+returns-2 : tie.Need-returns-2
+returns-2 c = number-low _ _ _ (c .before .before .before .before .before .before .skip-space .ensures) (c .before .before .before .before .before .read-digits .ensures) (omega arith) (c .before .before .before .if1 .left) (omega arith)
+
+returns-3 : tie.Need-returns-3
+returns-3 c = number-high _ _ _ (c .before .before .before .before .before .before .before .before .before .skip-space .ensures) (c .before .before .before .before .before .before .before .before .read-digits .ensures) (omega arith) (c .before .before .before .before .before .before .if1 .left) (omega arith) (omega arith)
+
+add-t7 : tie.Need-add-t7
+add-t7 c = omega (arith, number-end (c .before .before .before .before .before .before .before .before .before .before .before .before .args .c) (now (c .before .before .before .before .before .before .before .before .before .before .before .before .args .s)) (c .before .before .before .before .before .before .before .before .before .before .before .before .args .at) (c .before .before .before .before .before .before .before .before .before .before .skip-space .ensures) (c .before .before .before .before .before .before .before .before .before .read-digits .ensures) (omega arith))
+
+returns-4 : tie.Need-returns-4
+returns-4 c = number-fact _ _ _ (c .before .before .before .before .before .before .before .before .before .before .skip-space .ensures) (c .before .before .before .before .before .before .before .before .before .read-digits .ensures) (omega arith) (c .before .before .before .before .before .before .before .if1 .left) (omega arith) (omega arith)
+
+pub read-number-spec : {M : Type 1} → statement M
+read-number-spec =
+    tie.close
+    (tie.spec
+    skip-space-requires
+    read-digits-requires
+    returns
+    returns-2
+    returns-3
+    add-t7
+    returns-4)

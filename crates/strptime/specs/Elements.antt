@@ -1,0 +1,71 @@
+-- Reading one element of a format (paper 01, "How a margin is read").
+use Prim.Native.Nat.{ℕ, _+_, _-_}
+use mathlib.Core.Bool.{cond, _&&_}
+use mathlib.Core.List.{List, [], _∷_}
+use lib.Dec.{eqb, leb, ltb}
+use lib.ListN.{length, drop}
+use Rattle.format.specs.Conversions.{conversionOf}
+use Rattle.format.specs.declared.conversions.Conversion.{Conversion}
+use Rattle.format.specs.declared.conversions.Form.{Form}
+use Rattle.format.specs.declared.conversions.Form.the-variants.{Zeros, Blanks, FromSunday, Short, Full, Lower, Unknown}
+use Rattle.strptime.specs.Naming.{namesFor, valueAt}
+use Rattle.strptime.specs.declared.elements.Item.{Item}
+use Rattle.strptime.specs.declared.elements.Item.the-variants.{Skip, Fact, NoMatch, OutOfRange}
+use Rattle.text.specs.Digits.{digitRun, decimal}
+use Rattle.text.specs.Names.{readName}
+use Rattle.text.specs.Space.{isSpace, spaces}
+use Rattle.text.specs.declared.names.NameRead.{NameRead}
+use Rattle.text.specs.declared.names.NameRead.the-variants.{Found, Nothing}
+
+-- an ordinary byte "must equal the next byte"
+unfoldable pub ordinary : ℕ → List ℕ → ℕ → Item
+ordinary b [] at = NoMatch at
+ordinary b (c ∷ s) at = cond (eqb c b) (Skip (at + 1)) (NoMatch at)
+
+-- a byte of the format: white space takes the longest run of zero or more white-space bytes
+unfoldable pub readByte : ℕ → List ℕ → ℕ → Item
+readByte b s at = cond (isSpace b) (Skip (at + spaces (drop at s))) (ordinary b (drop at s) at)
+
+-- digits found at an offset: at least one, and in range
+unfoldable pub ranged : Conversion → List ℕ → ℕ → Item
+ranged c ds from =
+    let v = decimal 0 ds in
+    cond (eqb (length ds) 0) (NoMatch from)
+    (cond (leb (c .low) v && leb v (c .high)) (Fact (c .kind) v from (from + length ds)) (OutOfRange from))
+
+-- "A numeric conversion skips white space, then takes digits greedily, at least one, at most its writing width"
+unfoldable pub readNumber : Conversion → List ℕ → ℕ → Item
+readNumber c s at =
+    let from = at + spaces (drop at s) in
+    ranged c (digitRun (c .width) (drop from s)) from
+
+-- "%w 0 is 7"
+unfoldable pub fromSunday : Item → Item
+fromSunday (Skip next) = Skip next
+fromSunday (Fact k n from next) = Fact k (cond (eqb n 0) 7 n) from next
+fromSunday (NoMatch p) = NoMatch p
+fromSunday (OutOfRange p) = OutOfRange p
+
+-- "No white space is skipped before a name"
+unfoldable pub named : ℕ → NameRead → ℕ → Item
+named k (Found i n) at = Fact k (valueAt k i) at (at + n)
+named k Nothing at = NoMatch at
+
+unfoldable pub readNamed : Conversion → List ℕ → ℕ → Item
+readNamed c s at = named (c .kind) (readName (namesFor (c .kind)) (drop at s)) at
+
+unfoldable pub readForm : Form → Conversion → List ℕ → ℕ → Item
+readForm Zeros c s at = readNumber c s at
+readForm Blanks c s at = readNumber c s at
+readForm FromSunday c s at = fromSunday (readNumber c s at)
+readForm Short c s at = readNamed c s at
+readForm Full c s at = readNamed c s at
+readForm Lower c s at = readNamed c s at
+readForm Unknown c s at = NoMatch at
+
+unfoldable pub readConversion : Conversion → List ℕ → ℕ → Item
+readConversion c s at = readForm (c .form) c s at
+
+-- an element at an offset of a text
+unfoldable pub readElement : ℕ → List ℕ → ℕ → Item
+readElement e s at = cond (ltb e 256) (readByte e s at) (readConversion (conversionOf (e - 256)) s at)

@@ -1,0 +1,5 @@
+-- What the reader means.
+pub mod Answers
+pub mod Elements
+pub mod Naming
+pub mod Reading

@@ -1,0 +1,62 @@
+-- Reading the elements from left to right, with the facts so far.
+use Prim.Native.Nat.{ℕ, suc}
+use mathlib.Core.Bool.{Bool, true, false, cond, _||_}
+use mathlib.Core.List.{List, [], _∷_}
+use lib.Dec.{eqb}
+use lib.ListN.{set, replicate}
+use Rattle.judge.specs.Agreement.{said}
+use Rattle.judge.specs.declared.Facts.{Facts}
+use Rattle.strptime.specs.Elements.{readElement}
+use Rattle.strptime.specs.declared.Outcome.{Outcome}
+use Rattle.strptime.specs.declared.Outcome.the-variants.{Read, Mismatch, Range, Conflict}
+use Rattle.strptime.specs.declared.State.{State}
+use Rattle.strptime.specs.declared.Stepped.{Stepped}
+use Rattle.strptime.specs.declared.elements.Item.{Item}
+use Rattle.strptime.specs.declared.elements.Item.the-variants.{Skip, Fact, NoMatch, OutOfRange}
+
+-- nothing said yet
+unfoldable pub unsaid : Facts
+unsaid = record { said = replicate 18 0 }
+
+unfoldable pub start : State
+start = record { facts = unsaid; at = 0 }
+
+-- a reading that goes on, and one that is refused and stays where it was
+unfoldable pub goes : Facts → ℕ → Stepped
+goes f at = record { state = record { facts = f; at = at }; outcome = Read }
+
+unfoldable pub stays : State → Outcome → Stepped
+stays t o = record { state = t; outcome = o }
+
+-- the facts with one more
+unfoldable pub told : Facts → ℕ → ℕ → Facts
+told f k n = record { said = set (f .said) k (suc n) }
+
+-- "Saying the same thing twice is allowed", saying it differently is 8
+unfoldable pub tell : State → ℕ → ℕ → ℕ → ℕ → Stepped
+tell t k n from next =
+    cond (eqb (said (t .facts) k) 0 || eqb (said (t .facts) k) (suc n)) (goes (told (t .facts) k n) next) (stays t (Conflict from))
+
+unfoldable pub taken : State → Item → Stepped
+taken t (Skip next) = goes (t .facts) next
+taken t (Fact k n from next) = tell t k n from next
+taken t (NoMatch p) = stays t (Mismatch p)
+taken t (OutOfRange p) = stays t (Range p)
+
+-- one element is read
+unfoldable pub stepOn : ℕ → List ℕ → State → Stepped
+stepOn e s t = taken t (readElement e s (t .at))
+
+unfoldable pub isRead : Outcome → Bool
+isRead Read = true
+isRead (Mismatch p) = false
+isRead (Range p) = false
+isRead (Conflict p) = false
+
+-- the elements in order, up to the first refusal
+unfoldable pub readAll : List ℕ → List ℕ → State → Stepped
+readAll [] s t = stays t Read
+readAll (e ∷ es) s t =
+    let r = stepOn e s t in
+    let more = readAll es s (r .state) in
+    cond (isRead (r .outcome)) more r

@@ -1,0 +1,137 @@
+// Reading one element of a format.
+use format::Conversion;
+use format::Form;
+use format::conversion_of;
+use text::NameRead;
+use text::Names;
+use text::is_space;
+use text::read_digits;
+use text::read_name;
+use text::skip_space;
+ghost use mathlib.Core.Path.{_≡_};
+ghost use Prim.Native.Nat.{_≤_, _<_};
+ghost use lib.ListN.{length};
+ghost use Rattle.strptime.specs.Naming.{namesFor, valueAt};
+ghost use Rattle.strptime.specs.Elements.{readByte, readNumber, fromSunday, readNamed, readConversion, readElement};
+
+// What an element found: nothing to say, a fact with the offset of its first digit or letter, or a refusal with its place.
+pub enum Item {
+    Skip(usize),
+    Fact(u32, u32, usize, usize),
+    NoMatch(usize),
+    OutOfRange(usize),
+}
+
+fn read_byte(b: u32, s: &[u8], at: usize) -> Item
+    requires { ⌜ (b < 256) × (at ≤ length (now s)) ⌝ }
+    ensures { λ r. ⌜ r ≡ readByte b (now (s .entry)) at ⌝ }
+{
+    if is_space(b as u8) {
+        return Item::Skip(skip_space(s, at));
+    }
+    if s.len() <= at {
+        return Item::NoMatch(at);
+    }
+    if s[at] != b as u8 {
+        return Item::NoMatch(at);
+    }
+    Item::Skip(at + 1)
+}
+
+fn read_number(c: Conversion, s: &[u8], at: usize) -> Item
+    requires { ⌜ (c .width ≤ 9) × (at ≤ length (now s)) ⌝ }
+    ensures { λ r. ⌜ r ≡ readNumber c (now (s .entry)) at ⌝ }
+{
+    let from = skip_space(s, at);
+    let digits = read_digits(s, from, c.width);
+    if digits.count == 0 {
+        return Item::NoMatch(from);
+    }
+    if digits.value < c.low {
+        return Item::OutOfRange(from);
+    }
+    if c.high < digits.value {
+        return Item::OutOfRange(from);
+    }
+    Item::Fact(c.kind, digits.value, from, from + digits.count)
+}
+
+fn from_sunday(item: Item) -> Item
+    ensures { λ r. ⌜ r ≡ fromSunday item ⌝ }
+{
+    match item {
+        Item::Fact(kind, number, from, next) => {
+            if number == 0 {
+                return Item::Fact(kind, 7, from, next);
+            }
+            Item::Fact(kind, number, from, next)
+        }
+        Item::Skip(next) => Item::Skip(next),
+        Item::NoMatch(p) => Item::NoMatch(p),
+        Item::OutOfRange(p) => Item::OutOfRange(p),
+    }
+}
+
+fn names_for(kind: u32) -> Names
+    ensures { λ r. ⌜ r ≡ namesFor kind ⌝ }
+{
+    if kind == 4 {
+        return Names::Months;
+    }
+    if kind == 7 {
+        return Names::Weekdays;
+    }
+    Names::Halves
+}
+
+fn value_at(kind: u32, i: usize) -> u32
+    requires { ⌜ i < 32 ⌝ }
+    ensures { λ r. ⌜ r ≡ valueAt kind i ⌝ }
+{
+    if kind == 15 {
+        return i as u32;
+    }
+    i as u32 + 1
+}
+
+fn read_named(c: Conversion, s: &[u8], at: usize) -> Item
+    requires { ⌜ at ≤ length (now s) ⌝ }
+    ensures { λ r. ⌜ r ≡ readNamed c (now (s .entry)) at ⌝ }
+{
+    match read_name(names_for(c.kind), s, at) {
+        NameRead::Found { index, length } => Item::Fact(
+            c.kind,
+            value_at(c.kind, index),
+            at,
+            at + length,
+        ),
+        NameRead::Nothing => Item::NoMatch(at),
+    }
+}
+
+fn read_conversion(c: Conversion, s: &[u8], at: usize) -> Item
+    requires { ⌜ (c .width ≤ 9) × (at ≤ length (now s)) ⌝ }
+    ensures { λ r. ⌜ r ≡ readConversion c (now (s .entry)) at ⌝ }
+{
+    let form = c.form;
+    match form {
+        Form::Zeros => read_number(c, s, at),
+        Form::Blanks => read_number(c, s, at),
+        Form::FromSunday => from_sunday(read_number(c, s, at)),
+        Form::Short => read_named(c, s, at),
+        Form::Full => read_named(c, s, at),
+        Form::Lower => read_named(c, s, at),
+        Form::Unknown => Item::NoMatch(at),
+    }
+}
+
+// An element at an offset of a text.
+pub(crate) fn read_element(element: u32, s: &[u8], at: usize) -> Item
+    requires { ⌜ at ≤ length (now s) ⌝ }
+    ensures { λ r. ⌜ r ≡ readElement element (now (s .entry)) at ⌝ }
+{
+    if element < 256 {
+        return read_byte(element, s, at);
+    }
+    read_conversion(conversion_of(element - 256), s, at)
+}
