@@ -1,4 +1,5 @@
 pub mod Sound
 pub mod Ways
 pub mod Walk
+pub mod Demand
 pub mod Opens

@@ -40,15 +40,15 @@ withHour t d Impossible = NoHour
 withHour t d (Open a b) = OpenHour a b
 withHour t d (Agreed h) = done t d (Is h)
 
--- 9 or 10 for the day first
-unfoldable pub withDay : State → Verdict → Answer
-withDay t NotSaid = withHour t NoDate (hourVerdict (t .facts))
-withDay t Impossible = NoDay
-withDay t (Open a b) = OpenDay (dateOf a) (dateOf b)
-withDay t (Agreed k) = withHour t (On (dateOf k)) (hourVerdict (t .facts))
+-- 9 or 10 for the day first, by the verdicts on the day and on the hour
+unfoldable pub withDay : State → Verdict → Verdict → Answer
+withDay t NotSaid w = withHour t NoDate w
+withDay t Impossible w = NoDay
+withDay t (Open a b) w = OpenDay (dateOf a) (dateOf b)
+withDay t (Agreed k) w = withHour t (On (dateOf k)) w
 
 unfoldable pub judged : State → Answer
-judged t = withDay t (dayVerdict (t .facts))
+judged t = withDay t (dayVerdict (t .facts)) (hourVerdict (t .facts))
 
 -- what the elements' reading comes to
 unfoldable pub concluded : State → Outcome → Answer

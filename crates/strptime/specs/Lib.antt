@@ -1,5 +1,6 @@
 -- What the reader means.
 pub mod Answers
+pub mod Demand
 pub mod Elements
 pub mod Naming
 pub mod Reading
