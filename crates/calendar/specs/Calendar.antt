@@ -105,3 +105,8 @@ isoYear k = yearOf (thursday k)
 -- "%V is how many Thursdays lie from 1 January of that year through it"
 unfoldable pub isoWeek : ℕ → ℕ
 isoWeek k = countOf 4 (isoYear k) (thursday k - daysBefore (isoYear k))
+
+-- everything here, for proofs that compute
+unfoldable pub computes : Unit {0}
+unfolding sum yearLength monthLengths monthLength dateFault dayOfYear daysBefore dayNumber days periodOf yearOf monthOf dateIn dateOf countOf sundayWeek mondayWeek thursday isoYear isoWeek
+computes = tt

@@ -15,3 +15,8 @@ fromFields y m d = cond (eqb (dateFault y m d) 0) (Valid (date y m d)) (Bad (dat
 -- the date whose day number is k, for the calendar's own days
 unfoldable pub fromDayNumber : ℕ → FromNumber
 fromDayNumber k = cond (within 1 days k) (Day (dateOf k)) Outside
+
+-- everything here, for proofs that compute
+unfoldable pub computes : Unit {0}
+unfolding fromFields fromDayNumber
+computes = tt

@@ -37,3 +37,8 @@ dayAgrees f k = dateAgrees f (dateOf k)
 
 unfoldable pub hourAgrees : Facts → ℕ → Bool
 hourAgrees f h = every (λ k. agrees (said f k) (hourValue k h)) 13 3
+
+-- everything here, for proofs that compute
+unfoldable pub computes : Unit {0}
+unfolding every dayBorne hourBorne agrees dateAgrees dayAgrees hourAgrees
+computes = tt

@@ -22,3 +22,8 @@ scan p (suc n) k h = let more = scan p n (suc k) (cond (p k) (hit k h) h) in con
 
 unfoldable pub firstTwo : (ℕ → Bool) → ℕ → ℕ → Found
 firstTwo p from n = scan p n from Nothing
+
+-- everything here, for proofs that compute
+unfoldable pub computes : Unit {0}
+unfolding hit isTwo scan firstTwo
+computes = tt

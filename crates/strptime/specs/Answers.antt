@@ -104,3 +104,8 @@ placeOf NoDay = 1
 placeOf NoHour = 2
 placeOf (OpenDay a b) = 1
 placeOf (OpenHour a b) = 2
+
+-- everything here, for proofs that compute
+unfoldable pub computes : Unit {0}
+unfolding saidOf done withHour withDay judged concluded readBy readElements readOpened reading numberOf placeOf
+computes = tt

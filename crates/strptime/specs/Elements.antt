@@ -69,3 +69,8 @@ readConversion c s at = readForm (c .form) c s at
 -- an element at an offset of a text
 unfoldable pub readElement : ℕ → List ℕ → ℕ → Item
 readElement e s at = cond (ltb e 256) (readByte e s at) (readConversion (conversionOf (e - 256)) s at)
+
+-- everything here, for proofs that compute
+unfoldable pub computes : Unit {0}
+unfolding ordinary readByte ranged readNumber fromSunday named readNamed readForm readConversion readElement
+computes = tt

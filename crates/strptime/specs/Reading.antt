@@ -60,3 +60,8 @@ readAll (e ∷ es) s t =
     let r = stepOn e s t in
     let more = readAll es s (r .state) in
     cond (isRead (r .outcome)) more r
+
+-- everything here, for proofs that compute
+unfoldable pub computes : Unit {0}
+unfolding unsaid start goes stays told tell taken stepOn isRead readAll
+computes = tt

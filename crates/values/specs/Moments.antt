@@ -17,3 +17,8 @@ momentOf y m d h n s =
     cond (eqb (momentFault y m d h n s) 0)
     (Valid (record { date = date y m d; hour = h; minute = n; second = s }))
     (Bad (momentFault y m d h n s))
+
+-- everything here, for proofs that compute
+unfoldable pub computes : Unit {0}
+unfolding momentFault momentOf
+computes = tt

@@ -57,3 +57,8 @@ value k m =
     (cond (leb k 15) (hourValue k (m .hour))
     (cond (eqb k 16) (m .minute)
     (cond (eqb k 17) (m .second) 0)))
+
+-- everything here, for proofs that compute
+unfoldable pub computes : Unit {0}
+unfolding dateValues dateValue hourOfTwelve halfOfDay hourValue value
+computes = tt
