@@ -85,7 +85,7 @@ dateOf k = dateIn (yearOf k) (k - daysBefore (yearOf k))
 
 -- how many of the first n days of year y fall on weekday w
 unfoldable pub countOf : ℕ → ℕ → ℕ → ℕ
-countOf w y n = sum (λ i. cond (eqb (weekday (daysBefore y + i)) w) 1 0) n
+countOf w y n = let before = daysBefore y in sum (λ i. cond (eqb (weekday (before + i)) w) 1 0) n
 
 -- %U: "how many Sundays lie from 1 January through the date"; %W: "the same for Mondays"
 unfoldable pub sundayWeek : ℕ → ℕ → ℕ → ℕ

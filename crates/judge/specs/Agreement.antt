@@ -15,7 +15,7 @@ said f k = getD (f .said) k 0
 -- a test holds of every one of the n kinds from k on
 unfoldable pub every : (ℕ → Bool) → ℕ → ℕ → Bool
 every p k zero = true
-every p k (suc n) = p k && every p (suc k) n
+every p k (suc n) = let more = every p (suc k) n in p k && more
 
 -- "Kinds 1 to 12, the date facts, bear on the day, 13 to 15 on the hour": not every one of them is unsaid
 unfoldable pub dayBorne : Facts → Bool
@@ -26,7 +26,7 @@ hourBorne f = not (every (λ k. eqb (said f k) 0) 13 3)
 
 -- what was said of a kind, if anything was, is the value v
 unfoldable pub agrees : ℕ → ℕ → Bool
-agrees s v = cond (eqb s 0) true (eqb (s - 1) v)
+agrees s v = let same = eqb (s - 1) v in cond (eqb s 0) true same
 
 -- a date, and an hour, agree with every fact that bears on them: the writer would write each of those facts
 unfoldable pub dateAgrees : Facts → Date → Bool

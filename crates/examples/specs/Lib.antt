@@ -1,0 +1,2 @@
+-- The starred cases of paper 01.
+pub mod Starred
