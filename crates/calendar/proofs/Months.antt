@@ -19,25 +19,23 @@ use Rattle.laws.proofs.Table.{both, all, at}
 months : Bool → ℕ → ℕ
 months b m = cond (eqb m 2 && b) 29 (getD monthLengths m 0)
 
--- the code's table: the days before each month, at the month's number, in a year that is not leap
-abbrev pub monthStarts : List ℕ
-monthStarts = 0 ∷ 0 ∷ 31 ∷ 59 ∷ 90 ∷ 120 ∷ 151 ∷ 181 ∷ 212 ∷ 243 ∷ 273 ∷ 304 ∷ 334 ∷ []
+-- the code's sum is right for a month: past February it runs a day ahead in a leap year, and two in others
+lacks : Bool → ℕ → ℕ
+lacks b m = cond (leb 3 m) (cond b 1 2) 0
 
--- an entry is right: past February a leap year is a day ahead; and it is small
-abbrev right : Bool → ℕ → Bool
-right b m = eqb (sum (months b) (m - 1)) (getD monthStarts m 0 + cond (leb 3 m && b) 1 0) && leb (getD monthStarts m 0) 334
+right : Bool → ℕ → Bool
+right b m = cond (eqb m 0) true (eqb (sum (months b) (m - 1) + lacks b m) ((367 * m - 362) / 12))
 
 all-right : (b : Bool) → T (all (right b) 13)
-unfolding sum months monthLengths
+unfolding right lacks sum months monthLengths
 all-right true = tt
 all-right false = tt
 
-pub month-start : (y m : ℕ) → m < 13 → (sum (monthLength y) (m - 1) ≡ getD monthStarts m 0 + cond (leb 3 m && leap y) 1 0) × (getD monthStarts m 0 ≤ 334)
-unfolding monthLength months
-month-start y m h =
-    let start = eqb (sum (months (leap y)) (m - 1)) (getD monthStarts m 0 + cond (leb 3 m && leap y) 1 0) in
-    let t = both start (leb (getD monthStarts m 0) 334) (at (right (leap y)) 13 (all-right (leap y)) m h) in
-    (eqb→eq (sum (months (leap y)) (m - 1)) _ (t .0), leb→le (getD monthStarts m 0) 334 (t .1))
+pub month-start : (y m : ℕ) → 0 < m → m ≤ 12 → sum (monthLength y) (m - 1) + cond (leb 3 m) (cond (leap y) 1 2) 0 ≡ (367 * m - 362) / 12
+unfolding monthLength months right lacks
+month-start y m p h =
+    let t = at (right (leap y)) 13 (all-right (leap y)) m (omega arith) in
+    eqb→eq _ _ (rw (ne-eqb m 0 (λ (e : m ≡ 0). omega arith)) at t)
 
 -- there is no month past 12
 pub no-month : (y m : ℕ) → 12 < m → monthLength y m ≡ 0

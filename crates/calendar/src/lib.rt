@@ -7,9 +7,6 @@ ghost use Rattle.calendar.specs.Dates.{fromFields, fromDayNumber};
 // The days of each month in a year that is not leap, at the month's number; there is no month 0.
 const MONTH_LENGTHS: [u32; 13] = [0, 31, 28, 31, 30, 31, 30, 31, 31, 30, 31, 30, 31];
 
-// The days before each month in a year that is not leap, at the month's number.
-const DAYS_BEFORE_MONTH: [u32; 13] = [0, 0, 31, 59, 90, 120, 151, 181, 212, 243, 273, 304, 334];
-
 pub struct Date {
     pub year: u16,
     pub month: u8,
@@ -70,21 +67,24 @@ fn days_before(year: u32) -> u32
     365 * past + past / 4 - past / 100 + past / 400
 }
 
-// The days of the year before `month`.
+// The days of the year before `month`: months of 30 and 31 days by turns, less what February lacks.
 fn days_before_month(year: u32, month: u32) -> u32
     ensures { λ r. ⌜ r ≡ sum (monthLength year) (month - 1) ⌝ }
 {
+    if month < 1 {
+        return 0;
+    }
     if 12 < month {
         return year_length(year);
     }
-    let days = DAYS_BEFORE_MONTH[month as usize];
+    let days = (367 * month - 362) / 12;
     if month <= 2 {
         return days;
     }
     if is_leap(year) {
-        return days + 1;
+        return days - 1;
     }
-    days
+    days - 2
 }
 
 // The year that day `k` falls in: the estimate is right or one year short.
