@@ -112,7 +112,7 @@ module _
           impossible = (λ x. clash (cc), λ g. absurd (g c (first .is-first) (first .first-agrees)));
           «open» = λ a b. (
             λ x. let s : c ≡ a = cc in let t : d ≡ b = cc in (borne-by e, rw (← s, ← t) first),
-            λ u. let s = same-two a b c d (u .1) first in rw (s .0, s .1),
+            λ u. let s = same-two a b c d (u .1) first in let v = s .0 in let w = s .1 in cc,
           );
           agreed = λ a. (
             λ x. clash (cc),
@@ -151,7 +151,7 @@ agrees-suc : (n v : ℕ) → agrees (suc n) v ≡ eqb n v
 unfolding agrees
 agrees-suc n v =
     let e : suc n - 1 ≡ n = omega arith in
-    rw (ne-eqb (suc n) 0 (λ (z : suc n ≡ 0). omega arith), e)
+    rw (ne-eqb (suc n) 0 (λ (z : suc n ≡ 0). omega arith)) (ap (λ (x : ℕ). eqb x v) e)
 
 agrees-is : (s v n : ℕ) → agrees s v ≡ true → s ≡ suc n → v ≡ n
 agrees-is s v n e h = sym (eqb-true n v (sym (agrees-suc n v) ∙ rw h at e))

@@ -1,3 +1,4 @@
+pub mod DayValues
 pub mod Demand
 pub mod Every
 pub mod Parts

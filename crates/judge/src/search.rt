@@ -1,17 +1,30 @@
 // The day-by-day search, and the same over the hours.
 use crate::Facts;
 use crate::Found;
+use crate::agreement::any_said;
 use crate::agreement::date_kinds_agree;
 use crate::agreement::hour_agrees;
 use calendar::Date;
 use calendar::month_length;
-ghost use mathlib.Core.Bool.{_&&_};
+ghost use mathlib.Core.Bool.{not, _&&_};
 ghost use mathlib.Core.Path.{_≡_};
 ghost use Prim.Native.Nat.{_<_, _^_};
-ghost use Rattle.calendar.specs.Calendar.{date, days};
+ghost use lib.Dec.{eqb};
+ghost use Rattle.calendar.specs.Calendar.{date, daysBefore, dayNumber, days};
 ghost use Rattle.values.specs.Values.{dateValue};
 ghost use Rattle.judge.specs.Agreement.{said, every, agrees, dayAgrees, hourAgrees};
 ghost use Rattle.judge.specs.Search.{firstTwo};
+
+fn date_at(year: u32, month: u32, day: u32) -> Date
+    requires { ⌜ (year < 2 ^ 16) × (month < 2 ^ 8) × (day < 2 ^ 8) ⌝ }
+    ensures { λ r. ⌜ r ≡ date year month day ⌝ }
+{
+    Date {
+        year: year as u16,
+        month: month as u8,
+        day: day as u8,
+    }
+}
 
 // Whether the year agrees, which is known, and the month too.
 fn month_agrees(facts: Facts, year_agrees: bool, year: u32, month: u32) -> bool
@@ -21,36 +34,59 @@ fn month_agrees(facts: Facts, year_agrees: bool, year: u32, month: u32) -> bool
     if !year_agrees {
         return false;
     }
-    date_kinds_agree(
-        facts,
-        Date {
-            year: year as u16,
-            month: month as u8,
-            day: 1,
-        },
-        4,
-        5,
-    )
+    date_kinds_agree(facts, date_at(year, month, 1), 4, 5)
+}
+
+// Whether something else was said than the value.
+fn says_other(said: u32, value: u32) -> bool
+    ensures { λ r. ⌜ r ≡ not (agrees said value) ⌝ }
+{
+    if said == 0 {
+        return false;
+    }
+    said - 1 != value
+}
+
+// Whether the day agrees too: kinds 5 to 12. `number` is its day number, `before` counts the days before its year, and `iso`
+// says whether any ISO year or week was said.
+fn day_agrees(facts: Facts, iso: bool, date: Date, number: u32, before: u32) -> bool
+    requires { ⌜ (number ≡ dayNumber (date .year) (date .month) (date .day)) × (before ≡ daysBefore (date .year)) ⌝ }
+    requires { ⌜ (number < 2 ^ 25) × (iso ≡ not (every (λ k. eqb (said facts k) 0) 10 3)) ⌝ }
+    ensures { λ r. ⌜ r ≡ every (λ k. agrees (said facts k) (dateValue k date)) 5 8 ⌝ }
+{
+    let said = facts.said;
+    if says_other(said[5], date.day as u32) {
+        return false;
+    }
+    if says_other(said[6], number - before) {
+        return false;
+    }
+    if says_other(said[7], (number + 6) % 7 + 1) {
+        return false;
+    }
+    if says_other(said[8], number / 7 - before / 7) {
+        return false;
+    }
+    if says_other(said[9], (number + 6) / 7 - (before + 6) / 7) {
+        return false;
+    }
+    if !iso {
+        return true;
+    }
+    date_kinds_agree(facts, date, 10, 13)
 }
 
 // The first two days that agree with all date facts, by their day numbers. What hangs on the year or the month alone is tested once for it.
 pub fn search_days(facts: Facts) -> Found
     ensures { λ r. ⌜ r ≡ firstTwo (dayAgrees facts) 1 days ⌝ }
 {
+    let iso = any_said(facts, 10, 13);
     let mut found = Found::Nothing;
     let mut number: u32 = 1;
     let mut year: u32 = 1;
     'years: while year <= 9999 {
-        let year_agrees = date_kinds_agree(
-            facts,
-            Date {
-                year: year as u16,
-                month: 1,
-                day: 1,
-            },
-            1,
-            4,
-        );
+        let before = number - 1;
+        let year_agrees = date_kinds_agree(facts, date_at(year, 1, 1), 1, 4);
         let mut month: u32 = 1;
         while month <= 12 {
             let month_agrees = month_agrees(facts, year_agrees, year, month);
@@ -58,16 +94,7 @@ pub fn search_days(facts: Facts) -> Found
             let mut day: u32 = 1;
             while day <= length {
                 if month_agrees {
-                    if date_kinds_agree(
-                        facts,
-                        Date {
-                            year: year as u16,
-                            month: month as u8,
-                            day: day as u8,
-                        },
-                        5,
-                        13,
-                    ) {
+                    if day_agrees(facts, iso, date_at(year, month, day), number, before) {
                         match found {
                             Found::Nothing => {
                                 found = Found::One(number);

@@ -72,13 +72,17 @@ module _ (c : Conversion) (s : List ℕ) (at : ℕ) {from : ℕ} {d : Digits} (e
 
 -- ---- a name
 module _ (c : Conversion) (s : List ℕ) (at : ℕ) {t : Names} {r : NameRead} (g : t ≡ namesFor (c .kind)) (e : r ≡ readName t (drop at s)) where
+  name-is : {x : NameRead} → r ≡ x → named (c .kind) x at ≡ readNamed c s at
+  unfolding readNamed
+  name-is f = ap (λ (x : NameRead). named (c .kind) x at) (sym f ∙ e ∙ ap (λ (t : Names). readName t (drop at s)) g)
+
   pub name-found : (i n : ℕ) {v : ℕ} → r ≡ Found i n → v ≡ valueAt (c .kind) i → Fact (c .kind) v at (at + n) ≡ readNamed c s at
-  unfolding readNamed named
-  name-found i n f h = rw (← g, ← e, f, h)
+  unfolding named
+  name-found i n f h = rw h (name-is f)
 
   pub name-none : r ≡ Nothing → NoMatch at ≡ readNamed c s at
-  unfolding readNamed named
-  name-none f = rw (← g, ← e, f)
+  unfolding named
+  name-none f = name-is f
 
 -- ---- a conversion, by its form
 pub by-form : (c : Conversion) (s : List ℕ) (at : ℕ) {f : Form} {i : Item} → c .form ≡ f → i ≡ readForm f c s at → i ≡ readConversion c s at

@@ -1,5 +1,6 @@
 -- `judge::judging::judge_day` meets its contract. Assumes nothing.
-use mathlib.Core.Path.{sym, ap, _∙_}
+use mathlib.Core.Bool.{true, false}
+use mathlib.Core.Path.{_≡_, sym, ap, _∙_}
 use borrow.Author.Needs.{needs}
 use Rattle.judge.specs.Agreement.{dayBorne}
 use Rattle.judge.specs.Verdicts.{verdictOf, dayVerdict}
@@ -17,11 +18,15 @@ verdict-of-requires c κs = search needs
 
 returns : tie.Need-returns
 unfolding dayVerdict dayBorne
-returns c = rw (sym (c .before .before .before .any-said .ensures) ∙ c .before .before .if1 .taken) (c .verdict-of .ensures ∙ ap verdictOf (c .before .search-days .ensures))
+returns c =
+    let b : dayBorne (c .before .before .before .before .args .facts) ≡ true = sym (c .before .before .before .any-said .ensures) ∙ c .before .before .if1 .taken in
+    rw b (c .verdict-of .ensures ∙ ap verdictOf (c .before .search-days .ensures))
 
 returns-2 : tie.Need-returns-2
 unfolding dayVerdict dayBorne
-returns-2 c = rw (sym (c .before .any-said .ensures) ∙ c .if1 .left)
+returns-2 c =
+    let b : dayBorne (c .before .before .args .facts) ≡ false = sym (c .before .any-said .ensures) ∙ c .if1 .left in
+    rw b
 
 pub judge-day-spec : {M : Type 1} → statement M
 judge-day-spec =

@@ -19,64 +19,74 @@ use Rattle.judge.proofs.search.search_days.Statement.{statement}
 use Rattle.judge.proofs.search.search_days.Tie as tie
 
 abbrev Inv-loop2 : tie.InvT-loop2
-Inv-loop2 facts found₀ number₀ year year-agrees month month-agrees length day₀ found number day = AtDay (dayAgrees facts) year month day number found
+Inv-loop2 facts iso found₀ number₀ year before year-agrees month month-agrees length day₀ found number day =
+    AtDay (dayAgrees facts) year month day number found
 
 abbrev μ-loop2 : tie.MeasureT-loop2
-μ-loop2 facts found₀ number₀ year year-agrees month month-agrees length day₀ found number day = length + 1 - day
+μ-loop2 facts iso found₀ number₀ year before year-agrees month month-agrees length day₀ found number day =
+    length + 1 - day
 
 abbrev Inv-loop : tie.InvT-loop
-Inv-loop facts found₀ number₀ year year-agrees month₀ found number month = AtMonth (dayAgrees facts) year month number found
+Inv-loop facts iso found₀ number₀ year before year-agrees month₀ found number month = AtMonth (dayAgrees facts) year month number found
 
 abbrev μ-loop : tie.MeasureT-loop
-μ-loop facts found₀ number₀ year year-agrees month₀ found number month = 13 - month
+μ-loop facts iso found₀ number₀ year before year-agrees month₀ found number month = 13 - month
 
 abbrev Inv-years : tie.InvT-years
-Inv-years facts found₀ number₀ year₀ found number year = AtYear (dayAgrees facts) year number found
+Inv-years facts iso found₀ number₀ year₀ found number year = AtYear (dayAgrees facts) year number found
 
 abbrev μ-years : tie.MeasureT-years
-μ-years facts found₀ number₀ year₀ found number year = 10000 - year
+μ-years facts iso found₀ number₀ year₀ found number year = 10000 - year
 
 abbrev In-day : Type 0
 In-day = tie.In-loop2 Inv-loop2 μ-loop2 Inv-loop μ-loop Inv-years μ-years
 
 -- at a day: the facts, the date, and that the date is valid
 abbrev facts-at : In-day → Facts
-facts-at c = c .before .before .before .before .before .before .before .before .before .args .facts
+facts-at c = c .before .before .before .before .before .before .before .before .before .before .before .args .facts
 
-abbrev date-at : In-day → Date
-date-at c =
-    date (c .before .before .before .before .before .before .before .before .years .year)
-    (c .before .before .before .before .before .loop .month)
-    (c .before .loop2 .day)
+abbrev here-date : In-day → Date
+here-date c = date (c .before .before .before .before .before .before .before .before .before .years .year) (c .before .before .before .before .before .loop .month) (c .before .loop2 .day)
 
-in-month : (c : In-day) → date-at c .day ≤ monthLength (date-at c .year) (date-at c .month)
+in-month : (c : In-day) → here-date c .day ≤ monthLength (here-date c .year) (here-date c .month)
 in-month c = omega (arith, c .before .before .month-length .ensures)
 
 -- what the code tests by year, month and day is the agreement of the day
-here : (c : In-day) → dayAgrees (facts-at c) (c .before .loop2 .number) ≡ (c .before .before .before .month-agrees .result && on (facts-at c) (date-at c) 5 8)
+here : (c : In-day) → dayAgrees (facts-at c) (c .before .loop2 .number) ≡ (c .before .before .before .month-agrees .result && on (facts-at c) (here-date c) 5 8)
 here c =
     let f = facts-at c in
-    let t = date-at c in
+    let t = here-date c in
     let a = c .before .loop2 .inv in
+    let y = c .before .before .before .before .before .before in
     ap (dayAgrees f) (a .at)
     ∙ agrees-by-parts f (t .year) (t .month) (t .day) (valid-here _ _ _ _ _ _ a (in-month c))
     ∙ ap (λ (b : Bool). b && on f t 5 8)
     (sym
     (c .before .before .before .month-agrees .ensures
-    ∙ ap (λ (b : Bool). b && on f (date (t .year) (t .month) 1) 4 1) (c .before .before .before .before .before .before .date-kinds-agree .ensures)))
+    ∙ ap (λ (b : Bool). b && on f (date (t .year) (t .month) 1) 4 1) (y .date-kinds-agree .ensures ∙ ap (λ (u : Date). on f u 1 3) (y .before .date-at .ensures))))
+
+-- the test of the day itself
+tested : (c : tie.After-day-agrees Inv-loop2 μ-loop2 Inv-loop μ-loop Inv-years μ-years) → c .day-agrees .result ≡ on (facts-at (c .before .before .before)) (here-date (c .before .before .before)) 5 8
+tested c = c .day-agrees .ensures ∙ ap (λ (u : Date). on (facts-at (c .before .before .before)) u 5 8) (c .before .date-at2 .ensures)
+
+any-said-requires : tie.Need-any-said-requires Inv-loop2 μ-loop2 Inv-loop μ-loop Inv-years μ-years
+any-said-requires c κs = search needs
 
 years-holds : tie.Need-years-holds Inv-loop2 μ-loop2 Inv-loop μ-loop Inv-years μ-years
 years-holds c = first-year _
 
-cast-t12 : tie.Need-cast-t12 Inv-loop2 μ-loop2 Inv-loop μ-loop Inv-years μ-years
-cast-t12 c = omega arith
+sub-before : tie.Need-sub-before Inv-loop2 μ-loop2 Inv-loop μ-loop Inv-years μ-years
+sub-before c = omega (arith, c .before .years .inv .at)
+
+date-at-requires : tie.Need-date-at-requires Inv-loop2 μ-loop2 Inv-loop μ-loop Inv-years μ-years
+date-at-requires c κs = omega arith
 
 date-kinds-agree-requires :
     tie.Need-date-kinds-agree-requires Inv-loop2 μ-loop2 Inv-loop μ-loop Inv-years μ-years
 date-kinds-agree-requires c κs = search needs
 
 loop-holds : tie.Need-loop-holds Inv-loop2 μ-loop2 Inv-loop μ-loop Inv-years μ-years
-loop-holds c = first-month _ _ _ _ (c .before .before .years .inv) (omega arith)
+loop-holds c = first-month _ _ _ _ (c .before .before .before .years .inv) (omega arith)
 
 month-agrees-requires :
     tie.Need-month-agrees-requires Inv-loop2 μ-loop2 Inv-loop μ-loop Inv-years μ-years
@@ -89,18 +99,17 @@ month-length-requires c κs = search needs
 loop2-holds : tie.Need-loop2-holds Inv-loop2 μ-loop2 Inv-loop μ-loop Inv-years μ-years
 loop2-holds c = first-day _ _ _ _ _ (c .before .before .before .loop .inv) (omega arith)
 
-cast-t17 : tie.Need-cast-t17 Inv-loop2 μ-loop2 Inv-loop μ-loop Inv-years μ-years
-cast-t17 c = omega arith
+date-at-requires-2 :
+    tie.Need-date-at-requires-2 Inv-loop2 μ-loop2 Inv-loop μ-loop Inv-years μ-years
+date-at-requires-2 c κs = omega (arith, c .before .before .before .month-length .ensures, month-most (c .before .before .before .before .before .before .before .before .before .before .years .year) (c .before .before .before .before .before .before .loop .month))
 
-cast-t18 : tie.Need-cast-t18 Inv-loop2 μ-loop2 Inv-loop μ-loop Inv-years μ-years
-cast-t18 c = omega arith
-
-cast-t19 : tie.Need-cast-t19 Inv-loop2 μ-loop2 Inv-loop μ-loop Inv-years μ-years
-cast-t19 c = omega (arith, c .before .before .before .month-length .ensures, month-most (c .before .before .before .before .before .before .before .before .before .years .year) (c .before .before .before .before .before .before .loop .month))
-
-date-kinds-agree-requires-2 :
-    tie.Need-date-kinds-agree-requires-2 Inv-loop2 μ-loop2 Inv-loop μ-loop Inv-years μ-years
-date-kinds-agree-requires-2 c κs = search needs
+day-agrees-requires :
+    tie.Need-day-agrees-requires Inv-loop2 μ-loop2 Inv-loop μ-loop Inv-years μ-years
+day-agrees-requires c κs =
+    let d = c .before .before in
+    let a = d .before .loop2 .inv in
+    rw (c .date-at2 .ensures)
+    ((a .at, omega (arith, d .before .before .before .before .before .before .before .before .before .years .inv .at)), (omega (arith, a .so-far .upto, days-is), d .before .before .before .before .before .before .before .before .before .before .any-said .ensures))
 
 enum-told : tie.Need-enum-told Inv-loop2 μ-loop2 Inv-loop μ-loop Inv-years μ-years
 enum-told c = search needs
@@ -112,7 +121,7 @@ enum-told-2 : tie.Need-enum-told-2 Inv-loop2 μ-loop2 Inv-loop μ-loop Inv-years
 enum-told-2 c = search needs
 
 add-day : tie.Need-add-day Inv-loop2 μ-loop2 Inv-loop μ-loop Inv-years μ-years
-add-day c = omega (arith, c .before .before .before .month-length .ensures, month-most (c .before .before .before .before .before .before .before .before .before .years .year) (c .before .before .before .before .before .before .loop .month))
+add-day c = omega (arith, c .before .before .before .month-length .ensures, month-most (c .before .before .before .before .before .before .before .before .before .before .years .year) (c .before .before .before .before .before .before .loop .month))
 
 add-number : tie.Need-add-number Inv-loop2 μ-loop2 Inv-loop μ-loop Inv-years μ-years
 add-number c = omega (arith, c .before .before .loop2 .inv .so-far .upto, days-is)
@@ -125,13 +134,12 @@ unfolding hit
 loop2-again c =
     let a = c .before .before .loop2 .inv in
     let l = in-month (c .before) in
+    let h = here (c .before) in
     ⊎-elim
-    (λ w. rw (w .5)
-    (rw (w .4 .given .1) at
-    (next-day-hit _ _ _ _ _ _ a l (both-hold (here (c .before)) (w .0 .taken) (sym (w .1 .ensures) ∙ w .2 .taken)))))
+    (λ w. rw (w .6) (rw (w .5 .given .1) at (next-day-hit _ _ _ _ _ _ a l (both-hold h (w .0 .taken) (sym (tested (record { before = record { before = record { before = c .before; if1 = w .0 }; date-at2 = w .1 }; day-agrees = w .2 })) ∙ w .3 .taken)))))
     (⊎-elim
-    (λ w. rw (w .3) (next-day-miss _ _ _ _ _ _ a l (second-fails (here (c .before)) (w .0 .taken) (sym (w .1 .ensures) ∙ w .2 .left))))
-    (λ w. rw (w .1) (next-day-miss _ _ _ _ _ _ a l (first-fails _ (here (c .before)) (w .0 .left)))))
+    (λ w. rw (w .4) (next-day-miss _ _ _ _ _ _ a l (second-fails h (w .0 .taken) (sym (tested (record { before = record { before = record { before = c .before; if1 = w .0 }; date-at2 = w .1 }; day-agrees = w .2 })) ∙ w .3 .left))))
+    (λ w. rw (w .1) (next-day-miss _ _ _ _ _ _ a l (first-fails _ h (w .0 .left)))))
     (c .if1 .came)
 
 add-month : tie.Need-add-month Inv-loop2 μ-loop2 Inv-loop μ-loop Inv-years μ-years
@@ -158,15 +166,14 @@ returns c = no-more-years _ _ _ _ (c .before .years .inv) (omega arith)
 returns-2 : tie.Need-returns-2 Inv-loop2 μ-loop2 Inv-loop μ-loop Inv-years μ-years
 unfolding hit
 returns-2 c =
-    let d = c .before .before .before .before .before .before in
-    let a = d .before .loop2 .inv in
-    let e = both-hold (here d) (c .before .before .before .before .before .if1 .taken) (sym (c .before .before .before .before .date-kinds-agree2 .ensures) ∙ c .before .before .before .if2 .taken) in
-    so-far-two _ 1 days _ _ _ (rw (c .before .found .given .1) at (next-day-hit _ _ _ _ _ _ a (in-month d) e .so-far))
+    let d = c .before .before .before .before .before .before .before in
+    let e = both-hold (here d) (c .before .before .before .before .before .before .if1 .taken) (sym (tested (c .before .before .before .before)) ∙ c .before .before .before .if2 .taken) in
+    so-far-two _ 1 days _ _ _ (rw (c .before .found .given .1) at (next-day-hit _ _ _ _ _ _ (d .before .loop2 .inv) (in-month d) e .so-far))
 
 returns-3 : tie.Need-returns-3 Inv-loop2 μ-loop2 Inv-loop μ-loop Inv-years μ-years
 returns-3 c =
     let e = c .enum-told2 .given .1 in
-    e ∙ so-far-two _ 1 days _ _ _ (rw e at (c .before .before .before .before .before .before .loop2 .inv .so-far))
+    e ∙ so-far-two _ 1 days _ _ _ (rw e at (c .before .before .before .before .before .before .before .loop2 .inv .so-far))
 
 pub search-days-spec : {M : Type 1} → statement M
 search-days-spec =
@@ -178,17 +185,17 @@ search-days-spec =
     μ-loop
     Inv-years
     μ-years
+    any-said-requires
     years-holds
-    cast-t12
+    sub-before
+    date-at-requires
     date-kinds-agree-requires
     loop-holds
     month-agrees-requires
     month-length-requires
     loop2-holds
-    cast-t17
-    cast-t18
-    cast-t19
-    date-kinds-agree-requires-2
+    date-at-requires-2
+    day-agrees-requires
     enum-told
     enum-known-found
     enum-told-2

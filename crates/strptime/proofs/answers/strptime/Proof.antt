@@ -4,17 +4,17 @@ use borrow.Author.Needs.{needs}
 use borrow.Author.Tests.{le-leb, lt-leb}
 use lib.ListN.{length}
 use denote.Ref.{now}
-use Rattle.strptime.specs.Answers.{reading}
+use Rattle.strptime.specs.Answers.{most, reading}
 use Rattle.strptime.proofs.answers.strptime.Statement.{statement}
 use Rattle.strptime.proofs.answers.strptime.Tie as tie
 
 returns : tie.Need-returns
 unfolding reading
-returns c = rw (lt-leb (length (now (c .before .before .before .args .format))) 1024 (omega arith))
+returns c = rw (lt-leb (length (now (c .before .before .before .args .format))) most (omega arith))
 
 returns-2 : tie.Need-returns-2
 unfolding reading
-returns-2 c = rw (le-leb (length (now (c .before .before .before .before .args .format))) 1024 (omega arith), lt-leb (length (now (c .before .before .before .before .args .text))) 1024 (omega arith))
+returns-2 c = rw (le-leb (length (now (c .before .before .before .before .args .format))) most (omega arith), lt-leb (length (now (c .before .before .before .before .args .text))) most (omega arith))
 
 slice-aggregate-read-opened : tie.Need-slice-aggregate-read-opened
 slice-aggregate-read-opened c = search needs
@@ -24,7 +24,7 @@ read-opened-requires c κs = search needs
 
 returns-3 : tie.Need-returns-3
 unfolding reading
-returns-3 c = rw (le-leb (length (now (c .before .before .before .before .before .before .before .before .args .format))) 1024 (omega arith), le-leb (length (now (c .before .before .before .before .before .before .before .before .args .text))) 1024 (omega arith)) (c .before .read-opened .ensures)
+returns-3 c = rw (le-leb (length (now (c .before .before .before .before .before .before .before .before .args .format))) most (omega arith), le-leb (length (now (c .before .before .before .before .before .before .before .before .args .text))) most (omega arith)) (c .before .read-opened .ensures)
 
 slice-aggregate-read-opened-2 : tie.Need-slice-aggregate-read-opened-2
 slice-aggregate-read-opened-2 c = search needs
@@ -34,7 +34,7 @@ read-opened-requires-2 c κs = search needs
 
 returns-4 : tie.Need-returns-4
 unfolding reading
-returns-4 c = rw (le-leb (length (now (c .before .before .before .before .before .before .before .before .args .format))) 1024 (omega arith), le-leb (length (now (c .before .before .before .before .before .before .before .before .args .text))) 1024 (omega arith)) (c .before .read-opened2 .ensures)
+returns-4 c = rw (le-leb (length (now (c .before .before .before .before .before .before .before .before .args .format))) most (omega arith), le-leb (length (now (c .before .before .before .before .before .before .before .before .args .text))) most (omega arith)) (c .before .read-opened2 .ensures)
 
 pub strptime-spec : {M : Type 1} → statement M
 strptime-spec =
