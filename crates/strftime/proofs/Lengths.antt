@@ -1,0 +1,142 @@
+-- What an element writes, and how long that is: at most nine bytes, by one test over the table of conversions.
+-- Assumes nothing.
+use Prim.Native.Nat.{ℕ, zero, suc, _+_, _-_, _*_, _/_, _≤_, _<_}
+use mathlib.Core.Bool.{Bool, true, false, cond, _&&_}
+use mathlib.Core.List.{List, [], _∷_, _++_, map, append-nil}
+use mathlib.Core.Path.{_≡_, refl, ap, _∙_}
+use native.Mathlib.Numerals.{add-one}
+use native.Mathlib.Omega.{arith}
+use borrow.Author.Tests.{lt-ltb, le-ltb}
+use lib.Dec.{T, eqb, leb, ltb, leb→le}
+use lib.ListN.{length, take, drop, getD, replicate, length-append, length-take, length-map, drop-of-length-le}
+use lib.Seq.{drop-cons, take-length}
+use Rattle.laws.proofs.Table.{both}
+use Rattle.text.specs.Case.{fold}
+use Rattle.text.specs.Digits.{leading, number}
+use Rattle.text.specs.Names.{nameAt}
+use Rattle.text.specs.Rows.{padded}
+use Rattle.text.specs.declared.names.Names.{Names}
+use Rattle.text.proofs.Rows.{held}
+use Rattle.format.specs.Conversions.{Row, rows, find, conversionOf, computes}
+use Rattle.format.specs.declared.conversions.Conversion.{Conversion}
+use Rattle.format.specs.declared.conversions.Form.{Form}
+use Rattle.format.specs.declared.conversions.Form.the-variants.{Zeros, Blanks, FromSunday, Short, Full, Lower, Unknown}
+use Rattle.values.specs.Values.{value}
+use Rattle.values.specs.declared.Moment.{Moment}
+use Rattle.strftime.specs.Writing.{nameFor, namesFor, placeFor, formed, converted, element, text}
+
+leading-length : (f w n : ℕ) → length (leading f w n) ≡ w
+unfolding leading
+leading-length f zero n = refl
+leading-length f (suc w) n =
+    rw length-append (omega (arith, leading-length f w (n / 10)))
+
+pub number-length : (f w n : ℕ) → length (number f w n) ≡ w
+unfolding number
+number-length f zero n = refl
+number-length f (suc w) n =
+    rw length-append (omega (arith, leading-length f w (n / 10)))
+
+-- ---- what an element writes
+
+module _ (m : Moment) (e : ℕ) where
+  pub element-byte : e < 256 → element m e ≡ e ∷ []
+  unfolding element
+  element-byte h = rw (lt-ltb e 256 h)
+
+  pub element-conversion : {c : Conversion} {v : ℕ} → 256 ≤ e → c ≡ conversionOf (e - 256) → v ≡ value (c .kind) m
+      → element m e ≡ formed (c .form) (c .width) (c .kind) v
+  unfolding element converted
+  element-conversion h p q = rw (le-ltb e 256 h, ← p, ← q)
+
+-- ---- what is written over the whole of a part
+
+pub named : {t : Names} {i : ℕ} (k v : ℕ) → t ≡ namesFor k → i ≡ placeFor k v → nameAt t i ≡ nameFor k v
+unfolding nameFor
+named k v p q = rw (p, q)
+
+take-part : (k : ℕ) (x : List ℕ) → take (length (take k x)) x ≡ take k x
+take-part zero x = refl
+take-part (suc k) [] = refl
+take-part (suc k) (a ∷ x) = ap (λ (s : List ℕ). a ∷ s) (take-part k x)
+
+module _ (out : List ℕ) where
+  pub whole-number : {r : List ℕ} (f w n : ℕ) → length out ≡ length (number f w n) → r ≡ number f (length out) n → r ≡ number f w n
+  whole-number f w n h e = e ∙ ap (λ (k : ℕ). number f k n) (h ∙ number-length f w n)
+
+  -- the first k bytes of a name, or as many as it has
+  pub first-letters : {r : List ℕ} (k : ℕ) (x : List ℕ) → length out ≡ length (take k x) → r ≡ take (length out) x ++ drop (length x) out → r ≡ take k x
+  first-letters k x h e =
+      let l : length out ≤ length x = omega (arith, h, length-take k x) in
+      e ∙ rw (drop-of-length-le out l, append-nil, h) (take-part k x)
+
+  pub whole-name : {r : List ℕ} (x : List ℕ) → length out ≡ length x → r ≡ take (length out) x ++ drop (length x) out → r ≡ x
+  whole-name x h e = rw (take-length x) at (first-letters (length x) x (rw (take-length x) h) e)
+
+  pub whole-lower : {r : List ℕ} (x : List ℕ) → length out ≡ length (map fold x) → r ≡ take (length out) (map fold x) ++ drop (length x) out → r ≡ map fold x
+  whole-lower x h e = whole-name (map fold x) h (rw (length-map x fold) e)
+
+pub none : (out : List ℕ) → length out ≡ 0 → out ≡ []
+none [] h = refl
+none (a ∷ out) h = absurd (omega arith)
+
+-- ---- at most nine bytes
+
+-- what holds of both branches of a test
+either : {A : Type 0} (P : A → Type 0) (t : Bool) {a b : A} → P a → P b → P (cond t a b)
+either P true p q = p
+either P false p q = q
+
+name-most : (k v : ℕ) → length (nameFor k v) ≤ 9
+unfolding nameFor padded
+name-most k v =
+    let name = nameAt (namesFor k) (placeFor k v) in
+    omega (arith, held (namesFor k) (placeFor k v) refl refl .fits, length-take 9 (name ++ replicate 9 32))
+
+narrow : List Row → Bool
+narrow [] = true
+narrow (r ∷ rs) = leb (r .row .width) 9 && narrow rs
+
+find-most : (c : ℕ) (rs : List Row) → T (narrow rs) → find c rs .width ≤ 9
+unfolding find narrow
+find-most c [] t = omega arith
+find-most c (r ∷ rs) t =
+    let u = both (leb (r .row .width) 9) (narrow rs) t in
+    either (λ (d : Conversion). d .width ≤ 9) (eqb c (r .letter)) (leb→le (r .row .width) 9 (u .0)) (find-most c rs (u .1))
+
+width-most : (c : ℕ) → conversionOf c .width ≤ 9
+unfolding computes narrow
+width-most c = find-most c rows tt
+
+formed-most : (f : Form) (w k v : ℕ) → w ≤ 9 → length (formed f w k v) ≤ 9
+unfolding formed
+formed-most Zeros w k v h = rw number-length h
+formed-most Blanks w k v h = rw number-length h
+formed-most FromSunday w k v h = rw number-length h
+formed-most Short w k v h = rw length-take (omega (arith, name-most k v))
+formed-most Full w k v h = name-most k v
+formed-most Lower w k v h = rw length-map (name-most k v)
+formed-most Unknown w k v h = omega arith
+
+element-most : (m : Moment) (e : ℕ) → length (element m e) ≤ 9
+unfolding element converted
+element-most m e =
+    let c = conversionOf (e - 256) in
+    either (λ (s : List ℕ). length s ≤ 9) (ltb e 256) (omega arith)
+    (formed-most (c .form) (c .width) (c .kind) (value (c .kind) m) (width-most (e - 256)))
+
+pub text-most : (m : Moment) (es : List ℕ) → length (text m es) ≤ 9 * length es
+unfolding text
+text-most m [] = omega arith
+text-most m (e ∷ es) = rw length-append (omega (arith, element-most m e, text-most m es))
+
+-- ---- the elements from a place on
+
+module _ (m : Moment) (es : List ℕ) (i : ℕ) where
+  pub text-next : i < length es → text m (drop i es) ≡ element m (getD es i 0) ++ text m (drop (i + 1) es)
+  unfolding text
+  text-next h = rw (drop-cons es i 0 h, add-one i)
+
+  pub text-end : length es ≤ i → text m (drop i es) ≡ []
+  unfolding text
+  text-end h = rw (drop-of-length-le es h)

@@ -1,0 +1,28 @@
+-- `strftime::element_length` meets its contract.
+use mathlib.Core.Path.{sym, ap, _∙_}
+use native.Mathlib.Omega.{arith}
+use lib.ListN.{length}
+use Rattle.strftime.proofs.Lengths.{element-byte, element-conversion}
+use borrow.Author.Needs.{needs}
+use Rattle.strftime.proofs.element_length.Statement.{statement}
+use Rattle.strftime.proofs.element_length.Tie as tie
+
+returns : tie.Need-returns
+returns c = rw (element-byte (c .before .args .moment) (c .before .args .e) (omega arith))
+
+conversion-of-requires : tie.Need-conversion-of-requires
+conversion-of-requires c κs = search needs
+
+value-requires : tie.Need-value-requires
+value-requires c κs = search needs
+
+formed-length-requires : tie.Need-formed-length-requires
+formed-length-requires c κs = search needs
+
+returns-2 : tie.Need-returns-2
+returns-2 c = c .formed-length .ensures ∙ ap length (sym (element-conversion _ _ (omega arith) (c .before .before .conversion-of .ensures) (c .before .value .ensures)))
+
+pub element-length-spec : {M : Type 1} → statement M
+element-length-spec =
+    tie.close
+    (tie.spec returns conversion-of-requires value-requires formed-length-requires returns-2)

@@ -1,0 +1,65 @@
+-- `strftime::strftime` meets its contract: 1 and 2 are answered here, what follows is that of the opened format.
+use native.Mathlib.Omega.{arith}
+use Rattle.strftime.proofs.Order.{too-long, bad-moment, good-moment}
+use borrow.Author.Needs.{needs}
+use Rattle.strftime.proofs.strftime.Statement.{statement}
+use Rattle.strftime.proofs.strftime.Tie as tie
+
+returns : tie.Need-returns
+returns c = too-long _ _ _ (omega arith)
+
+from-fields-requires : tie.Need-from-fields-requires
+from-fields-requires c κs = search needs
+
+enum-known-field : tie.Need-enum-known-field
+enum-known-field c = search needs
+
+enum-known-moment : tie.Need-enum-known-moment
+enum-known-moment c = search needs
+
+slice-aggregate-write-format : tie.Need-slice-aggregate-write-format
+slice-aggregate-write-format c = search needs
+
+write-format-requires : tie.Need-write-format-requires
+write-format-requires c κs = search needs
+
+same-length : tie.Need-same-length
+same-length c = search needs
+
+returns-2 : tie.Need-returns-2
+returns-2 c =
+    good-moment _ _ _ (omega arith) (c .before .before .before .before .before .before .before .before .before .before .from-fields .ensures) (c .before .before .before .before .before .before .before .before .moment .given .1) (c .before .before .before .write-format .ensures)
+
+slice-aggregate-write-format-2 : tie.Need-slice-aggregate-write-format-2
+slice-aggregate-write-format-2 c = search needs
+
+write-format-requires-2 : tie.Need-write-format-requires-2
+write-format-requires-2 c κs = search needs
+
+returns-3 : tie.Need-returns-3
+returns-3 c = bad-moment _ _ _ (omega arith) (c .before .before .before .from-fields .ensures) (c .before .field .given .1)
+
+same-length-2 : tie.Need-same-length-2
+same-length-2 c = search needs
+
+returns-4 : tie.Need-returns-4
+returns-4 c =
+    good-moment _ _ _ (omega arith) (c .before .before .before .before .before .before .before .before .before .before .from-fields .ensures) (c .before .before .before .before .before .before .before .before .moment .given .1) (c .before .before .before .write-format2 .ensures)
+
+pub strftime-spec : {M : Type 1} → statement M
+strftime-spec =
+    tie.close
+    (tie.spec
+    returns
+    from-fields-requires
+    enum-known-field
+    enum-known-moment
+    slice-aggregate-write-format
+    write-format-requires
+    same-length
+    returns-2
+    slice-aggregate-write-format-2
+    write-format-requires-2
+    returns-3
+    same-length-2
+    returns-4)

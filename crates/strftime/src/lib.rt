@@ -1,0 +1,254 @@
+// The writer: a format, a moment's fields and a buffer; all or nothing.
+use format::Conversion;
+use format::Form;
+use format::Opened;
+use format::conversion_of;
+use format::open;
+use text::Names;
+use text::name_length;
+use text::write_name;
+use text::write_name_lower;
+use text::write_number;
+use values::Moment;
+use values::MomentFields;
+ghost use mathlib.Core.Path.{_≡_};
+ghost use Prim.Native.Nat.{min, _*_, _≤_};
+ghost use lib.ListN.{length};
+ghost use Rattle.format.specs.Opening.{opening};
+ghost use Rattle.strftime.specs.Writing.{namesFor, placeFor, nameFor, formed, element, text, mostElements, elementsWriting, opened, writing, numberOf, placeOf};
+ghost use Rattle.strftime.specs.Private.{over};
+
+pub struct Fields {
+    pub year: u32,
+    pub month: u32,
+    pub day: u32,
+    pub hour: u32,
+    pub minute: u32,
+    pub second: u32,
+}
+
+// The answer to a writing, in the order in which refusals are judged.
+pub enum Written {
+    Done(usize),
+    FormatTooLong,
+    BadMoment(u32),
+    BadConversion(usize),
+    BufferTooSmall(usize),
+}
+
+// The most bytes of a format, the most elements that it opens to, 13 to two bytes, and the most bytes that an element writes.
+const MOST_BYTES: usize = 1024;
+
+const MOST_ELEMENTS: usize = 6656;
+
+const WIDEST: usize = 9;
+
+// Writes a moment by a format over the start of the buffer.
+pub fn strftime(format: &[u8], fields: Fields, out: &mut [u8]) -> Written
+    ensures { λ r. ⌜ r ≡ writing (now (format .entry)) fields (now (out .entry)) .answer ⌝ }
+    ensures { λ _. ⌜ now (out .exit) ≡ writing (now (format .entry)) fields (now (out .entry)) .buffer ⌝ }
+{
+    if MOST_BYTES < format.len() {
+        return Written::FormatTooLong;
+    }
+    match Moment::from_fields(
+        fields.year,
+        fields.month,
+        fields.day,
+        fields.hour,
+        fields.minute,
+        fields.second,
+    ) {
+        MomentFields::Bad(field) => Written::BadMoment(field),
+        MomentFields::Valid(moment) => {
+            if format.len() <= 32 {
+                let mut elements = [0u32; 208];
+                return write_format(format, moment, &mut elements, out);
+            }
+            let mut elements = [0u32; MOST_ELEMENTS];
+            write_format(format, moment, &mut elements, out)
+        }
+    }
+}
+
+// Opens the format into `elements`, which have room for 13 of them to two bytes, and writes these.
+fn write_format(format: &[u8], moment: Moment, elements: &mut [u32], out: &mut [u8]) -> Written
+    requires { ⌜ (13 * length (now format) ≤ 2 * length (now elements)) × (length (now elements) ≤ mostElements) ⌝ }
+    ensures { λ r. ⌜ r ≡ opened (opening (now (format .entry))) moment (now (out .entry)) .answer ⌝ }
+    ensures { λ _. ⌜ now (out .exit) ≡ opened (opening (now (format .entry))) moment (now (out .entry)) .buffer ⌝ }
+{
+    match open(format, elements) {
+        Opened::Done(n) => write_elements(&elements[..n], moment, out),
+        Opened::Bad(at) => Written::BadConversion(at),
+        Opened::Full => Written::FormatTooLong,
+    }
+}
+
+// Writes a moment by a format that was opened before. It is measured first, unless the buffer has room whatever the elements write.
+pub fn write_elements(elements: &[u32], moment: Moment, out: &mut [u8]) -> Written
+    ensures { λ r. ⌜ r ≡ elementsWriting (now (elements .entry)) moment (now (out .entry)) .answer ⌝ }
+    ensures { λ _. ⌜ now (out .exit) ≡ elementsWriting (now (elements .entry)) moment (now (out .entry)) .buffer ⌝ }
+{
+    if MOST_ELEMENTS < elements.len() {
+        return Written::FormatTooLong;
+    }
+    if out.len() < WIDEST * elements.len() {
+        let needed = measure(elements, moment);
+        if out.len() < needed {
+            return Written::BufferTooSmall(needed);
+        }
+    }
+    Written::Done(put_elements(out, elements, moment))
+}
+
+// How many bytes the elements write.
+fn measure(elements: &[u32], moment: Moment) -> usize
+    requires { ⌜ length (now elements) ≤ mostElements ⌝ }
+    ensures { λ r. ⌜ r ≡ length (text moment (now (elements .entry))) ⌝ }
+{
+    let mut n = 0;
+    let mut i = 0;
+    while i < elements.len() {
+        n += element_length(elements[i], moment);
+        i += 1;
+    }
+    n
+}
+
+fn element_length(e: u32, moment: Moment) -> usize
+    ensures { λ r. ⌜ r ≡ length (element moment e) ⌝ }
+{
+    if e < 256 {
+        return 1;
+    }
+    let c = conversion_of(e - 256);
+    formed_length(c, moment.value(c.kind))
+}
+
+// How many bytes a value takes, as a conversion writes it.
+fn formed_length(c: Conversion, value: u32) -> usize
+    ensures { λ r. ⌜ r ≡ length (formed (c .form) (c .width) (c .kind) value) ⌝ }
+{
+    let form = c.form;
+    match form {
+        Form::Zeros => c.width,
+        Form::Blanks => c.width,
+        Form::FromSunday => c.width,
+        Form::Short => at_most_three(length_of_name(c.kind, value)),
+        Form::Full => length_of_name(c.kind, value),
+        Form::Lower => length_of_name(c.kind, value),
+        Form::Unknown => 0,
+    }
+}
+
+fn at_most_three(n: usize) -> usize
+    ensures { λ r. ⌜ r ≡ min 3 n ⌝ }
+{
+    if 3 < n { 3 } else { n }
+}
+
+fn length_of_name(kind: u32, value: u32) -> usize
+    ensures { λ r. ⌜ r ≡ length (nameFor kind value) ⌝ }
+{
+    name_length(names_for(kind), place_for(kind, value))
+}
+
+fn names_for(kind: u32) -> Names
+    ensures { λ r. ⌜ r ≡ namesFor kind ⌝ }
+{
+    if kind == 4 {
+        return Names::Months;
+    }
+    if kind == 7 {
+        return Names::Weekdays;
+    }
+    Names::Halves
+}
+
+fn place_for(kind: u32, value: u32) -> usize
+    ensures { λ r. ⌜ r ≡ placeFor kind value ⌝ }
+{
+    if kind == 15 {
+        return value as usize;
+    }
+    if value == 0 {
+        return 0;
+    }
+    value as usize - 1
+}
+
+// Puts what the elements write, one after the other, over the start of `out`, and says how many bytes that is.
+fn put_elements(out: &mut [u8], elements: &[u32], moment: Moment) -> usize
+    requires { ⌜ length (text moment (now elements)) ≤ length (now out) ⌝ }
+    ensures { λ r. ⌜ r ≡ length (text moment (now (elements .entry))) ⌝ }
+    ensures { λ _. ⌜ now (out .exit) ≡ over (now (out .entry)) 0 (text moment (now (elements .entry))) ⌝ }
+{
+    let mut at = 0;
+    let mut done = 0;
+    while done < elements.len() {
+        at += put_element(&mut out[at..], elements[done], moment);
+        done += 1;
+    }
+    at
+}
+
+// The same for one element.
+fn put_element(out: &mut [u8], e: u32, moment: Moment) -> usize
+    requires { ⌜ length (element moment e) ≤ length (now out) ⌝ }
+    ensures { λ r. ⌜ r ≡ length (element moment e) ⌝ }
+    ensures { λ _. ⌜ now (out .exit) ≡ over (now (out .entry)) 0 (element moment e) ⌝ }
+{
+    if e < 256 {
+        out[0] = e as u8;
+        return 1;
+    }
+    let c = conversion_of(e - 256);
+    let value = moment.value(c.kind);
+    let n = formed_length(c, value);
+    put_formed(&mut out[..n], c, value);
+    n
+}
+
+// Writes a value over the whole of `out`, as a conversion writes it.
+fn put_formed(out: &mut [u8], c: Conversion, value: u32)
+    requires { ⌜ length (now out) ≡ length (formed (c .form) (c .width) (c .kind) value) ⌝ }
+    ensures { λ _. ⌜ now (out .exit) ≡ formed (c .form) (c .width) (c .kind) value ⌝ }
+{
+    let kind = c.kind;
+    let form = c.form;
+    match form {
+        Form::Zeros => write_number(out, b'0', value),
+        Form::Blanks => write_number(out, b' ', value),
+        Form::FromSunday => write_number(out, b'0', value % 7),
+        Form::Short => write_name(out, names_for(kind), place_for(kind, value)),
+        Form::Full => write_name(out, names_for(kind), place_for(kind, value)),
+        Form::Lower => write_name_lower(out, names_for(kind), place_for(kind, value)),
+        Form::Unknown => {}
+    }
+}
+
+// The paper's number of an answer.
+pub fn number_of(w: Written) -> u32
+    ensures { λ r. ⌜ r ≡ numberOf w ⌝ }
+{
+    match w {
+        Written::Done(_) => 0,
+        Written::FormatTooLong => 1,
+        Written::BadMoment(_) => 2,
+        Written::BadConversion(_) => 3,
+        Written::BufferTooSmall(_) => 4,
+    }
+}
+
+// The paper's place of an answer.
+pub fn place_of(w: Written) -> usize
+    ensures { λ r. ⌜ r ≡ placeOf w ⌝ }
+{
+    match w {
+        Written::Done(n) => n,
+        Written::FormatTooLong => 0,
+        Written::BadMoment(field) => field as usize,
+        Written::BadConversion(at) => at,
+        Written::BufferTooSmall(n) => n,
+    }
+}
