@@ -2,16 +2,15 @@
 -- Assumes nothing.
 use Prim.Native.Nat.{ℕ, zero, suc, _+_, _-_, _*_, _/_, _≤_, _<_}
 use mathlib.Core.Bool.{Bool, true, false, cond, _&&_}
-use mathlib.Core.List.{List, [], _∷_, _++_, map, append-nil}
-use mathlib.Core.Path.{_≡_, refl, ap, _∙_}
+use mathlib.Core.List.{List, [], _∷_, _++_}
+use mathlib.Core.Path.{_≡_, refl}
 use native.Mathlib.Numerals.{add-one}
 use native.Mathlib.Omega.{arith}
 use borrow.Author.Tests.{lt-ltb, le-ltb}
 use lib.Dec.{T, eqb, leb, ltb, leb→le}
-use lib.ListN.{length, take, drop, getD, replicate, length-append, length-take, length-map, drop-of-length-le}
-use lib.Seq.{drop-cons, take-length}
+use lib.ListN.{length, drop, getD, replicate, length-append, length-take, length-map, drop-of-length-le}
+use lib.Seq.{drop-cons}
 use Rattle.laws.proofs.Table.{both}
-use Rattle.text.specs.Case.{fold}
 use Rattle.text.specs.Digits.{leading, number}
 use Rattle.text.specs.Names.{nameAt}
 use Rattle.text.specs.Rows.{padded}
@@ -39,46 +38,23 @@ number-length f (suc w) n =
 
 -- ---- what an element writes
 
+-- a conversion, by its form and the value of its kind
+pub by-form : (c : Conversion) (m : Moment) {f : Form} {v : ℕ} → c .form ≡ f → v ≡ value (c .kind) m → converted c m ≡ formed f (c .width) (c .kind) v
+unfolding converted
+by-form c m p q = rw (p, q)
+
 module _ (m : Moment) (e : ℕ) where
   pub element-byte : e < 256 → element m e ≡ e ∷ []
   unfolding element
   element-byte h = rw (lt-ltb e 256 h)
 
-  pub element-conversion : {c : Conversion} {v : ℕ} → 256 ≤ e → c ≡ conversionOf (e - 256) → v ≡ value (c .kind) m
-      → element m e ≡ formed (c .form) (c .width) (c .kind) v
-  unfolding element converted
-  element-conversion h p q = rw (le-ltb e 256 h, ← p, ← q)
-
--- ---- what is written over the whole of a part
+  pub element-conversion : {c : Conversion} → 256 ≤ e → c ≡ conversionOf (e - 256) → element m e ≡ converted c m
+  unfolding element
+  element-conversion h p = rw (le-ltb e 256 h, ← p)
 
 pub named : {t : Names} {i : ℕ} (k v : ℕ) → t ≡ namesFor k → i ≡ placeFor k v → nameAt t i ≡ nameFor k v
 unfolding nameFor
 named k v p q = rw (p, q)
-
-take-part : (k : ℕ) (x : List ℕ) → take (length (take k x)) x ≡ take k x
-take-part zero x = refl
-take-part (suc k) [] = refl
-take-part (suc k) (a ∷ x) = ap (λ (s : List ℕ). a ∷ s) (take-part k x)
-
-module _ (out : List ℕ) where
-  pub whole-number : {r : List ℕ} (f w n : ℕ) → length out ≡ length (number f w n) → r ≡ number f (length out) n → r ≡ number f w n
-  whole-number f w n h e = e ∙ ap (λ (k : ℕ). number f k n) (h ∙ number-length f w n)
-
-  -- the first k bytes of a name, or as many as it has
-  pub first-letters : {r : List ℕ} (k : ℕ) (x : List ℕ) → length out ≡ length (take k x) → r ≡ take (length out) x ++ drop (length x) out → r ≡ take k x
-  first-letters k x h e =
-      let l : length out ≤ length x = omega (arith, h, length-take k x) in
-      e ∙ rw (drop-of-length-le out l, append-nil, h) (take-part k x)
-
-  pub whole-name : {r : List ℕ} (x : List ℕ) → length out ≡ length x → r ≡ take (length out) x ++ drop (length x) out → r ≡ x
-  whole-name x h e = rw (take-length x) at (first-letters (length x) x (rw (take-length x) h) e)
-
-  pub whole-lower : {r : List ℕ} (x : List ℕ) → length out ≡ length (map fold x) → r ≡ take (length out) (map fold x) ++ drop (length x) out → r ≡ map fold x
-  whole-lower x h e = whole-name (map fold x) h (rw (length-map x fold) e)
-
-pub none : (out : List ℕ) → length out ≡ 0 → out ≡ []
-none [] h = refl
-none (a ∷ out) h = absurd (omega arith)
 
 -- ---- at most nine bytes
 

@@ -45,7 +45,7 @@ module _ (es : List ℕ) (m : Moment) (b : List ℕ) where
     pub all-written : {c : List ℕ} → n ≤ length b → c ≡ over b 0 (text m es) → Gives (Done n) c (elementsWriting es m b)
     unfolding elementsWriting put
     all-written h e =
-        rw (le-leb (length es) mostElements few, ← measured, le-leb n (length b) h) (refl, e ∙ sym (over-start b (text m es) refl measured))
+        rw (le-leb (length es) mostElements few, ← measured, le-leb n (length b) h) (refl, e ∙ rw (over-start b (text m es), ← measured))
 
 -- ---- the format's opening: 3
 

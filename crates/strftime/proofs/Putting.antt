@@ -1,9 +1,9 @@
 -- The loops over the elements: what has been measured, and what has been put.
 -- Assumes nothing.
 use Prim.Native.Nat.{ℕ, _+_, _-_, _≤_, _<_}
-use mathlib.Core.List.{List, _++_}
+use mathlib.Core.List.{List}
 use mathlib.Core.Path.{_≡_, refl, sym, ap, _∙_}
-use native.Mathlib.Nat.{zero-add, add-zero}
+use native.Mathlib.Nat.{zero-add}
 use native.Mathlib.Omega.{arith}
 use lib.ListN.{length, take, drop, getD, length-append, length-take, length-drop}
 use Rattle.values.specs.declared.Moment.{Moment}
@@ -56,11 +56,12 @@ module _ {m : Moment} {es buf₀ buf : List ℕ} {at i : ℕ} (p : Putting m es 
   put-next {k} {b} h e q =
       let x = element m (getD es i 0) in
       let l : length b ≡ length buf = ap length q ∙ over-length buf at x (room h) in
-      record
-        { measured = measured-next (p .measured) h e
-        ; kept = l ∙ p .kept
-        ; fits = rw l (p .fits)
-        ; rest = rw (q, e, over-over buf at x (room h) (text m (drop (i + 1) es)), ← text-next m es i h) (p .rest) }
+      record {
+        measured = measured-next (p .measured) h e;
+        kept = l ∙ p .kept;
+        fits = rw l (p .fits);
+        rest = rw (q, e, over-over buf at x (room h) (text m (drop (i + 1) es)), ← text-next m es i h) (p .rest);
+      }
 
   pub all-put : length es ≤ i → (at ≡ length (text m es)) × (buf ≡ over buf₀ 0 (text m es))
   all-put h = (all-measured (p .measured) h, sym (over-none buf at) ∙ ap (over buf at) (sym (text-end m es i h)) ∙ p .rest)

@@ -13,10 +13,14 @@ use values::Moment;
 use values::MomentFields;
 ghost use mathlib.Core.Path.{_≡_};
 ghost use Prim.Native.Nat.{min, _*_, _≤_};
+ghost use mathlib.Core.List.{map};
 ghost use lib.ListN.{length};
+ghost use Rattle.text.specs.Case.{fold};
+ghost use Rattle.text.specs.Digits.{number};
+ghost use Rattle.text.specs.Names.{short};
 ghost use Rattle.format.specs.Opening.{opening};
-ghost use Rattle.strftime.specs.Writing.{namesFor, placeFor, nameFor, formed, element, text, mostElements, elementsWriting, opened, writing, numberOf, placeOf};
-ghost use Rattle.strftime.specs.Private.{over};
+ghost use Rattle.strftime.specs.Writing.{namesFor, placeFor, nameFor, converted, element, text, mostElements, elementsWriting, opened, writing, numberOf, placeOf};
+ghost use Rattle.strftime.specs.Private.{Puts};
 
 pub struct Fields {
     pub year: u32,
@@ -43,7 +47,8 @@ const MOST_ELEMENTS: usize = 6656;
 
 const WIDEST: usize = 9;
 
-// Writes a moment by a format over the start of the buffer.
+// Writes a moment by a format over the start of the buffer. A short format is opened into a small array: to clear the large one takes
+// longer than to write.
 pub fn strftime(format: &[u8], fields: Fields, out: &mut [u8]) -> Written
     ensures { λ r. ⌜ r ≡ writing (now (format .entry)) fields (now (out .entry)) .answer ⌝ }
     ensures { λ _. ⌜ now (out .exit) ≡ writing (now (format .entry)) fields (now (out .entry)) .buffer ⌝ }
@@ -71,7 +76,7 @@ pub fn strftime(format: &[u8], fields: Fields, out: &mut [u8]) -> Written
     }
 }
 
-// Opens the format into `elements`, which have room for 13 of them to two bytes, and writes these.
+// Opens the format into `elements` and writes those. There is room for 13 to two bytes, so that they are never too many.
 fn write_format(format: &[u8], moment: Moment, elements: &mut [u32], out: &mut [u8]) -> Written
     requires { ⌜ (13 * length (now format) ≤ 2 * length (now elements)) × (length (now elements) ≤ mostElements) ⌝ }
     ensures { λ r. ⌜ r ≡ opened (opening (now (format .entry))) moment (now (out .entry)) .answer ⌝ }
@@ -84,7 +89,8 @@ fn write_format(format: &[u8], moment: Moment, elements: &mut [u32], out: &mut [
     }
 }
 
-// Writes a moment by a format that was opened before. It is measured first, unless the buffer has room whatever the elements write.
+// Writes a moment by a format that was opened before. Its text is measured first, unless the buffer has room whatever the elements write:
+// nothing is put before it is known to fit.
 pub fn write_elements(elements: &[u32], moment: Moment, out: &mut [u8]) -> Written
     ensures { λ r. ⌜ r ≡ elementsWriting (now (elements .entry)) moment (now (out .entry)) .answer ⌝ }
     ensures { λ _. ⌜ now (out .exit) ≡ elementsWriting (now (elements .entry)) moment (now (out .entry)) .buffer ⌝ }
@@ -121,22 +127,22 @@ fn element_length(e: u32, moment: Moment) -> usize
     if e < 256 {
         return 1;
     }
-    let c = conversion_of(e - 256);
-    formed_length(c, moment.value(c.kind))
+    converted_length(conversion_of(e - 256), moment)
 }
 
-// How many bytes a value takes, as a conversion writes it.
-fn formed_length(c: Conversion, value: u32) -> usize
-    ensures { λ r. ⌜ r ≡ length (formed (c .form) (c .width) (c .kind) value) ⌝ }
+// A number is as long as its width; only the length of a name depends on the moment.
+fn converted_length(c: Conversion, moment: Moment) -> usize
+    ensures { λ r. ⌜ r ≡ length (converted c moment) ⌝ }
 {
+    let kind = c.kind;
     let form = c.form;
     match form {
         Form::Zeros => c.width,
         Form::Blanks => c.width,
         Form::FromSunday => c.width,
-        Form::Short => at_most_three(length_of_name(c.kind, value)),
-        Form::Full => length_of_name(c.kind, value),
-        Form::Lower => length_of_name(c.kind, value),
+        Form::Short => at_most_three(length_of_name(kind, moment.value(kind))),
+        Form::Full => length_of_name(kind, moment.value(kind)),
+        Form::Lower => length_of_name(kind, moment.value(kind)),
         Form::Unknown => 0,
     }
 }
@@ -153,6 +159,7 @@ fn length_of_name(kind: u32, value: u32) -> usize
     name_length(names_for(kind), place_for(kind, value))
 }
 
+// The table that names the values of a kind, and the place of a value in it.
 fn names_for(kind: u32) -> Names
     ensures { λ r. ⌜ r ≡ namesFor kind ⌝ }
 {
@@ -180,8 +187,7 @@ fn place_for(kind: u32, value: u32) -> usize
 // Puts what the elements write, one after the other, over the start of `out`, and says how many bytes that is.
 fn put_elements(out: &mut [u8], elements: &[u32], moment: Moment) -> usize
     requires { ⌜ length (text moment (now elements)) ≤ length (now out) ⌝ }
-    ensures { λ r. ⌜ r ≡ length (text moment (now (elements .entry))) ⌝ }
-    ensures { λ _. ⌜ now (out .exit) ≡ over (now (out .entry)) 0 (text moment (now (elements .entry))) ⌝ }
+    ensures { λ r. ⌜ Puts (text moment (now (elements .entry))) (now (out .entry)) r (now (out .exit)) ⌝ }
 {
     let mut at = 0;
     let mut done = 0;
@@ -195,36 +201,65 @@ fn put_elements(out: &mut [u8], elements: &[u32], moment: Moment) -> usize
 // The same for one element.
 fn put_element(out: &mut [u8], e: u32, moment: Moment) -> usize
     requires { ⌜ length (element moment e) ≤ length (now out) ⌝ }
-    ensures { λ r. ⌜ r ≡ length (element moment e) ⌝ }
-    ensures { λ _. ⌜ now (out .exit) ≡ over (now (out .entry)) 0 (element moment e) ⌝ }
+    ensures { λ r. ⌜ Puts (element moment e) (now (out .entry)) r (now (out .exit)) ⌝ }
 {
     if e < 256 {
         out[0] = e as u8;
         return 1;
     }
-    let c = conversion_of(e - 256);
-    let value = moment.value(c.kind);
-    let n = formed_length(c, value);
-    put_formed(&mut out[..n], c, value);
+    put_converted(out, conversion_of(e - 256), moment)
+}
+
+fn put_converted(out: &mut [u8], c: Conversion, moment: Moment) -> usize
+    requires { ⌜ length (converted c moment) ≤ length (now out) ⌝ }
+    ensures { λ r. ⌜ Puts (converted c moment) (now (out .entry)) r (now (out .exit)) ⌝ }
+{
+    let kind = c.kind;
+    let width = c.width;
+    let value = moment.value(kind);
+    let form = c.form;
+    match form {
+        Form::Zeros => put_number(out, width, b'0', value),
+        Form::Blanks => put_number(out, width, b' ', value),
+        Form::FromSunday => put_number(out, width, b'0', value % 7),
+        Form::Short => put_short(out, kind, value),
+        Form::Full => put_full(out, kind, value),
+        Form::Lower => put_lower(out, kind, value),
+        Form::Unknown => 0,
+    }
+}
+
+fn put_number(out: &mut [u8], width: usize, fill: u8, value: u32) -> usize
+    requires { ⌜ width ≤ length (now out) ⌝ }
+    ensures { λ r. ⌜ Puts (number fill width value) (now (out .entry)) r (now (out .exit)) ⌝ }
+{
+    write_number(&mut out[..width], fill, value);
+    width
+}
+
+fn put_short(out: &mut [u8], kind: u32, value: u32) -> usize
+    requires { ⌜ length (short (nameFor kind value)) ≤ length (now out) ⌝ }
+    ensures { λ r. ⌜ Puts (short (nameFor kind value)) (now (out .entry)) r (now (out .exit)) ⌝ }
+{
+    let n = at_most_three(length_of_name(kind, value));
+    write_name(&mut out[..n], names_for(kind), place_for(kind, value));
     n
 }
 
-// Writes a value over the whole of `out`, as a conversion writes it.
-fn put_formed(out: &mut [u8], c: Conversion, value: u32)
-    requires { ⌜ length (now out) ≡ length (formed (c .form) (c .width) (c .kind) value) ⌝ }
-    ensures { λ _. ⌜ now (out .exit) ≡ formed (c .form) (c .width) (c .kind) value ⌝ }
+fn put_full(out: &mut [u8], kind: u32, value: u32) -> usize
+    requires { ⌜ length (nameFor kind value) ≤ length (now out) ⌝ }
+    ensures { λ r. ⌜ Puts (nameFor kind value) (now (out .entry)) r (now (out .exit)) ⌝ }
 {
-    let kind = c.kind;
-    let form = c.form;
-    match form {
-        Form::Zeros => write_number(out, b'0', value),
-        Form::Blanks => write_number(out, b' ', value),
-        Form::FromSunday => write_number(out, b'0', value % 7),
-        Form::Short => write_name(out, names_for(kind), place_for(kind, value)),
-        Form::Full => write_name(out, names_for(kind), place_for(kind, value)),
-        Form::Lower => write_name_lower(out, names_for(kind), place_for(kind, value)),
-        Form::Unknown => {}
-    }
+    write_name(out, names_for(kind), place_for(kind, value));
+    length_of_name(kind, value)
+}
+
+fn put_lower(out: &mut [u8], kind: u32, value: u32) -> usize
+    requires { ⌜ length (map fold (nameFor kind value)) ≤ length (now out) ⌝ }
+    ensures { λ r. ⌜ Puts (map fold (nameFor kind value)) (now (out .entry)) r (now (out .exit)) ⌝ }
+{
+    write_name_lower(out, names_for(kind), place_for(kind, value));
+    length_of_name(kind, value)
 }
 
 // The paper's number of an answer.

@@ -13,16 +13,12 @@ returns c = rw (element-byte (c .before .args .moment) (c .before .args .e) (ome
 conversion-of-requires : tie.Need-conversion-of-requires
 conversion-of-requires c κs = search needs
 
-value-requires : tie.Need-value-requires
-value-requires c κs = search needs
-
-formed-length-requires : tie.Need-formed-length-requires
-formed-length-requires c κs = search needs
+converted-length-requires : tie.Need-converted-length-requires
+converted-length-requires c κs = search needs
 
 returns-2 : tie.Need-returns-2
-returns-2 c = c .formed-length .ensures ∙ ap length (sym (element-conversion _ _ (omega arith) (c .before .before .conversion-of .ensures) (c .before .value .ensures)))
+returns-2 c = c .converted-length .ensures ∙ ap length (sym (element-conversion _ _ (omega arith) (c .before .conversion-of .ensures)))
 
 pub element-length-spec : {M : Type 1} → statement M
 element-length-spec =
-    tie.close
-    (tie.spec returns conversion-of-requires value-requires formed-length-requires returns-2)
+    tie.close (tie.spec returns conversion-of-requires converted-length-requires returns-2)

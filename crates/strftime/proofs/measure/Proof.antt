@@ -1,5 +1,5 @@
 -- `strftime::measure` meets its contract. The invariant: n bytes are what the first i elements write.
-use Prim.Native.Nat.{_-_, _*_}
+use Prim.Native.Nat.{_-_}
 use native.Mathlib.Omega.{arith}
 use lib.ListN.{length}
 use Rattle.strftime.proofs.Lengths.{text-most}

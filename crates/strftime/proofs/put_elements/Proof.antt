@@ -1,6 +1,5 @@
 -- `strftime::put_elements` meets its contract. The invariant: the rest of the text over the buffer gives what is to be left in it.
 use Prim.Native.Nat.{_-_}
-use mathlib.Core.Path.{_∙_}
 use native.Mathlib.Omega.{arith}
 use borrow.Author.Needs.{needs}
 use lib.ListN.{length}

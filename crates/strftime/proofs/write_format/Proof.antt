@@ -1,7 +1,6 @@
 -- `strftime::write_format` meets its contract: the slice has room for all elements, so that it is never full.
 use Prim.Native.Nat.{_≤_}
 use mathlib.Core.Path.{sym}
-use native.Mathlib.Omega.{arith}
 use lib.ListN.{length}
 use lib.Seq.{length-take-le}
 use Rattle.strftime.proofs.Order.{all-stored, whole, broken, never-full}

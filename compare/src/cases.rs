@@ -1,0 +1,283 @@
+//! Random formats, moments and texts: well formed, damaged, contradictory, and nonsense.
+use crate::paper01::{month_length, written, Calendar, Item, Moment};
+use crate::random::Random;
+
+const DATES: &[u8] = b"YCymdejuwaAbBhUWGgV";
+const TIMES: &[u8] = b"HkIlpPMS";
+const COMPOSITES: &[u8] = b"cxXDFRTr";
+const PAIRS: [&str; 19] =
+    ["Ec", "EC", "Ex", "EX", "Ey", "EY", "Od", "Oe", "OH", "OI", "Om", "OM", "OS", "Ou", "OU", "OV", "Ow", "OW", "Oy"];
+const TYPICAL: [&str; 24] = [
+    "%Y-%m-%d %H:%M:%S",
+    "%FT%T",
+    "%c",
+    "%a, %d %b %Y %T",
+    "%d.%m.%Y",
+    "%m/%d/%y",
+    "%G-W%V-%u",
+    "%Y-%j",
+    "%A, %B %e, %Y",
+    "%r",
+    "%I:%M %p",
+    "%C%y %m %d",
+    "%d %b %Y %I",
+    "%Y %U %a",
+    "%Y %W %A",
+    "%b %d %H:%M:%S",
+    "%g %V %w",
+    "%a %e %b",
+    "%d %b",
+    "%k:%M",
+    "%Ex %EX",
+    "%Od %Om %EY",
+    "%y %j",
+    "%l %P",
+];
+
+/// A number that a date fact of a kind can have.
+pub fn number(random: &mut Random, kind: usize) -> u32 {
+    let (least, greatest) =
+        [(1, 9999), (0, 99), (0, 99), (1, 12), (1, 31), (1, 366), (1, 7), (0, 53), (0, 53), (1, 9999), (0, 99), (1, 53)][kind - 1];
+    random.from(least, greatest)
+}
+
+fn conversion(out: &mut Vec<u8>, letter: u8) {
+    out.extend_from_slice(&[b'%', letter]);
+}
+
+/// What stands between two conversions: mostly a blank, so that texts can be read again.
+fn between(random: &mut Random, out: &mut Vec<u8>) {
+    match random.below(10) {
+        0..=5 => out.push(b' '),
+        6 => out.push(*random.pick(b":/-,.")),
+        7 => out.push(*random.pick(b"\n\t %")),
+        8 => conversion(out, *random.pick(b"nt%")),
+        _ => {}
+    }
+    if out.last() == Some(&b'%') && random.chance(90) {
+        out.push(b'%');
+    }
+}
+
+fn token(random: &mut Random, out: &mut Vec<u8>) {
+    match random.below(100) {
+        0..=54 => conversion(out, *random.pick(DATES)),
+        55..=69 => conversion(out, *random.pick(TIMES)),
+        70..=77 => conversion(out, *random.pick(COMPOSITES)),
+        78..=86 => {
+            out.push(b'%');
+            out.extend_from_slice(random.pick(&PAIRS).as_bytes());
+        }
+        87..=92 => out.push(random.next() as u8),
+        93..=98 => conversion(out, *random.pick(b"nt%")),
+        _ => {
+            // bad: an unknown letter, a wrong pair, a flag or a width, an unfinished conversion
+            let bad: &[u8] = match random.below(6) {
+                0 => &[b'%', random.next() as u8],
+                1 => &[b'%', b'E', random.next() as u8],
+                2 => &[b'%', b'O', random.next() as u8],
+                3 => b"%-d",
+                4 => b"%5Y",
+                _ => b"%",
+            };
+            out.extend_from_slice(bad);
+        }
+    }
+}
+
+/// A format whose facts often fix a day: a year nearly always, since a search without one takes long.
+fn dated(random: &mut Random) -> Vec<u8> {
+    let mut letters: Vec<u8> = Vec::new();
+    match random.below(1000) {
+        0..=499 => letters.push(b'Y'),
+        500..=749 => letters.push(b'G'),
+        750..=869 => letters.extend(b"Cy"),
+        870..=989 => letters.extend(random.pick(&[&b"md"[..], b"bd", b"me", b"j", b"yj", b"Cmd", b"ymd", b"m", b"B", b"y", b"C"]).iter()),
+        _ => {}
+    }
+    for _ in 0..random.below(5) {
+        letters.push(*random.pick(DATES));
+    }
+    for _ in 0..random.below(3) {
+        letters.push(*random.pick(TIMES));
+    }
+    let mut out = Vec::new();
+    while !letters.is_empty() {
+        let l = letters.swap_remove(random.below(letters.len()));
+        conversion(&mut out, l);
+        if !letters.is_empty() || random.chance(5) {
+            between(random, &mut out);
+        }
+    }
+    out
+}
+
+pub fn format(random: &mut Random) -> Vec<u8> {
+    let mut out = Vec::new();
+    match random.below(100) {
+        0..=14 => out.extend_from_slice(random.pick(&TYPICAL).as_bytes()),
+        15..=59 => out = dated(random),
+        60..=69 => {
+            for _ in 0..1 + random.below(4) {
+                conversion(&mut out, *random.pick(TIMES));
+                between(random, &mut out);
+            }
+        }
+        70..=89 => {
+            for _ in 0..random.below(8) {
+                token(random, &mut out);
+                between(random, &mut out);
+            }
+        }
+        90..=94 => {
+            // many conversions said again and again
+            let few: Vec<u8> = (0..1 + random.below(3)).map(|_| *random.pick(DATES)).collect();
+            for _ in 0..random.below(12) {
+                conversion(&mut out, *random.pick(&few));
+                between(random, &mut out);
+            }
+        }
+        95..=96 => {
+            for _ in 0..random.below(40) {
+                out.push(random.next() as u8);
+            }
+        }
+        _ => {
+            // long: up to and past the longest
+            let length = if random.chance(50) { 1020 + random.below(10) } else { random.below(2500) };
+            let unit = format(random);
+            while out.len() < length {
+                if unit.is_empty() || unit.len() > length - out.len() {
+                    out.push(*random.pick(b"ab 1"));
+                } else {
+                    out.extend_from_slice(&unit);
+                }
+            }
+        }
+    }
+    out
+}
+
+pub fn moment(random: &mut Random) -> Moment {
+    let mut m = [random.from(1, 9999), random.from(1, 12), 1, random.from(0, 23), random.from(0, 59), random.from(0, 60)];
+    match random.below(20) {
+        0 => m[0] = random.from(1, 20),
+        1 => m[0] = random.from(9980, 9999),
+        2 => m[0] = random.from(1, 99) * 100,
+        3..=6 => m[0] = random.from(1900, 2100),
+        _ => {}
+    }
+    m[2] = random.from(1, month_length(m[0], m[1]));
+    if random.chance(10) {
+        // about the turn of a year or of February
+        let (month, day) = *random.pick(&[(12, 31), (12, 30), (12, 28), (1, 1), (1, 2), (1, 4), (2, 28), (3, 1)]);
+        m[1] = month;
+        m[2] = day;
+    }
+    m
+}
+
+/// The moment of a writing: in some cases one or two of its fields are bad.
+pub fn fields(random: &mut Random) -> Moment {
+    let mut m = moment(random);
+    if random.chance(10) {
+        for _ in 0..1 + random.below(2) {
+            let field = random.below(6);
+            m[field] = *random.pick(&[0, 1, 13, 24, 28, 29, 30, 31, 32, 59, 60, 61, 9999, 10000, 65536, 65537, 1 << 31, u32::MAX]);
+        }
+    }
+    m
+}
+
+fn damage(random: &mut Random, text: &mut Vec<u8>) {
+    let at = random.below(text.len() + 1);
+    match random.below(12) {
+        0 if at < text.len() => text[at] = random.next() as u8,
+        1 if at < text.len() => text[at] ^= 32,
+        2 if at < text.len() => text[at] = b'0' + random.below(10) as u8,
+        3 if at < text.len() => {
+            text.remove(at);
+        }
+        4 => text.insert(at, random.next() as u8),
+        5 => text.insert(at, *random.pick(b" \t\n")),
+        6 => text.insert(at, b'0' + random.below(10) as u8),
+        7 => text.truncate(at),
+        8 => {
+            for _ in 0..random.below(6) {
+                text.push(random.next() as u8);
+            }
+        }
+        9 => {
+            if let Some(zero) = text.iter().position(|b| *b == b'0') {
+                text.remove(zero);
+            }
+        }
+        10 => {
+            if let Some(digit) = text[at..].iter().position(|b| b.is_ascii_digit()) {
+                text[at + digit] = b'0' + random.below(10) as u8;
+            }
+        }
+        _ => text.iter_mut().for_each(|b| *b = b.to_ascii_uppercase()),
+    }
+}
+
+/// A text for some items: what they write for a moment, with other things said here and there, then damaged or not.
+pub fn text(random: &mut Random, cal: &Calendar, items: &[Item]) -> Vec<u8> {
+    let m = moment(random);
+    let mut out = Vec::new();
+    match random.below(100) {
+        0..=39 => out = written(cal, items, &m),
+        40..=69 => {
+            // some elements written for another moment, near or far: facts that quarrel
+            let mut other = m;
+            match random.below(5) {
+                0 => other = moment(random),
+                1 => other[0] = if m[0] > 1 && !(m[1] == 2 && m[2] == 29) { m[0] - 1 } else { m[0] },
+                2 => other[2] = random.from(1, month_length(m[0], m[1])),
+                3 => other[1..3].copy_from_slice(&[random.from(1, 12), random.from(1, 28)]),
+                _ => other[3..].copy_from_slice(&[random.from(0, 23), random.from(0, 59), random.from(0, 60)]),
+            }
+            let odds = *random.pick(&[5, 20, 50]);
+            for item in items {
+                let which = if random.chance(odds) { &other } else { &m };
+                out.extend(written(cal, &[*item], which));
+            }
+        }
+        70..=89 => {
+            // numbers of any length, with blanks before and without leading zeros
+            for item in items {
+                match item {
+                    Item::Conversion(l) if !b"aAbBhpP".contains(l) => {
+                        for _ in 0..random.below(2) {
+                            out.push(*random.pick(b" \t\n"));
+                        }
+                        let digits = written(cal, &[*item], &m);
+                        let mut n: u32 = digits.iter().filter(|b| b.is_ascii_digit()).fold(0, |n, b| n * 10 + (b - b'0') as u32);
+                        if random.chance(8) {
+                            let digits = random.from(1, 5);
+                            n = random.below(10usize.pow(digits)) as u32;
+                        }
+                        out.extend(n.to_string().bytes());
+                    }
+                    _ => out.extend(written(cal, &[*item], &m)),
+                }
+            }
+        }
+        90..=94 => {
+            for _ in 0..random.below(30) {
+                out.push(random.next() as u8);
+            }
+        }
+        _ => {
+            out = written(cal, items, &m);
+            let length = if random.chance(70) { 1020 + random.below(10) } else { random.below(3000) };
+            out.resize(length.max(out.len()), b' ');
+        }
+    }
+    if random.chance(35) {
+        for _ in 0..1 + random.below(2) {
+            damage(random, &mut out);
+        }
+    }
+    out
+}

@@ -1,0 +1,506 @@
+//! Paper 01 once more, in plain Rust: written from the paper's text alone, to be compared with the proved library.
+//! It shares no code and no table with the library or its bindings, and takes the slow, literal way wherever the
+//! paper names one: weeks are counted by walking the calendar day by day, and a reading is judged against every day.
+
+/// The last day of the calendar, 9999-12-31.
+pub const DAYS: usize = 3_652_059;
+
+const WEEKDAYS: [&str; 7] = ["Monday", "Tuesday", "Wednesday", "Thursday", "Friday", "Saturday", "Sunday"];
+const MONTHS: [&str; 12] =
+    ["January", "February", "March", "April", "May", "June", "July", "August", "September", "October", "November", "December"];
+
+fn leap(year: u32) -> bool {
+    year % 4 == 0 && (year % 100 != 0 || year % 400 == 0)
+}
+
+pub fn month_length(year: u32, month: u32) -> u32 {
+    match month {
+        4 | 6 | 9 | 11 => 30,
+        2 if leap(year) => 29,
+        2 => 28,
+        _ => 31,
+    }
+}
+
+/// A day with the number that each date conversion shows for it.
+#[derive(Clone, Copy, Default, PartialEq, Eq, Debug)]
+pub struct Day {
+    pub year: u16,
+    pub month: u8,
+    pub day: u8,
+    pub day_of_year: u16,
+    pub weekday: u8,
+    pub sundays: u8,
+    pub mondays: u8,
+    pub week_year: u16,
+    pub week: u8,
+}
+
+impl Day {
+    /// The number of a date fact's kind (1 to 12) for this day.
+    pub fn value(&self, kind: usize) -> u32 {
+        match kind {
+            1 => self.year as u32,
+            2 => self.year as u32 / 100,
+            3 => self.year as u32 % 100,
+            4 => self.month as u32,
+            5 => self.day as u32,
+            6 => self.day_of_year as u32,
+            7 => self.weekday as u32,
+            8 => self.sundays as u32,
+            9 => self.mondays as u32,
+            10 => self.week_year as u32,
+            11 => self.week_year as u32 % 100,
+            _ => self.week as u32,
+        }
+    }
+
+    pub fn date(&self) -> (u32, u32, u32) {
+        (self.year as u32, self.month as u32, self.day as u32)
+    }
+}
+
+/// Every day of the calendar, in order, and for each kind and number the days that show it, as bits.
+pub struct Calendar {
+    pub days: Vec<Day>,
+    /// Where each year begins in `days`; one more entry for the end.
+    years: Vec<usize>,
+    /// `sets[kind][number]`: a bit for each day; only for the kinds of few numbers.
+    sets: Vec<Vec<Vec<u64>>>,
+}
+
+/// The numbers that a kind's set is kept for; 0 for a kind that is looked up another way.
+const KEPT: [usize; 13] = [0, 0, 100, 100, 13, 32, 0, 8, 54, 54, 0, 100, 54];
+
+impl Calendar {
+    pub fn new() -> Calendar {
+        let mut days = Vec::with_capacity(DAYS);
+        let mut thursdays = Vec::with_capacity(DAYS);
+        let mut years = vec![0];
+        let mut weekday = 1;
+        for year in 1..=9999 {
+            years.push(days.len());
+            let (mut sun, mut mon, mut thu, mut of_year) = (0, 0, 0, 0);
+            for month in 1..=12 {
+                for day in 1..=month_length(year, month) {
+                    of_year += 1;
+                    sun += (weekday == 7) as u8;
+                    mon += (weekday == 1) as u8;
+                    thu += (weekday == 4) as u8;
+                    thursdays.push(thu);
+                    days.push(Day {
+                        year: year as u16,
+                        month: month as u8,
+                        day: day as u8,
+                        day_of_year: of_year,
+                        weekday,
+                        sundays: sun,
+                        mondays: mon,
+                        week_year: 0,
+                        week: 0,
+                    });
+                    weekday = weekday % 7 + 1;
+                }
+            }
+        }
+        years.push(days.len());
+        assert_eq!(days.len(), DAYS);
+        assert_eq!(days[DAYS - 1].weekday, 5);
+        for i in 0..DAYS {
+            let thursday = i + 4 - days[i].weekday as usize;
+            days[i].week_year = days[thursday].year;
+            days[i].week = thursdays[thursday];
+        }
+        let mut sets: Vec<Vec<Vec<u64>>> = KEPT.iter().map(|&n| vec![vec![0u64; DAYS / 64 + 1]; n]).collect();
+        for (i, d) in days.iter().enumerate() {
+            for kind in 1..=12 {
+                if KEPT[kind] > 0 {
+                    sets[kind][d.value(kind) as usize][i / 64] |= 1 << (i % 64);
+                }
+            }
+        }
+        Calendar { days, years, sets }
+    }
+
+    pub fn find(&self, year: u32, month: u32, day: u32) -> &Day {
+        let past: u32 = (1..month).map(|m| month_length(year, m)).sum();
+        let found = &self.days[self.years[year as usize] + (past + day) as usize - 1];
+        debug_assert_eq!(found.date(), (year, month, day));
+        found
+    }
+
+    fn agrees(&self, i: usize, facts: &Facts) -> bool {
+        (1..=12).all(|k| facts[k].is_none() || facts[k] == Some(self.days[i].value(k)))
+    }
+
+    /// The first two agreeing days, by asking every day of the calendar.
+    pub fn first_two_slowly(&self, facts: &Facts) -> Vec<usize> {
+        (0..DAYS).filter(|&i| self.agrees(i, facts)).take(2).collect()
+    }
+
+    /// The same, faster: only a year's days where a year is said, else by intersecting the sets of days.
+    pub fn first_two(&self, facts: &Facts) -> Vec<usize> {
+        let (mut from, mut to) = (0, DAYS);
+        if let Some(y) = facts[1] {
+            from = self.years[y as usize];
+            to = self.years[y as usize + 1];
+        } else if let Some(g) = facts[10] {
+            // a week of the year g has its Thursday in g, so its days lie within a week of g's own
+            from = self.years[g as usize].saturating_sub(7);
+            to = (self.years[g as usize + 1] + 7).min(DAYS);
+        }
+        if to - from < DAYS {
+            return (from..to).filter(|&i| self.agrees(i, facts)).take(2).collect();
+        }
+        if let Some(j) = facts[6] {
+            let at = |y: usize| self.years[y] + j as usize - 1;
+            return (1..=9999).map(at).filter(|&i| i < DAYS && self.agrees(i, facts)).take(2).collect();
+        }
+        let said: Vec<&Vec<u64>> = (1..=12).filter_map(|k| facts[k].map(|n| &self.sets[k][n as usize])).collect();
+        let mut found = Vec::new();
+        for w in 0..DAYS / 64 + 1 {
+            let mut bits = said.iter().fold(!0u64, |b, s| b & s[w]);
+            while bits != 0 {
+                found.push(w * 64 + bits.trailing_zeros() as usize);
+                if found.len() == 2 {
+                    return found;
+                }
+                bits &= bits - 1;
+            }
+        }
+        found
+    }
+}
+
+/// At each kind 1 to 17 the number said, if one was. AM is 0 and PM is 1.
+pub type Facts = [Option<u32>; 18];
+
+/// What a format's elements ask for, composites opened.
+#[derive(Clone, Copy, PartialEq, Eq, Debug)]
+pub enum Item {
+    /// A byte that copies itself and must be met.
+    Byte(u8),
+    /// A white-space byte, `%n` or `%t`: written as that byte, read as a run.
+    Space(u8),
+    Conversion(u8),
+}
+
+fn white(b: u8) -> bool {
+    b == 32 || b == 9 || b == 10
+}
+
+/// The elements of a format, or the offset of its first bad `%`.
+pub fn items(format: &[u8]) -> Result<Vec<Item>, usize> {
+    let mut out = Vec::new();
+    let mut i = 0;
+    while i < format.len() {
+        let b = format[i];
+        if b != b'%' {
+            out.push(if white(b) { Item::Space(b) } else { Item::Byte(b) });
+            i += 1;
+            continue;
+        }
+        let start = i;
+        let letter = match format.get(i + 1) {
+            Some(b'E') => match format.get(i + 2) {
+                Some(&l) if b"cCxXyY".contains(&l) => {
+                    i += 3;
+                    l
+                }
+                _ => return Err(start),
+            },
+            Some(b'O') => match format.get(i + 2) {
+                Some(&l) if b"deHImMSuUVwWy".contains(&l) => {
+                    i += 3;
+                    l
+                }
+                _ => return Err(start),
+            },
+            Some(&l) => {
+                i += 2;
+                l
+            }
+            None => return Err(start),
+        };
+        match letter {
+            b'n' => out.push(Item::Space(10)),
+            b't' => out.push(Item::Space(9)),
+            b'%' => out.push(Item::Byte(b'%')),
+            b'c' => out.extend(items(b"%a %b %e %T %Y").unwrap()),
+            b'x' => out.extend(items(b"%D").unwrap()),
+            b'X' => out.extend(items(b"%T").unwrap()),
+            b'D' => out.extend(items(b"%m/%d/%y").unwrap()),
+            b'F' => out.extend(items(b"%Y-%m-%d").unwrap()),
+            b'R' => out.extend(items(b"%H:%M").unwrap()),
+            b'T' => out.extend(items(b"%H:%M:%S").unwrap()),
+            b'r' => out.extend(items(b"%I:%M:%S %p").unwrap()),
+            l if b"YGCygmdHMSeklIjuwUWVaAbBhpP".contains(&l) => out.push(Item::Conversion(l)),
+            _ => return Err(start),
+        }
+    }
+    Ok(out)
+}
+
+/// Year, month, day, hour, minute, second.
+pub type Moment = [u32; 6];
+
+/// The first bad field of a moment, if one is bad.
+pub fn bad_field(m: &Moment) -> Option<u32> {
+    let [year, month, day, hour, minute, second] = *m;
+    if !(1..=9999).contains(&year) {
+        return Some(1);
+    }
+    if !(1..=12).contains(&month) {
+        return Some(2);
+    }
+    if day < 1 || day > month_length(year, month) {
+        return Some(3);
+    }
+    if hour > 23 {
+        return Some(4);
+    }
+    if minute > 59 {
+        return Some(5);
+    }
+    if second > 60 {
+        return Some(6);
+    }
+    None
+}
+
+fn twelve(hour: u32) -> u32 {
+    if hour % 12 == 0 {
+        12
+    } else {
+        hour % 12
+    }
+}
+
+/// What the items write for a valid moment.
+pub fn written(cal: &Calendar, items: &[Item], m: &Moment) -> Vec<u8> {
+    let d = cal.find(m[0], m[1], m[2]);
+    let mut out = Vec::new();
+    for item in items {
+        let letter = match *item {
+            Item::Byte(b) | Item::Space(b) => {
+                out.push(b);
+                continue;
+            }
+            Item::Conversion(l) => l,
+        };
+        let shown = match letter {
+            b'Y' => format!("{:04}", d.year),
+            b'G' => format!("{:04}", d.week_year),
+            b'C' => format!("{:02}", d.year / 100),
+            b'y' => format!("{:02}", d.year % 100),
+            b'g' => format!("{:02}", d.week_year % 100),
+            b'm' => format!("{:02}", d.month),
+            b'd' => format!("{:02}", d.day),
+            b'e' => format!("{:2}", d.day),
+            b'H' => format!("{:02}", m[3]),
+            b'k' => format!("{:2}", m[3]),
+            b'I' => format!("{:02}", twelve(m[3])),
+            b'l' => format!("{:2}", twelve(m[3])),
+            b'M' => format!("{:02}", m[4]),
+            b'S' => format!("{:02}", m[5]),
+            b'j' => format!("{:03}", d.day_of_year),
+            b'u' => format!("{}", d.weekday),
+            b'w' => format!("{}", d.weekday % 7),
+            b'U' => format!("{:02}", d.sundays),
+            b'W' => format!("{:02}", d.mondays),
+            b'V' => format!("{:02}", d.week),
+            b'a' => WEEKDAYS[d.weekday as usize - 1][..3].to_string(),
+            b'A' => WEEKDAYS[d.weekday as usize - 1].to_string(),
+            b'b' | b'h' => MONTHS[d.month as usize - 1][..3].to_string(),
+            b'B' => MONTHS[d.month as usize - 1].to_string(),
+            b'p' => if m[3] < 12 { "AM" } else { "PM" }.to_string(),
+            b'P' => if m[3] < 12 { "am" } else { "pm" }.to_string(),
+            _ => unreachable!(),
+        };
+        out.extend_from_slice(shown.as_bytes());
+    }
+    out
+}
+
+/// The writer: number, place, and the bytes where the number is 0.
+pub fn write(cal: &Calendar, format: &[u8], m: &Moment, room: usize) -> (u32, u32, Vec<u8>) {
+    if format.len() > 1024 {
+        return (1, 0, vec![]);
+    }
+    if let Some(field) = bad_field(m) {
+        return (2, field, vec![]);
+    }
+    match items(format) {
+        Err(at) => (3, at as u32, vec![]),
+        Ok(items) => write_items(cal, &items, m, room),
+    }
+}
+
+/// The writer for items that were opened before: only 2 and 4 are left to refuse.
+pub fn write_items(cal: &Calendar, items: &[Item], m: &Moment, room: usize) -> (u32, u32, Vec<u8>) {
+    if let Some(field) = bad_field(m) {
+        return (2, field, vec![]);
+    }
+    let bytes = written(cal, items, m);
+    if bytes.len() > room {
+        (4, bytes.len() as u32, vec![])
+    } else {
+        (0, bytes.len() as u32, bytes)
+    }
+}
+
+/// What the reader answers. Whatever the number's row does not name is zero or unsaid.
+#[derive(Clone, Default, PartialEq, Eq, Debug)]
+pub struct Reading {
+    pub number: u32,
+    pub place: u32,
+    pub day: Option<(u32, u32, u32)>,
+    pub hour: Option<u32>,
+    pub minute: Option<u32>,
+    pub second: Option<u32>,
+    pub two_days: Option<[(u32, u32, u32); 2]>,
+    pub two_hours: Option<[u32; 2]>,
+}
+
+fn refused(number: u32, place: usize) -> Reading {
+    Reading { number, place: place as u32, ..Reading::default() }
+}
+
+/// The reader.
+pub fn read(cal: &Calendar, format: &[u8], text: &[u8]) -> Reading {
+    if format.len() > 1024 {
+        return refused(1, 0);
+    }
+    if text.len() > 1024 {
+        return refused(5, 0);
+    }
+    match items(format) {
+        Err(at) => refused(3, at),
+        Ok(items) => read_items(cal, &items, text),
+    }
+}
+
+/// Kind, width, least and greatest number of a numeric conversion.
+fn numeric(letter: u8) -> Option<(usize, usize, u32, u32)> {
+    Some(match letter {
+        b'Y' => (1, 4, 1, 9999),
+        b'C' => (2, 2, 0, 99),
+        b'y' => (3, 2, 0, 99),
+        b'm' => (4, 2, 1, 12),
+        b'd' | b'e' => (5, 2, 1, 31),
+        b'j' => (6, 3, 1, 366),
+        b'u' => (7, 1, 1, 7),
+        b'w' => (7, 1, 0, 6),
+        b'U' => (8, 2, 0, 53),
+        b'W' => (9, 2, 0, 53),
+        b'G' => (10, 4, 1, 9999),
+        b'g' => (11, 2, 0, 99),
+        b'V' => (12, 2, 1, 53),
+        b'H' | b'k' => (13, 2, 0, 23),
+        b'I' | b'l' => (14, 2, 1, 12),
+        b'M' => (16, 2, 0, 59),
+        b'S' => (17, 2, 0, 60),
+        _ => return None,
+    })
+}
+
+/// Whether the text goes on with `name`, letter case aside.
+fn goes_on(text: &[u8], name: &str) -> bool {
+    text.len() >= name.len() && text[..name.len()].eq_ignore_ascii_case(name.as_bytes())
+}
+
+/// The name that the text goes on with, from 0, and its length: a full name first, then a short one.
+fn name_at(text: &[u8], names: &[&str]) -> Option<(u32, usize)> {
+    for short in [false, true] {
+        for (i, name) in names.iter().enumerate() {
+            let name = if short { &name[..3] } else { name };
+            if goes_on(text, name) {
+                return Some((i as u32, name.len()));
+            }
+        }
+    }
+    None
+}
+
+/// The reader for items that were opened before.
+pub fn read_items(cal: &Calendar, items: &[Item], text: &[u8]) -> Reading {
+    if text.len() > 1024 {
+        return refused(5, 0);
+    }
+    let mut facts: Facts = [None; 18];
+    let mut at = 0;
+    let blanks = |at: usize| text[at..].iter().take_while(|b| white(**b)).count();
+    for item in items {
+        let letter = match *item {
+            Item::Space(_) => {
+                at += blanks(at);
+                continue;
+            }
+            Item::Byte(b) => {
+                if text.get(at) != Some(&b) {
+                    return refused(6, at);
+                }
+                at += 1;
+                continue;
+            }
+            Item::Conversion(l) => l,
+        };
+        let (kind, number, length) = if let Some((kind, width, least, greatest)) = numeric(letter) {
+            at += blanks(at);
+            let digits = text[at..].iter().take(width).take_while(|b| b.is_ascii_digit()).count();
+            if digits == 0 {
+                return refused(6, at);
+            }
+            let n: u32 = std::str::from_utf8(&text[at..at + digits]).unwrap().parse().unwrap();
+            if n < least || n > greatest {
+                return refused(7, at);
+            }
+            (kind, if letter == b'w' && n == 0 { 7 } else { n }, digits)
+        } else {
+            let (kind, found, from) = match letter {
+                b'a' | b'A' => (7, name_at(&text[at..], &WEEKDAYS), 1),
+                b'b' | b'B' | b'h' => (4, name_at(&text[at..], &MONTHS), 1),
+                _ => {
+                    let half = ["am", "pm"].iter().position(|h| goes_on(&text[at..], h));
+                    (15, half.map(|h| (h as u32, 2)), 0)
+                }
+            };
+            match found {
+                None => return refused(6, at),
+                Some((i, length)) => (kind, i + from, length),
+            }
+        };
+        if facts[kind].is_some() && facts[kind] != Some(number) {
+            return refused(8, at);
+        }
+        facts[kind] = Some(number);
+        at += length;
+    }
+    judged(cal, &facts, at)
+}
+
+/// The day and the hour that the facts leave.
+fn judged(cal: &Calendar, facts: &Facts, at: usize) -> Reading {
+    let mut day = None;
+    if facts[1..=12].iter().any(|f| f.is_some()) {
+        let found: Vec<_> = cal.first_two(facts).iter().map(|&i| cal.days[i].date()).collect();
+        match found[..] {
+            [] => return refused(9, 1),
+            [one] => day = Some(one),
+            _ => return Reading { two_days: Some([found[0], found[1]]), ..refused(10, 1) },
+        }
+    }
+    let mut hour = None;
+    if facts[13..=15].iter().any(|f| f.is_some()) {
+        let fits = |h: &u32| {
+            facts[13].is_none_or(|n| n == *h) && facts[14].is_none_or(|n| n == twelve(*h)) && facts[15].is_none_or(|n| n == *h / 12)
+        };
+        let found: Vec<u32> = (0..24).filter(fits).collect();
+        match found[..] {
+            [] => return refused(9, 2),
+            [one] => hour = Some(one),
+            _ => return Reading { two_hours: Some([found[0], found[1]]), ..refused(10, 2) },
+        }
+    }
+    Reading { number: 0, place: at as u32, day, hour, minute: facts[16], second: facts[17], ..Reading::default() }
+}

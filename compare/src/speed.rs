@@ -1,0 +1,54 @@
+//! Writes and reads per second of the library alone.
+use crate::library;
+use std::hint::black_box;
+use std::time::{Duration, Instant};
+
+fn rate(name: &str, mut once: impl FnMut(u32)) {
+    let began = Instant::now();
+    let mut n = 0u32;
+    while began.elapsed() < Duration::from_millis(300) {
+        for _ in 0..16 {
+            once(n);
+            n += 1;
+        }
+    }
+    let each = began.elapsed().as_secs_f64() / n as f64;
+    println!("  {name:<58} {:>12.0} a second", 1.0 / each);
+}
+
+fn write(format: &str) {
+    let mut elements = [0; 6656];
+    let (_, count) = library::open(format.as_bytes(), &mut elements);
+    let elements = &elements[..count as usize];
+    let mut out = [0u8; 128];
+    let moment = |n: u32| [1900 + n % 200, 1 + n % 12, 1 + n % 28, n % 24, n % 60, n % 60];
+    rate(&format!("write \"{format}\""), |n| {
+        black_box(library::strftime(black_box(format.as_bytes()), &moment(n), &mut out));
+    });
+    rate(&format!("write \"{format}\", opened once"), |n| {
+        black_box(library::write(black_box(elements), &moment(n), &mut out));
+    });
+}
+
+fn read(format: &str, text: &str) {
+    let mut elements = [0; 6656];
+    let (_, count) = library::open(format.as_bytes(), &mut elements);
+    let elements = &elements[..count as usize];
+    let mut words = [0u32; 14];
+    rate(&format!("read \"{text}\" by \"{format}\""), |_| {
+        black_box(library::strptime(black_box(format.as_bytes()), black_box(text.as_bytes()), &mut words));
+    });
+    rate(&format!("read \"{text}\" by \"{format}\", opened once"), |_| {
+        black_box(library::read(black_box(elements), black_box(text.as_bytes()), &mut words));
+    });
+}
+
+pub fn measure() {
+    write("%Y-%m-%d %H:%M:%S");
+    write("%c");
+    read("%Y-%m-%d %H:%M:%S", "1934-03-05 07:08:09");
+    read("%c", "Mon Mar  5 07:08:09 1934");
+    read("%d %b", "5 mar");
+    read("%C %V %u", "99 53 1");
+    read("%U %V", "10 50");
+}

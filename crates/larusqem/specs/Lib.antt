@@ -1,0 +1,4 @@
+-- What the C functions return, and what they leave in the slices that they are lent.
+pub mod Dates
+pub mod Packed
+pub mod Words

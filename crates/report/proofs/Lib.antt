@@ -1,0 +1,9 @@
+-- Laws that the proofs of several functions cite.
+pub mod Refusals
+pub mod Decimal
+pub mod Formats
+pub mod Listing
+pub mod Places
+pub mod Putting
+pub mod Splitting
+pub mod Whole

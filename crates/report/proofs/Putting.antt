@@ -1,0 +1,64 @@
+-- Bytes put into a buffer one after the other, over plain variables.
+-- Assumes nothing.
+use Prim.Native.Nat.{ℕ, suc, _+_, _-_, _≤_, _<_}
+use mathlib.Core.List.{List, [], _∷_, _++_, append-assoc}
+use mathlib.Core.Path.{_≡_, refl, sym, _∙_}
+use native.Mathlib.Nat.{add-zero, add-suc, suc-add}
+use native.Mathlib.Numerals.{add-one}
+use native.Mathlib.Omega.{arith}
+use lib.ListN.{length, take, drop, set, getD, length-append, length-take, length-drop, length-set, drop-of-length-le}
+use lib.Seq.{sets, sets-eq, drop-drop, drop-cons}
+use Rattle.report.specs.Private.{Puts}
+use Rattle.text.specs.Digits.{number}
+
+pub sets-append : (l : List ℕ) (i : ℕ) (a b : List ℕ) → sets l i (a ++ b) ≡ sets (sets l i a) (i + length a) b
+sets-append l i [] b = rw (add-zero i)
+sets-append l i (x ∷ a) b = rw (add-suc, ← suc-add) (sets-append (set l i x) (suc i) a b)
+
+-- one text after the other
+pub then : {x y before between after : List ℕ} {at middle end : ℕ} → Puts x before at between middle → Puts y between middle after end → Puts (x ++ y) before at after end
+then {x} {y} {before} {at = at} p q =
+    record {
+      ends = omega (arith, p .ends, q .ends, length-append x y);
+      stores = q .stores ∙ rw (p .stores, p .ends) (sym (sets-append before at x y));
+    }
+
+-- ---- bytes copied one at a time: the i first are put, and to put the others gives what is to be shown
+
+pub record Copying (x before : List ℕ) (at : ℕ) (out : List ℕ) (i : ℕ) : Type 0 where
+  pub within : i ≤ length x
+  pub kept : length out ≡ length before
+  pub rest : sets out (at + i) (drop i x) ≡ sets before at x
+
+pub copy-start : (x before : List ℕ) (at : ℕ) → Copying x before at before 0
+copy-start x before at = record { within = omega arith; kept = refl; rest = rw (add-zero at) }
+
+module _ {x before : List ℕ} {at : ℕ} {out : List ℕ} {i : ℕ} (p : Copying x before at out i) where
+  pub copy-next : i < length x → Copying x before at (set out (at + i) (getD x i 0)) (i + 1)
+  copy-next h =
+      let n : at + (i + 1) ≡ suc (at + i) = omega arith in
+      record {
+        within = omega arith;
+        kept = length-set out (at + i) (getD x i 0) ∙ p .kept;
+        rest = rw (n, add-one i) (rw (drop-cons x i 0 h) at (p .rest));
+      }
+
+  pub copy-end : length x ≤ i → Puts x before at out (at + i)
+  copy-end h = record { ends = omega (arith, p .within); stores = rw (drop-of-length-le x h) at (p .rest) }
+
+-- ---- a number over the part of a buffer that has its width
+module _ (b : List ℕ) (at w n : ℕ) (h : at + w ≤ length b) where
+  abbrev part : List ℕ
+  part = take (at + w - at) (drop at b)
+
+  pub numbered : {y : List ℕ} → length y ≡ length part → y ≡ number 48 (length part) n
+      → Puts (number 48 w n) b at (take at b ++ (y ++ drop (at + w - at) (drop at b))) (at + w)
+  numbered {y} k e =
+      let p : length part ≡ w = simp (length-take, length-drop) (omega arith) in
+      let q : y ≡ number 48 w n = rw p at e in
+      let l : length (number 48 w n) ≡ w = rw (q, p) at k in
+      let d : at + w - at ≡ w = omega arith in
+      record {
+        ends = rw l;
+        stores = rw (sets-eq (number 48 w n) b at (rw l h), l, q, d, drop-drop w at b) (sym (append-assoc (take at b) (number 48 w n) (drop (at + w) b)));
+      }

@@ -1,0 +1,23 @@
+-- The lines of an input (paper 01, "Program"): "Lines end in newline; a last line without one counts if not empty".
+use Prim.Native.Nat.{ℕ, suc}
+use mathlib.Core.Bool.{cond}
+use mathlib.Core.List.{List, [], _∷_}
+use lib.Dec.{eqb}
+
+-- the byte that ends a line
+abbrev pub newline : ℕ
+newline = 10
+
+-- one byte more at the front of the first line
+unfoldable pub onto : ℕ → List (List ℕ) → List (List ℕ)
+onto b [] = (b ∷ []) ∷ []
+onto b (l ∷ ls) = (b ∷ l) ∷ ls
+
+unfoldable pub lines : List ℕ → List (List ℕ)
+lines [] = []
+lines (b ∷ s) = let rest = lines s in cond (eqb b newline) ([] ∷ rest) (onto b rest)
+
+-- how many bytes stand before the first newline, or before the end where there is none
+unfoldable pub lineLength : List ℕ → ℕ
+lineLength [] = 0
+lineLength (b ∷ s) = let more = suc (lineLength s) in cond (eqb b newline) 0 more

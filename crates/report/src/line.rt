@@ -1,0 +1,163 @@
+// What a line says.
+use calendar::Date;
+use strptime::Answer;
+use strptime::Day;
+use strptime::Said;
+use strptime::number_of;
+use strptime::place_of;
+use text::write_number;
+ghost use mathlib.Core.Path.{_≡_};
+ghost use mathlib.Core.List.{[], _∷_};
+ghost use Prim.Native.Nat.{_+_, _≤_, _<_};
+ghost use lib.ListN.{length};
+ghost use Rattle.text.specs.Digits.{number};
+ghost use Rattle.strptime.specs.Answers.{placeOf};
+ghost use Rattle.report.specs.Line.{plain, dateShown, dayShown, saidShown, momentShown, answerShown, lineOf};
+ghost use Rattle.report.specs.Private.{Puts};
+
+// Each function here puts some bytes into `out` from `at` on, and answers the place after them.
+
+fn put_byte(out: &mut [u8], at: usize, b: u8) -> usize
+    requires { ⌜ at < length (now out) ⌝ }
+    ensures { λ r. ⌜ Puts (b ∷ []) (now (out .entry)) at (now (out .exit)) r ⌝ }
+    ensures { λ r. ⌜ r ≡ at + 1 ⌝ }
+{
+    out[at] = b;
+    at + 1
+}
+
+// Some bytes as they are.
+pub(crate) fn put_bytes(out: &mut [u8], at: usize, bytes: &[u8]) -> usize
+    requires { ⌜ at + length (now bytes) ≤ length (now out) ⌝ }
+    ensures { λ r. ⌜ Puts (now (bytes .entry)) (now (out .entry)) at (now (out .exit)) r ⌝ }
+{
+    let mut i = 0;
+    while i < bytes.len() {
+        out[at + i] = bytes[i];
+        i += 1;
+    }
+    at + i
+}
+
+// A number on `width` places, filled with zeros.
+fn put_number(out: &mut [u8], at: usize, width: usize, n: u32) -> usize
+    requires { ⌜ at + width ≤ length (now out) ⌝ }
+    ensures { λ r. ⌜ Puts (number 48 width n) (now (out .entry)) at (now (out .exit)) r ⌝ }
+    ensures { λ r. ⌜ r ≡ at + width ⌝ }
+{
+    let end = at + width;
+    write_number(&mut out[at..end], b'0', n);
+    end
+}
+
+// How many digits a number has.
+fn digit_count(n: u32) -> usize
+    requires { ⌜ n < 10000 ⌝ }
+    ensures { λ r. ⌜ (r ≤ 4) × (number 48 r n ≡ plain n) ⌝ }
+{
+    if n < 10 {
+        return 1;
+    }
+    if n < 100 {
+        return 2;
+    }
+    if n < 1000 {
+        return 3;
+    }
+    4
+}
+
+// A number with no zeros before it.
+fn put_plain(out: &mut [u8], at: usize, n: u32) -> usize
+    requires { ⌜ (n < 10000) × (at + 4 ≤ length (now out)) ⌝ }
+    ensures { λ r. ⌜ Puts (plain n) (now (out .entry)) at (now (out .exit)) r ⌝ }
+    ensures { λ r. ⌜ r ≤ at + 4 ⌝ }
+{
+    put_number(out, at, digit_count(n), n)
+}
+
+fn put_date(out: &mut [u8], at: usize, date: Date) -> usize
+    requires { ⌜ at + 10 ≤ length (now out) ⌝ }
+    ensures { λ r. ⌜ Puts (dateShown date) (now (out .entry)) at (now (out .exit)) r ⌝ }
+    ensures { λ r. ⌜ r ≡ at + 10 ⌝ }
+{
+    let at = put_number(out, at, 4, date.year as u32);
+    let at = put_byte(out, at, b'-');
+    let at = put_number(out, at, 2, date.month as u32);
+    let at = put_byte(out, at, b'-');
+    put_number(out, at, 2, date.day as u32)
+}
+
+fn put_day(out: &mut [u8], at: usize, day: Day) -> usize
+    requires { ⌜ at + 10 ≤ length (now out) ⌝ }
+    ensures { λ r. ⌜ Puts (dayShown day) (now (out .entry)) at (now (out .exit)) r ⌝ }
+    ensures { λ r. ⌜ r ≤ at + 10 ⌝ }
+{
+    match day {
+        Day::NoDate => put_byte(out, at, b'-'),
+        Day::On(date) => put_date(out, at, date),
+    }
+}
+
+// An hour, minute or second.
+fn put_said(out: &mut [u8], at: usize, said: Said) -> usize
+    requires { ⌜ at + 2 ≤ length (now out) ⌝ }
+    ensures { λ r. ⌜ Puts (saidShown said) (now (out .entry)) at (now (out .exit)) r ⌝ }
+    ensures { λ r. ⌜ r ≡ at + 2 ⌝ }
+{
+    match said {
+        Said::Unsaid => {
+            let at = put_byte(out, at, b'-');
+            put_byte(out, at, b'-')
+        }
+        Said::Is(n) => put_number(out, at, 2, n),
+    }
+}
+
+fn put_moment(out: &mut [u8], at: usize, day: Day, hour: Said, minute: Said, second: Said) -> usize
+    requires { ⌜ at + 19 ≤ length (now out) ⌝ }
+    ensures { λ r. ⌜ Puts (momentShown day hour minute second) (now (out .entry)) at (now (out .exit)) r ⌝ }
+    ensures { λ r. ⌜ r ≤ at + 19 ⌝ }
+{
+    let at = put_day(out, at, day);
+    let at = put_byte(out, at, b' ');
+    let at = put_said(out, at, hour);
+    let at = put_byte(out, at, b':');
+    let at = put_said(out, at, minute);
+    let at = put_byte(out, at, b':');
+    put_said(out, at, second)
+}
+
+fn put_answer(out: &mut [u8], at: usize, answer: Answer) -> usize
+    requires { ⌜ at + 19 ≤ length (now out) ⌝ }
+    ensures { λ r. ⌜ Puts (answerShown answer) (now (out .entry)) at (now (out .exit)) r ⌝ }
+    ensures { λ r. ⌜ r ≤ at + 19 ⌝ }
+{
+    let Answer::Done(_, day, hour, minute, second) = answer else {
+        return put_moment(
+            out,
+            at,
+            Day::NoDate,
+            Said::Unsaid,
+            Said::Unsaid,
+            Said::Unsaid,
+        );
+    };
+    put_moment(out, at, day, hour, minute, second)
+}
+
+// The whole line.
+pub(crate) fn put_line(out: &mut [u8], at: usize, answer: Answer) -> usize
+    requires { ⌜ (placeOf answer < 10000) × (at + 30 ≤ length (now out)) ⌝ }
+    ensures { λ r. ⌜ Puts (lineOf answer) (now (out .entry)) at (now (out .exit)) r ⌝ }
+    ensures { λ r. ⌜ r ≤ at + 30 ⌝ }
+{
+    let number = number_of(answer);
+    let place = place_of(answer) as u32;
+    let at = put_plain(out, at, number);
+    let at = put_byte(out, at, b' ');
+    let at = put_plain(out, at, place);
+    let at = put_byte(out, at, b' ');
+    let at = put_answer(out, at, answer);
+    put_byte(out, at, b'\n')
+}

@@ -1,0 +1,143 @@
+-- `strftime::put_converted` meets its contract: each form puts what it writes.
+use mathlib.Core.Path.{_≡_, refl, sym}
+use Rattle.format.specs.declared.conversions.Form.{Form}
+use Rattle.strftime.specs.Writing.{formed, converted}
+use Rattle.strftime.proofs.Lengths.{number-length, by-form}
+use Rattle.strftime.proofs.Over.{over-none}
+use borrow.Author.Needs.{needs}
+use Rattle.strftime.proofs.put_converted.Statement.{statement}
+use Rattle.strftime.proofs.put_converted.Tie as tie
+
+-- the function's entry, and what the conversion writes, by its form
+abbrev start : tie.After-value → tie.Start
+start c = c .before .before
+
+written : (c : tie.After-value) {f : Form} → start c .args .c .form ≡ f
+    → converted (start c .args .c) (start c .args .moment) ≡ formed f (start c .args .c .width) (start c .args .c .kind) (c .value .result)
+written c e = by-form (start c .args .c) (start c .args .moment) e (c .value .ensures)
+
+value-requires : tie.Need-value-requires
+value-requires c κs = search needs
+
+enum-told : tie.Need-enum-told
+enum-told c = search needs
+
+put-number-requires : tie.Need-put-number-requires
+unfolding formed
+put-number-requires c κs = rw (written (c .before .before .before) (c .before .enum-told .given .1), number-length) at (c .before .before .before .before .before .pre)
+
+enum-told-2 : tie.Need-enum-told-2
+enum-told-2 c = search needs
+
+put-number-requires-2 : tie.Need-put-number-requires-2
+unfolding formed
+put-number-requires-2 c κs = rw (written (c .before .before .before) (c .before .enum-told2 .given .1), number-length) at (c .before .before .before .before .before .pre)
+
+enum-told-3 : tie.Need-enum-told-3
+enum-told-3 c = search needs
+
+put-number-requires-3 : tie.Need-put-number-requires-3
+unfolding formed
+put-number-requires-3 c κs = rw (written (c .before .before .before) (c .before .enum-told3 .given .1), number-length) at (c .before .before .before .before .before .pre)
+
+enum-told-4 : tie.Need-enum-told-4
+enum-told-4 c = search needs
+
+put-short-requires : tie.Need-put-short-requires
+unfolding formed
+put-short-requires c κs = rw (written (c .before .before .before) (c .before .enum-told4 .given .1)) at (c .before .before .before .before .before .pre)
+
+enum-told-5 : tie.Need-enum-told-5
+enum-told-5 c = search needs
+
+put-full-requires : tie.Need-put-full-requires
+unfolding formed
+put-full-requires c κs = rw (written (c .before .before .before) (c .before .enum-told5 .given .1)) at (c .before .before .before .before .before .pre)
+
+enum-told-6 : tie.Need-enum-told-6
+enum-told-6 c = search needs
+
+put-lower-requires : tie.Need-put-lower-requires
+unfolding formed
+put-lower-requires c κs = rw (written (c .before .before .before) (c .before .enum-told6 .given .1)) at (c .before .before .before .before .before .pre)
+
+enum-told-7 : tie.Need-enum-told-7
+enum-told-7 c = search needs
+
+same-length : tie.Need-same-length
+same-length c = search needs
+
+returns : tie.Need-returns
+unfolding formed
+returns c = rw (written (c .before .before .before .before .before .before) (c .before .before .before .before .enum-told .given .1)) (c .before .before .put-number .ensures)
+
+same-length-2 : tie.Need-same-length-2
+same-length-2 c = search needs
+
+returns-2 : tie.Need-returns-2
+unfolding formed
+returns-2 c = rw (written (c .before .before .before .before .before .before) (c .before .before .before .before .enum-told2 .given .1)) (c .before .before .put-number2 .ensures)
+
+same-length-3 : tie.Need-same-length-3
+same-length-3 c = search needs
+
+returns-3 : tie.Need-returns-3
+unfolding formed
+returns-3 c = rw (written (c .before .before .before .before .before .before) (c .before .before .before .before .enum-told3 .given .1)) (c .before .before .put-number3 .ensures)
+
+same-length-4 : tie.Need-same-length-4
+same-length-4 c = search needs
+
+returns-4 : tie.Need-returns-4
+unfolding formed
+returns-4 c = rw (written (c .before .before .before .before .before .before) (c .before .before .before .before .enum-told4 .given .1)) (c .before .before .put-short .ensures)
+
+same-length-5 : tie.Need-same-length-5
+same-length-5 c = search needs
+
+returns-5 : tie.Need-returns-5
+unfolding formed
+returns-5 c = rw (written (c .before .before .before .before .before .before) (c .before .before .before .before .enum-told5 .given .1)) (c .before .before .put-full .ensures)
+
+same-length-6 : tie.Need-same-length-6
+same-length-6 c = search needs
+
+returns-6 : tie.Need-returns-6
+unfolding formed
+returns-6 c = rw (written (c .before .before .before .before .before .before) (c .before .before .before .before .enum-told6 .given .1)) (c .before .before .put-lower .ensures)
+
+returns-7 : tie.Need-returns-7
+unfolding formed
+returns-7 c = rw (written (c .before .before) (c .enum-told7 .given .1)) (refl, sym (over-none (c .before .before .before .before .args .out .now) 0))
+
+pub put-converted-spec : {M : Type 1} → statement M
+put-converted-spec =
+    tie.close
+    (tie.spec
+    value-requires
+    enum-told
+    put-number-requires
+    enum-told-2
+    put-number-requires-2
+    enum-told-3
+    put-number-requires-3
+    enum-told-4
+    put-short-requires
+    enum-told-5
+    put-full-requires
+    enum-told-6
+    put-lower-requires
+    enum-told-7
+    same-length
+    returns
+    same-length-2
+    returns-2
+    same-length-3
+    returns-3
+    same-length-4
+    returns-4
+    same-length-5
+    returns-5
+    same-length-6
+    returns-6
+    returns-7)

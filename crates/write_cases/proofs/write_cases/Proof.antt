@@ -1,0 +1,59 @@
+-- `write_cases::write_cases` is safe and ends: each line ends past its start.
+use Prim.Native.Nat.{_-_}
+use lib.ListN.{length}
+use borrow.Author.Needs.{needs}
+use Rattle.write_cases.proofs.write_cases.Statement.{statement}
+use Rattle.write_cases.proofs.write_cases.Tie as tie
+
+abbrev Inv-loop : tie.InvT-loop
+Inv-loop input at₀ at = Unit {0}
+
+abbrev μ-loop : tie.MeasureT-loop
+μ-loop input at₀ at = length input - at
+
+loop-holds : tie.Need-loop-holds Inv-loop μ-loop
+loop-holds c = search needs
+
+find-requires : tie.Need-find-requires Inv-loop μ-loop
+find-requires c κs = search needs
+
+sub-write-case : tie.Need-sub-write-case Inv-loop μ-loop
+sub-write-case c = search needs
+
+part-write-case-start : tie.Need-part-write-case-start Inv-loop μ-loop
+part-write-case-start c = search needs
+
+part-write-case-end : tie.Need-part-write-case-end Inv-loop μ-loop
+part-write-case-end c = search needs
+
+write-case-requires : tie.Need-write-case-requires Inv-loop μ-loop
+write-case-requires c κs = search needs
+
+add-at : tie.Need-add-at Inv-loop μ-loop
+add-at c = search needs
+
+loop-less : tie.Need-loop-less Inv-loop μ-loop
+loop-less c = search needs
+
+loop-again : tie.Need-loop-again Inv-loop μ-loop
+loop-again c = search needs
+
+returns : tie.Need-returns Inv-loop μ-loop
+returns c = search needs
+
+pub write-cases-spec : {M : Type 1} → statement M
+write-cases-spec =
+    tie.close
+    (tie.spec
+    Inv-loop
+    μ-loop
+    loop-holds
+    find-requires
+    sub-write-case
+    part-write-case-start
+    part-write-case-end
+    write-case-requires
+    add-at
+    loop-less
+    loop-again
+    returns)
