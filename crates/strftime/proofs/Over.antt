@@ -34,7 +34,7 @@ puts-first b x q p = (q, rw (over-start b x, p, q))
 pub puts-number : (b : List ℕ) (f w v : ℕ) {y : List ℕ} → w ≤ length b → y ≡ number f (length (take w b)) v → Puts (number f w v) b w (y ++ drop w b)
 puts-number b f w v h e = puts-first b (number f w v) (sym (number-length f w v)) (rw (length-take-le w b h) at e)
 
--- a name, as much of it as a buffer has room for
+-- a name over a buffer with room for it
 pub puts-name : (b x : List ℕ) {y : List ℕ} {n : ℕ} → length x ≤ length b → n ≡ length x → y ≡ take (length b) x ++ drop (length x) b → Puts x b n y
 puts-name b x h q e = (q, e ∙ rw (over-start b x, take-all (length b) x h))
 
