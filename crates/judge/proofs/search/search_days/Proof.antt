@@ -58,12 +58,13 @@ here c =
     let t = here-date c in
     let a = c .before .loop2 .inv in
     let y = c .before .before .before .before .before .before in
+    let e : y .date-kinds-agree .result ≡ on f (y .before .date-at .result) 1 3 = y .date-kinds-agree .ensures in
     ap (dayAgrees f) (a .at)
     ∙ agrees-by-parts f (t .year) (t .month) (t .day) (valid-here _ _ _ _ _ _ a (in-month c))
     ∙ ap (λ (b : Bool). b && on f t 5 8)
     (sym
     (c .before .before .before .month-agrees .ensures
-    ∙ ap (λ (b : Bool). b && on f (date (t .year) (t .month) 1) 4 1) (y .date-kinds-agree .ensures ∙ ap (λ (u : Date). on f u 1 3) (y .before .date-at .ensures))))
+    ∙ ap (λ (b : Bool). b && on f (date (t .year) (t .month) 1) 4 1) (e ∙ ap (λ (u : Date). on f u 1 3) (y .before .date-at .ensures))))
 
 -- the test of the day itself
 tested : (c : tie.After-day-agrees Inv-loop2 μ-loop2 Inv-loop μ-loop Inv-years μ-years) → c .day-agrees .result ≡ on (facts-at (c .before .before .before)) (here-date (c .before .before .before)) 5 8
