@@ -1,20 +1,17 @@
+-- `judge::search::day_agrees` meets its contract. Assumes nothing.
 use Prim.Native.Nat.{ℕ}
 use mathlib.Core.Bool.{Bool, not}
-use mathlib.Core.Path.{_≡_, refl, sym, ap, _∙_}
+use mathlib.Core.Path.{_≡_, sym, ap, _∙_}
 use native.Mathlib.Omega.{arith}
+use borrow.Author.Needs.{needs}
 use borrow.Author.Tests.{not-true, not-false}
 use Rattle.calendar.specs.declared.Date.{Date}
-use Rattle.values.specs.Values.{dateValue, dateValues}
 use Rattle.judge.specs.Agreement.{said, every, agrees}
 use Rattle.judge.specs.declared.Facts.{Facts}
+use Rattle.values.specs.Values.{dateValue, dateValues}
 use Rattle.judge.proofs.DayValues.{before-number, day-of-year-is, weekday-is, sunday-week-is, monday-week-is, fails-here, passes-here, unsaid-agree}
-use borrow.Author.Needs.{needs}
 use Rattle.judge.proofs.search.day_agrees.Statement.{statement}
 use Rattle.judge.proofs.search.day_agrees.Tie as tie
-use Rattle.judge.proofs.search.day_agrees.Reads as reads
-use Rattle.judge.proofs.search.day_agrees.Lts as lts
-use Rattle.judge.proofs.agreement.date_kinds_agree.Reads as date-kinds-agree-reads
-use Rattle.judge.proofs.search.says_other.Reads as says-other-reads
 
 -- the test of a kind
 abbrev test : Facts → Date → ℕ → Bool
@@ -61,109 +58,83 @@ past-8 c = passes-here _ 8 4 (tested-8 (c .before)) (c .if4 .left) ∙ past-7 (c
 past-9 : (c : tie.Else5) → every (test (c .before .before .before .before .before .before .before .before .before .before .before .before .args .facts) (c .before .before .before .before .before .before .before .before .before .before .before .before .args .date)) 10 3 ≡ every (test (c .before .before .before .before .before .before .before .before .before .before .before .before .args .facts) (c .before .before .before .before .before .before .before .before .before .before .before .before .args .date)) 5 8
 past-9 c = passes-here _ 9 3 (tested-9 (c .before)) (c .if5 .left) ∙ past-8 (c .before .before)
 
--- src/search.rt:58:19
 array-read-says-other : tie.Need-array-read-says-other
 array-read-says-other c = search needs
 
--- src/search.rt:58:28
 cast-says-other : tie.Need-cast-says-other
 cast-says-other c = search needs
 
--- src/search.rt:58:8
 says-other-requires : tie.Need-says-other-requires
 says-other-requires c κs = search needs
 
--- src/search.rt:59:9
 returns : tie.Need-returns
 returns c = fails-here _ 5 7 (tested-5 (c .before)) (c .if1 .taken)
 
--- src/search.rt:61:19
 array-read-says-other-2 : tie.Need-array-read-says-other-2
 array-read-says-other-2 c = search needs
 
--- src/search.rt:61:28
 sub-says-other : tie.Need-sub-says-other
 sub-says-other c = omega (arith, before-number (c .before .before .before .before .args .date) (c .before .before .before .before .pre .0 .0) (c .before .before .before .before .pre .0 .1))
 
--- src/search.rt:61:8
 says-other-requires-2 : tie.Need-says-other-requires-2
 says-other-requires-2 c κs = search needs
 
--- src/search.rt:62:9
 returns-2 : tie.Need-returns-2
 returns-2 c = fails-here _ 6 6 (tested-6 (c .before)) (c .if2 .taken) ∙ past-5 (c .before .before)
 
--- src/search.rt:64:19
 array-read-says-other-3 : tie.Need-array-read-says-other-3
 array-read-says-other-3 c = search needs
 
--- src/search.rt:64:29
 add-says-other : tie.Need-add-says-other
 add-says-other c = search needs
 
--- src/search.rt:64:28
 add-says-other-2 : tie.Need-add-says-other-2
 add-says-other-2 c = search needs
 
--- src/search.rt:64:8
 says-other-requires-3 : tie.Need-says-other-requires-3
 says-other-requires-3 c κs = search needs
 
--- src/search.rt:65:9
 returns-3 : tie.Need-returns-3
 returns-3 c = fails-here _ 7 5 (tested-7 (c .before)) (c .if3 .taken) ∙ past-6 (c .before .before)
 
--- src/search.rt:67:19
 array-read-says-other-4 : tie.Need-array-read-says-other-4
 array-read-says-other-4 c = search needs
 
--- src/search.rt:67:28
 sub-says-other-2 : tie.Need-sub-says-other-2
 sub-says-other-2 c = omega (arith, before-number (c .before .before .before .before .before .before .before .before .args .date) (c .before .before .before .before .before .before .before .before .pre .0 .0) (c .before .before .before .before .before .before .before .before .pre .0 .1))
 
--- src/search.rt:67:8
 says-other-requires-4 : tie.Need-says-other-requires-4
 says-other-requires-4 c κs = search needs
 
--- src/search.rt:68:9
 returns-4 : tie.Need-returns-4
 returns-4 c = fails-here _ 8 4 (tested-8 (c .before)) (c .if4 .taken) ∙ past-7 (c .before .before)
 
--- src/search.rt:70:19
 array-read-says-other-5 : tie.Need-array-read-says-other-5
 array-read-says-other-5 c = search needs
 
--- src/search.rt:70:29
 add-says-other-3 : tie.Need-add-says-other-3
 add-says-other-3 c = search needs
 
--- src/search.rt:70:48
 add-says-other-4 : tie.Need-add-says-other-4
 add-says-other-4 c = omega (arith, before-number (c .before .before .before .before .before .before .before .before .before .before .args .date) (c .before .before .before .before .before .before .before .before .before .before .pre .0 .0) (c .before .before .before .before .before .before .before .before .before .before .pre .0 .1))
 
--- src/search.rt:70:28
 sub-says-other-3 : tie.Need-sub-says-other-3
 sub-says-other-3 c = omega (arith, before-number (c .before .before .before .before .before .before .before .before .before .before .args .date) (c .before .before .before .before .before .before .before .before .before .before .pre .0 .0) (c .before .before .before .before .before .before .before .before .before .before .pre .0 .1))
 
--- src/search.rt:70:8
 says-other-requires-5 : tie.Need-says-other-requires-5
 says-other-requires-5 c κs = search needs
 
--- src/search.rt:71:9
 returns-5 : tie.Need-returns-5
 returns-5 c = fails-here _ 9 3 (tested-9 (c .before)) (c .if5 .taken) ∙ past-8 (c .before .before)
 
--- src/search.rt:74:9
 returns-6 : tie.Need-returns-6
 returns-6 c =
     let d = c .before .before .before .before .before .before .before .before .before .before .before .before .before in
     sym (unsaid-agree (d .args .facts) (λ k. dateValue k (d .args .date)) 10 3 (not-false _ (sym (d .pre .1 .1) ∙ not-true _ (c .if6 .taken)))) ∙ past-9 (c .before)
 
--- src/search.rt:76:5
 date-kinds-agree-requires : tie.Need-date-kinds-agree-requires
 date-kinds-agree-requires c κs = search needs
 
--- src/search.rt:52:1
 returns-7 : tie.Need-returns-7
 returns-7 c = c .date-kinds-agree .ensures ∙ past-9 (c .before .before)
 

@@ -1,21 +1,17 @@
+-- `judge::search::says_other` meets its contract. Assumes nothing.
+use borrow.Author.Needs.{needs}
 use borrow.Author.Tests.{ne-eqb}
 use Rattle.judge.specs.Agreement.{agrees}
-use borrow.Author.Needs.{needs}
 use Rattle.judge.proofs.search.says_other.Statement.{statement}
 use Rattle.judge.proofs.search.says_other.Tie as tie
-use Rattle.judge.proofs.search.says_other.Reads as reads
-use Rattle.judge.proofs.search.says_other.Lts as lts
 
--- src/search.rt:45:9
 returns : tie.Need-returns
 unfolding agrees
 returns c = rw (c .if1 .taken)
 
--- src/search.rt:47:5
 sub-result : tie.Need-sub-result
 sub-result c = search needs
 
--- src/search.rt:41:1
 returns-2 : tie.Need-returns-2
 unfolding agrees
 returns-2 c = rw (ne-eqb _ 0 (c .if1 .left))
