@@ -24,7 +24,12 @@ put-byte-requires : tie.Need-put-byte-requires
 put-byte-requires c κs = omega arith
 
 put-plain-requires-2 : tie.Need-put-plain-requires-2
-put-plain-requires-2 c κs = omega arith
+put-plain-requires-2 c κs =
+    omega (
+      arith,
+      c .before .before .before .before .before .before .before .before .before .before .number-of .ensures,
+      number-most (c .before .before .before .before .before .before .before .before .before .before .before .before .args .answer),
+    )
 
 put-byte-requires-2 : tie.Need-put-byte-requires-2
 put-byte-requires-2 c κs = omega arith
