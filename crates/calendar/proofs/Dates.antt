@@ -27,7 +27,7 @@ pub record Valid (y m d : ℕ) : Type 0 where
   pub day-low : 0 < d
   pub day-high : d ≤ monthLength y m
 
--- a date is valid exactly if it has no bad field
+-- a valid date has no bad field
 pub valid-no-fault : (y m d : ℕ) → Valid y m d → dateFault y m d ≡ 0
 unfolding dateFault
 valid-no-fault y m d v =

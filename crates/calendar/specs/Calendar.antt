@@ -63,7 +63,7 @@ abbrev pub weekday : ℕ → ℕ
 weekday k = (k + 6) % 7 + 1
 
 -- Counting off: r days from the start of period i, where period i has size i days, period i + 1 has size (i + 1), and so on.
--- The period that they end in, and how far into it; at most n periods are counted off.
+-- The period that they end in; at most n periods are counted off.
 unfoldable pub periodOf : (ℕ → ℕ) → ℕ → ℕ → ℕ → ℕ
 periodOf size zero i r = i
 periodOf size (suc n) i r = let later = periodOf size n (suc i) (r - size i) in cond (leb r (size i)) i later
