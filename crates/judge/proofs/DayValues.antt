@@ -1,7 +1,7 @@
 -- The values of a day that the search carries along, by its day number and the days before its year; and a chain of tests of kinds.
 -- Assumes nothing.
 use Prim.Native.Nat.{ℕ, zero, suc, _+_, _-_, _/_, _%_}
-use mathlib.Core.Bool.{Bool, true, false, not}
+use mathlib.Core.Bool.{Bool, true, false, not, _&&_}
 use mathlib.Core.Path.{_≡_, refl, sym, ap, _∙_}
 use native.Mathlib.Omega.{arith}
 use borrow.Author.Tests.{eqb-true, not-true, not-false}
@@ -34,7 +34,11 @@ module _ (t : Date) {number before : ℕ} (e : number ≡ numberOf t) (g : befor
   unfolding dateValue dateValues dayNumber mondayWeek
   monday-week-is = omega (arith, e, g, count-is 1 (t .year) (dayOfYear (t .year) (t .month) (t .day)) (lit< tt) (lit≤ tt))
 
--- a test that fails ends the chain, one that passes is taken off
+not-not : (b : Bool) → not (not b) ≡ (b && true)
+not-not true = refl
+not-not false = refl
+
+-- a test that fails ends the chain, one that passes is taken off, and the last one decides
 module _ (p : ℕ → Bool) (k n : ℕ) {b : Bool} (e : b ≡ not (p k)) where
   pub fails-here : b ≡ true → false ≡ every p k (suc n)
   unfolding every
@@ -43,6 +47,10 @@ module _ (p : ℕ → Bool) (k n : ℕ) {b : Bool} (e : b ≡ not (p k)) where
   pub passes-here : b ≡ false → every p (suc k) n ≡ every p k (suc n)
   unfolding every
   passes-here f = rw (not-false (p k) (sym e ∙ f))
+
+pub last-here : (p : ℕ → Bool) (k : ℕ) {b : Bool} → b ≡ not (p k) → not b ≡ every p k 1
+unfolding every
+last-here p k e = ap not e ∙ not-not (p k)
 
 -- where nothing was said of some kinds, any values agree
 pub unsaid-agree : (f : Facts) (value : ℕ → ℕ) (from n : ℕ) → every (λ k. eqb (said f k) 0) from n ≡ true → every (λ k. agrees (said f k) (value k)) from n ≡ true

@@ -18,16 +18,19 @@ every-split p k (suc a) b =
     rw (suc-add, add-suc)
     (ap (λ (t : Bool). p k && t) (every-split p (suc k) a b ∙ rw suc-add) ∙ sym (and-assoc (p k) (every p (suc k) a) (every p (suc (k + a)) b)))
 
--- the n kinds from k on agree for a date
+-- the test of a kind, and of the n kinds from k on, for a date
+abbrev pub test : Facts → Date → ℕ → Bool
+test f t k = agrees (said f k) (dateValue k t)
+
 abbrev pub on : Facts → Date → ℕ → ℕ → Bool
-on f t k n = every (λ k. agrees (said f k) (dateValue k t)) k n
+on f t k n = every (test f t) k n
 
 pub agrees-by-parts : (f : Facts) (y m d : ℕ) → Valid y m d → dayAgrees f (dayNumber y m d) ≡ ((on f (date y 1 1) 1 3 && on f (date y m 1) 4 1) && on f (date y m d) 5 8)
 unfolding dayAgrees dateAgrees every dateValue dateValues
 agrees-by-parts f y m d v =
     ap (dateAgrees f) (date-of-number y m d v)
-    ∙ every-split (λ k. agrees (said f k) (dateValue k (date y m d))) 1 4 8
-    ∙ ap (λ (t : Bool). t && on f (date y m d) 5 8) (every-split (λ k. agrees (said f k) (dateValue k (date y m d))) 1 3 1)
+    ∙ every-split (test f (date y m d)) 1 4 8
+    ∙ ap (λ (t : Bool). t && on f (date y m d) 5 8) (every-split (test f (date y m d)) 1 3 1)
 
 -- two tests joined
 pub both-hold : {p a b : Bool} → p ≡ (a && b) → a ≡ true → b ≡ true → p ≡ true

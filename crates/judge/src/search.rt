@@ -26,17 +26,6 @@ fn date_at(year: u32, month: u32, day: u32) -> Date
     }
 }
 
-// Whether the year agrees, which is known, and the month too.
-fn month_agrees(facts: Facts, year_agrees: bool, year: u32, month: u32) -> bool
-    requires { ⌜ (year < 2 ^ 16) × (month < 2 ^ 8) ⌝ }
-    ensures { λ r. ⌜ r ≡ «year_agrees» && every (λ k. agrees (said facts k) (dateValue k (date year month 1))) 4 1 ⌝ }
-{
-    if !year_agrees {
-        return false;
-    }
-    date_kinds_agree(facts, date_at(year, month, 1), 4, 5)
-}
-
 // Whether something else was said than the value.
 fn says_other(said: u32, value: u32) -> bool
     ensures { λ r. ⌜ r ≡ not (agrees said value) ⌝ }
@@ -45,6 +34,30 @@ fn says_other(said: u32, value: u32) -> bool
         return false;
     }
     said - 1 != value
+}
+
+// Whether a year agrees: kinds 1 to 3.
+fn year_agrees(facts: Facts, year: u32) -> bool
+    requires { ⌜ year < 2 ^ 16 ⌝ }
+    ensures { λ r. ⌜ r ≡ every (λ k. agrees (said facts k) (dateValue k (date year 1 1))) 1 3 ⌝ }
+{
+    let said = facts.said;
+    if says_other(said[1], year) {
+        return false;
+    }
+    if says_other(said[2], year / 100) {
+        return false;
+    }
+    !says_other(said[3], year % 100)
+}
+
+// Whether the year agrees, which is known, and the month too: kind 4.
+fn month_agrees(facts: Facts, year_agrees: bool, year: u32, month: u32) -> bool
+    requires { ⌜ (year < 2 ^ 16) × (month < 2 ^ 8) ⌝ }
+    ensures { λ r. ⌜ r ≡ «year_agrees» && every (λ k. agrees (said facts k) (dateValue k (date year month 1))) 4 1 ⌝ }
+{
+    let said = facts.said;
+    year_agrees && !says_other(said[4], month)
 }
 
 // Whether the day agrees too: kinds 5 to 12. `number` is its day number, `before` counts the days before its year, and `iso`
@@ -76,7 +89,8 @@ fn day_agrees(facts: Facts, iso: bool, date: Date, number: u32, before: u32) -> 
     date_kinds_agree(facts, date, 10, 13)
 }
 
-// The first two days that agree with all date facts, by their day numbers. What hangs on the year or the month alone is tested once for it.
+// The first two days that agree with all date facts, by their day numbers. What hangs on the year or the month alone is tested once for it; the
+// days of a month that does not agree are only counted.
 pub fn search_days(facts: Facts) -> Found
     ensures { λ r. ⌜ r ≡ firstTwo (dayAgrees facts) 1 days ⌝ }
 {
@@ -84,16 +98,16 @@ pub fn search_days(facts: Facts) -> Found
     let mut found = Found::Nothing;
     let mut number: u32 = 1;
     let mut year: u32 = 1;
-    'years: while year <= 9999 {
+    'years: while year <= Date::LAST.year as u32 {
         let before = number - 1;
-        let year_agrees = date_kinds_agree(facts, date_at(year, 1, 1), 1, 4);
+        let year_agrees = year_agrees(facts, year);
         let mut month: u32 = 1;
-        while month <= 12 {
+        while month <= Date::LAST.month as u32 {
             let month_agrees = month_agrees(facts, year_agrees, year, month);
             let length = month_length(year, month);
             let mut day: u32 = 1;
-            while day <= length {
-                if month_agrees {
+            if month_agrees {
+                while day <= length {
                     if day_agrees(facts, iso, date_at(year, month, day), number, before) {
                         match found {
                             Found::Nothing => {
@@ -108,9 +122,14 @@ pub fn search_days(facts: Facts) -> Found
                             }
                         }
                     }
+                    day += 1;
+                    number += 1;
                 }
-                day += 1;
-                number += 1;
+            } else {
+                while day <= length {
+                    day += 1;
+                    number += 1;
+                }
             }
             month += 1;
         }

@@ -10,12 +10,9 @@ use Rattle.judge.specs.Agreement.{said, every, agrees}
 use Rattle.judge.specs.declared.Facts.{Facts}
 use Rattle.values.specs.Values.{dateValue, dateValues}
 use Rattle.judge.proofs.DayValues.{before-number, day-of-year-is, weekday-is, sunday-week-is, monday-week-is, fails-here, passes-here, unsaid-agree}
+use Rattle.judge.proofs.Parts.{test}
 use Rattle.judge.proofs.search.day_agrees.Statement.{statement}
 use Rattle.judge.proofs.search.day_agrees.Tie as tie
-
--- the test of a kind
-abbrev test : Facts → Date → ℕ → Bool
-test f t k = agrees (said f k) (dateValue k t)
 
 -- what was tested of each kind
 tested-5 : (c : tie.After-says-other) → c .says-other .result ≡ not (test (c .before .before .before .args .facts) (c .before .before .before .args .date) 5)

@@ -1,21 +1,23 @@
 -- `judge::search::month_agrees` meets its contract. Assumes nothing.
 use borrow.Author.Needs.{needs}
-use borrow.Author.Tests.{not-true, not-false}
+use Rattle.values.specs.Values.{dateValue, dateValues}
+use Rattle.judge.proofs.DayValues.{last-here}
 use Rattle.judge.proofs.search.month_agrees.Statement.{statement}
 use Rattle.judge.proofs.search.month_agrees.Tie as tie
 
+array-read-says-other : tie.Need-array-read-says-other
+array-read-says-other c = search needs
+
+says-other-requires : tie.Need-says-other-requires
+says-other-requires c κs = search needs
+
 returns : tie.Need-returns
-returns c = rw (not-true (c .before .args .year-agrees) (c .if1 .taken))
-
-date-at-requires : tie.Need-date-at-requires
-date-at-requires c κs = search needs
-
-date-kinds-agree-requires : tie.Need-date-kinds-agree-requires
-date-kinds-agree-requires c κs = search needs
+unfolding dateValue dateValues
+returns c = rw (c .before .if1 .taken) (last-here _ 4 (c .says-other .ensures))
 
 returns-2 : tie.Need-returns-2
-returns-2 c = rw (not-false (c .before .before .before .args .year-agrees) (c .before .before .if1 .left), ← c .before .date-at .ensures) (c .date-kinds-agree .ensures)
+returns-2 c = search needs
 
 pub month-agrees-spec : {M : Type 1} → statement M
 month-agrees-spec =
-    tie.close (tie.spec returns date-at-requires date-kinds-agree-requires returns-2)
+    tie.close (tie.spec array-read-says-other says-other-requires returns returns-2)
