@@ -16,7 +16,7 @@ pub struct Date {
 // What three fields give: a date, or the first bad one: 1 year, 2 month, 3 day.
 pub enum FromFields {
     Valid(Date),
-    Bad(u32),
+    Bad(u8),
 }
 
 // What a day number gives.

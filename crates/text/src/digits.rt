@@ -18,11 +18,12 @@ fn last_digit(n: u32) -> u8
     48 + (n % 10) as u8
 }
 
-// The byte at the last of some leading places of `n`.
+// The byte at the last of some leading places of `n`. The digit is made first, so that no jump hangs on `n`.
 fn leading_byte(fill: u8, n: u32) -> u8
     ensures { λ r. ⌜ r ≡ cond (eqb n 0) fill (digit (n % 10)) ⌝ }
 {
-    if n == 0 { fill } else { last_digit(n) }
+    let digit = last_digit(n);
+    if n == 0 { fill } else { digit }
 }
 
 // Writes `n` over the first `places` bytes of `out`, where a place before its first digit is filled with `fill`.

@@ -11,7 +11,7 @@ returns : tie.Need-returns
 returns c = simp (eq-eqb _ _ (c .if1 .taken))
 
 returns-2 : tie.Need-returns-2
-returns-2 c = simp (ne-eqb _ _ (c .before .if1 .left), c .last-digit .ensures)
+returns-2 c = simp (ne-eqb _ _ (c .if1 .left), c .before .last-digit .ensures)
 
 pub leading-byte-spec : {M : Type 1} → statement M
 leading-byte-spec = tie.close (tie.spec last-digit-requires returns returns-2)
