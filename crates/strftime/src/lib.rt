@@ -35,7 +35,7 @@ pub struct Fields {
 pub enum Written {
     Done(usize),
     FormatTooLong,
-    BadMoment(u32),
+    BadMoment(u8),
     BadConversion(usize),
     BufferTooSmall(usize),
 }

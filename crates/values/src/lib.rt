@@ -14,7 +14,7 @@ pub struct Moment {
 // What six fields give: a moment, or the first bad one: 1 year, 2 month, 3 day, 4 hour, 5 minute, 6 second.
 pub enum MomentFields {
     Valid(Moment),
-    Bad(u32),
+    Bad(u8),
 }
 
 impl Moment {
