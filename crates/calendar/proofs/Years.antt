@@ -9,7 +9,7 @@ use native.Mathlib.Omega.{arith}
 use borrow.Author.Tests.{eq-eqb, ne-eqb}
 use lib.Arith.{digits-div, digits-mod}
 use lib.Dec.{T, eqb, eqb→eq, lit<}
-use Rattle.calendar.specs.Calendar.{sum, yearLength, daysBefore, days, periodOf, yearOf}
+use Rattle.calendar.specs.Calendar.{sum, leap, yearLength, daysBefore, days, periodOf, yearOf}
 use Rattle.calendar.proofs.Sum.{Located, sum-suc, sum-last, period-is, locate}
 
 -- one more: a quotient grows exactly where the remainder turns to 0
@@ -88,6 +88,20 @@ module _ (k : ℕ) (h : 0 < k) where
 pub days-before-is : (y p : ℕ) → y ≡ suc p → daysBefore y ≡ sum yearLength p
 unfolding daysBefore
 days-before-is y p e = ap (sum yearLength) (omega arith)
+
+year-least : (y : ℕ) → 365 ≤ yearLength y
+unfolding yearLength
+year-least y = least (leap y)
+  where
+    least : (b : Bool) → 365 ≤ cond b 366 365
+    least true = omega arith
+    least false = omega arith
+
+-- the year of a day within 365 days of the year's start
+pub year-within : (y k : ℕ) → 0 < y → daysBefore y < k → k ≤ daysBefore y + 365 → yearOf k ≡ y
+year-within (suc p) k h a b =
+    let e = days-before-is (suc p) p refl in
+    year-is p k (omega (arith, e)) (omega (arith, e, sum-suc yearLength p, year-least (suc p)))
 
 -- a day lies past all the years before its own
 pub year-starts : (k : ℕ) → daysBefore (yearOf k) ≤ k

@@ -102,6 +102,18 @@ fn year_of(k: u32) -> u32
     year + 1
 }
 
+// The same, where that year is most likely `year`: then no division by the length of a cycle is needed.
+fn year_near(year: u32, k: u32) -> u32
+    requires { ⌜ (year < 2 ^ 16) × (k < 2 ^ 25) ⌝ }
+    ensures { λ r. ⌜ (r ≡ yearOf k) × (r < 2 ^ 20) ⌝ }
+{
+    let before = days_before(year);
+    if 0 < year && before < k && k <= before + 365 {
+        return year;
+    }
+    year_of(k)
+}
+
 // The month that day `n` of `year` falls in: the estimate is right or one month short.
 fn month_of(year: u32, n: u32) -> u32
     requires { ⌜ (0 < n) × (n ≤ yearLength year) ⌝ }
@@ -236,7 +248,7 @@ impl Date {
     pub fn iso_year(self) -> u32
         ensures { λ r. ⌜ r ≡ isoYear (dayNumber (self .year) (self .month) (self .day)) ⌝ }
     {
-        year_of(thursday_of(self))
+        year_near(self.year as u32, thursday_of(self))
     }
 
     // %V
@@ -244,7 +256,7 @@ impl Date {
         ensures { λ r. ⌜ r ≡ isoWeek (dayNumber (self .year) (self .month) (self .day)) ⌝ }
     {
         let thursday = thursday_of(self);
-        let year = year_of(thursday);
+        let year = year_near(self.year as u32, thursday);
         (thursday + 3) / 7 - (days_before(year) + 3) / 7
     }
 }
