@@ -17,7 +17,7 @@ def declared(path, name):
         text = file.read()
     name = re.escape(name)
     return re.search(
-        rf"(?m)^\s*(?:(?:unfoldable|abbrev|pub|const|fn|struct|enum|record|data|extern|\"C\")\s+)*«?{name}»?\s*(?=[:({{\s<])", text) is not None
+        rf"(?m)^\s*(?:(?:unfoldable|abbrev|pub|pub\(crate\)|const|fn|struct|enum|record|data|extern|\"C\")\s+)*«?{name}»?\s*(?=[:({{\s<])", text) is not None
 
 
 def main():

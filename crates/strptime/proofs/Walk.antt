@@ -1,7 +1,7 @@
 -- Reading the elements one after the other, over plain variables.
 -- Assumes nothing.
 use Prim.Native.Nat.{ℕ, suc, _+_, _≤_, _<_}
-use mathlib.Core.Bool.{Bool, true, false, not, _||_}
+use mathlib.Core.Bool.{Bool, true, false, cond, not, _||_}
 use mathlib.Core.List.{List}
 use mathlib.Core.Path.{_≡_, sym, _∙_}
 use native.Mathlib.Numerals.{add-one}
@@ -19,44 +19,16 @@ use Rattle.strptime.specs.declared.elements.Item.{Item}
 use Rattle.strptime.specs.declared.elements.Item.the-variants.{Skip, Fact, NoMatch, OutOfRange}
 use Rattle.strptime.proofs.Sound.{picked, Sound, sound}
 
--- ---- one more fact
-module _ (t : State) (k n from next : ℕ) {b : Bool} (e : b ≡ not (eqb (said (t .facts) k) 0 || eqb (said (t .facts) k) (suc n))) where
-  pub tell-conflict : b ≡ true → stays t (Conflict from) ≡ tell t k n from next
-  unfolding tell
-  tell-conflict f = rw (not-true (eqb (said (t .facts) k) 0 || eqb (said (t .facts) k) (suc n)) (sym e ∙ f))
-
-  pub tell-goes : b ≡ false → goes (record { said = set (t .facts .said) k (n + 1) }) next ≡ tell t k n from next
-  unfolding tell told
-  tell-goes f = rw (not-false (eqb (said (t .facts) k) 0 || eqb (said (t .facts) k) (suc n)) (sym e ∙ f), add-one)
-
--- ---- one element
-module _ (e : ℕ) (s : List ℕ) (t : State) {i : Item} (g : i ≡ readElement e s (t .at)) where
-  pub step-skip : (n : ℕ) → i ≡ Skip n → goes (t .facts) n ≡ stepOn e s t
-  unfolding stepOn taken
-  step-skip n f = rw (← g, f)
-
-  pub step-fact : (k n from next : ℕ) {r : Stepped} → i ≡ Fact k n from next → r ≡ tell t k n from next → r ≡ stepOn e s t
-  unfolding stepOn taken
-  step-fact k n from next f h = rw (← g, f) h
-
-  pub step-mismatch : (p : ℕ) → i ≡ NoMatch p → stays t (Mismatch p) ≡ stepOn e s t
-  unfolding stepOn taken
-  step-mismatch p f = rw (← g, f)
-
-  pub step-range : (p : ℕ) → i ≡ OutOfRange p → stays t (Range p) ≡ stepOn e s t
-  unfolding stepOn taken
-  step-range p f = rw (← g, f)
-
-  pub fact-fits : (k n from next : ℕ) → t .at ≤ length s → i ≡ Fact k n from next → (k < 18) × (n < 100000)
-  unfolding Sound
-  fact-fits k n from next h f = let r = rw (← g, f) at (sound s (t .at) h e) in (r .0, r .1)
+-- a number is the first of its kind, or the one that was said
+abbrev consistent : State → ℕ → ℕ → Bool
+consistent t k n = eqb (said (t .facts) k) 0 || eqb (said (t .facts) k) (suc n)
 
 -- a step stays within the text
 taken-within : (s : List ℕ) (t : State) → t .at ≤ length s → (i : Item) → Sound s i → taken t i .state .at ≤ length s
 unfolding taken goes stays tell Sound
 taken-within s t h (Skip n) p = p
 taken-within s t h (Fact k n from next) p =
-    picked (λ (r : Stepped). r .state .at ≤ length s) (eqb (said (t .facts) k) 0 || eqb (said (t .facts) k) (suc n))
+    picked (λ (r : Stepped). r .state .at ≤ length s) (consistent t k n)
     (goes (told (t .facts) k n) next) (stays t (Conflict from)) (p .2) h
 taken-within s t h (NoMatch q) p = h
 taken-within s t h (OutOfRange q) p = h
@@ -65,17 +37,41 @@ pub step-within : (e : ℕ) (s : List ℕ) (t : State) {r : Stepped} → t .at �
 unfolding stepOn
 step-within e s t h g = rw g (taken-within s t h (readElement e s (t .at)) (sound s (t .at) h e))
 
--- ---- all elements
+-- ---- one turn of the loop
+abbrev pub here : List ℕ → ℕ → State
+here facts at = record { facts = record { said = facts }; at = at }
+
+-- where the item that was read leads, with the elements that are left
+unfoldable pub onward : List ℕ → List ℕ → State → Item → Stepped
+onward es s t m = let r = taken t m in cond (isRead (r .outcome)) (readAll es s (r .state)) r
+
 module _ (es s : List ℕ) (t : State) (i : ℕ) where
   pub all-end : length es ≤ i → readAll (drop i es) s t ≡ stays t Read
   unfolding readAll
   all-end h = rw (drop-of-length-le es h)
 
-  module _ {r : Stepped} (h : i < length es) (g : r ≡ stepOn (getD es i 0) s t) where
-    pub all-stop : isRead (r .outcome) ≡ false → readAll (drop i es) s t ≡ r
-    unfolding readAll
-    all-stop f = rw (drop-cons es i 0 h, ← g, f)
+  pub all-onward : {m : Item} → i < length es → m ≡ readElement (getD es i 0) s (t .at) → readAll (drop i es) s t ≡ onward (drop (i + 1) es) s t m
+  unfolding readAll stepOn onward
+  all-onward h g = rw (drop-cons es i 0 h, add-one, ← g)
 
-    pub all-more : isRead (r .outcome) ≡ true → readAll (drop i es) s t ≡ readAll (drop (i + 1) es) s (r .state)
-    unfolding readAll
-    all-more f = rw (drop-cons es i 0 h, add-one, ← g, f)
+module _ (es s : List ℕ) (t : State) {m : Item} where
+  pub on-skip : {n : ℕ} → m ≡ Skip n → onward es s t m ≡ readAll es s (here (t .facts .said) n)
+  unfolding onward taken goes isRead
+  on-skip f = rw f
+
+  pub on-mismatch : {p : ℕ} → m ≡ NoMatch p → onward es s t m ≡ stays t (Mismatch p)
+  unfolding onward taken stays isRead
+  on-mismatch f = rw f
+
+  pub on-range : {p : ℕ} → m ≡ OutOfRange p → onward es s t m ≡ stays t (Range p)
+  unfolding onward taken stays isRead
+  on-range f = rw f
+
+  module _ {k n from next : ℕ} {b : Bool} (f : m ≡ Fact k n from next) (e : b ≡ not (consistent t k n)) where
+    pub on-conflict : b ≡ true → onward es s t m ≡ stays t (Conflict from)
+    unfolding onward taken tell stays isRead
+    on-conflict x = rw (f, not-true (consistent t k n) (sym e ∙ x))
+
+    pub on-told : b ≡ false → onward es s t m ≡ readAll es s (here (set (t .facts .said) k (n + 1)) next)
+    unfolding onward taken tell told goes isRead
+    on-told x = rw (f, not-false (consistent t k n) (sym e ∙ x), add-one)

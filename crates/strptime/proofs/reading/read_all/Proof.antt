@@ -1,72 +1,114 @@
 -- `strptime::reading::read_all` meets its contract. Assumes nothing.
-use Prim.Native.Nat.{_≤_, _-_}
-use mathlib.Core.Path.{_≡_, refl, sym, ap, _∙_}
+use Prim.Native.Nat.{_+_, _-_, _≤_, _<_}
+use mathlib.Core.Logic.{⊎-elim}
+use mathlib.Core.Path.{_≡_, refl, sym, _∙_}
 use native.Mathlib.Omega.{arith}
 use borrow.Author.Needs.{needs}
 use lib.ListN.{length, drop}
 use denote.Ref.{now}
-use Rattle.strptime.specs.Reading.{start, unsaid, stays, isRead, readAll}
-use Rattle.strptime.proofs.Walk.{all-stop, all-more, all-end, step-within}
+use Rattle.strptime.specs.Reading.{start, unsaid, stays, readAll}
+use Rattle.strptime.proofs.Sound.{Sound, sound}
+use Rattle.strptime.proofs.Walk.{here, onward, all-end, all-onward, on-skip, on-mismatch, on-range, on-conflict, on-told}
 use Rattle.strptime.proofs.reading.read_all.Statement.{statement}
 use Rattle.strptime.proofs.reading.read_all.Tie as tie
 
 abbrev Inv-loop : tie.InvT-loop
-Inv-loop elements s state₀ i₀ state i = (i ≤ length elements) × (state .at ≤ length s) × (readAll (drop i elements) s state ≡ readAll elements s start)
+Inv-loop elements s said₀ at₀ i₀ said at i = (i ≤ length elements) × (at ≤ length s) × (readAll (drop i elements) s (here said at) ≡ readAll elements s start)
 
 abbrev μ-loop : tie.MeasureT-loop
-μ-loop elements s state₀ i₀ state i = length elements - i
+μ-loop elements s said₀ at₀ i₀ said at i = length elements - i
 
 loop-holds : tie.Need-loop-holds Inv-loop μ-loop
 unfolding start unsaid
 loop-holds c = (omega arith, omega arith, refl)
 
-mul-step-on : tie.Need-mul-step-on Inv-loop μ-loop
-mul-step-on c = omega arith
+mul-read-element : tie.Need-mul-read-element Inv-loop μ-loop
+mul-read-element c = omega arith
 
-shared-slice-read-step-on : tie.Need-shared-slice-read-step-on Inv-loop μ-loop
-shared-slice-read-step-on c = omega arith
+shared-slice-read-read-element : tie.Need-shared-slice-read-read-element Inv-loop μ-loop
+shared-slice-read-read-element c = omega arith
 
-step-on-requires : tie.Need-step-on-requires Inv-loop μ-loop
-step-on-requires c κs = omega arith
+read-element-requires : tie.Need-read-element-requires Inv-loop μ-loop
+read-element-requires c κs = omega arith
 
-enum-told : tie.Need-enum-told Inv-loop μ-loop
-enum-told c = search needs
+-- what was read there, and where it leads
+item-sound : (c : tie.After-read-element Inv-loop μ-loop) → Sound (now (c .before .before .before .before .before .before .args .s)) (c .read-element .result)
+item-sound c = rw (c .read-element .ensures) (sound _ _ (c .before .before .before .loop .inv .1) _)
 
-enum-told-2 : tie.Need-enum-told-2 Inv-loop μ-loop
-enum-told-2 c = search needs
+turn :
+    (c : tie.After-read-element Inv-loop μ-loop) →
+    let a = c .before .before .before .before .before .before .args in
+    let l = c .before .before .before .loop in
+    onward (drop (l .i + 1) (now (a .elements))) (now (a .s)) (here (l .said) (l .at)) (c .read-element .result) ≡ readAll (now (a .elements)) (now (a .s)) start
+turn c =
+    let a = c .before .before .before .before .before .before .args in
+    let l = c .before .before .before .loop in
+    sym (all-onward (now (a .elements)) (now (a .s)) _ (l .i) (omega arith) (c .read-element .ensures)) ∙ l .inv .2
+
+enum-known-next : tie.Need-enum-known-next Inv-loop μ-loop
+enum-known-next c = search needs
+
+enum-known-kind : tie.Need-enum-known-kind Inv-loop μ-loop
+enum-known-kind c = search needs
+
+fits : (c : tie.After-known-told2 Inv-loop μ-loop) → let f = c .before .kind .given .0 in (f .0 < 18) × (f .1 .0 < 100000)
+unfolding Sound
+fits c = let r = rw (c .before .kind .given .1) at (item-sound (c .before .before .before)) in (r .0, r .1)
+
+cast-conflicts : tie.Need-cast-conflicts Inv-loop μ-loop
+cast-conflicts c = omega (arith, fits c)
+
+mul-conflicts : tie.Need-mul-conflicts Inv-loop μ-loop
+mul-conflicts c = omega (arith, fits c)
+
+array-read-conflicts : tie.Need-array-read-conflicts Inv-loop μ-loop
+array-read-conflicts c = omega (arith, fits c)
+
+conflicts-requires : tie.Need-conflicts-requires Inv-loop μ-loop
+conflicts-requires c κs = omega (arith, fits c)
+
+stopped-requires : tie.Need-stopped-requires Inv-loop μ-loop
+stopped-requires c κs = tt
 
 returns : tie.Need-returns Inv-loop μ-loop
-unfolding isRead
+unfolding stays
 returns c =
-    let a = c .before .before .before .before .before .before .before .before .args in
-    let l = c .before .before .before .before .before .loop in
-    sym
-    (sym (l .inv .2)
-    ∙ all-stop (now (a .elements)) (now (a .s)) (l .state) (l .i) (omega arith) (c .before .before .step-on .ensures) (ap isRead (c .enum-told2 .given .1)))
+    let d = c .before .before .before in
+    c .stopped .ensures
+    ∙ sym (on-conflict _ _ _ (d .before .kind .given .1) (c .before .before .conflicts .ensures) (c .before .if1 .taken))
+    ∙ turn (d .before .before .before)
 
-enum-told-3 : tie.Need-enum-told-3 Inv-loop μ-loop
-enum-told-3 c = search needs
+add-said : tie.Need-add-said Inv-loop μ-loop
+add-said c = omega (arith, fits (c .before .before))
+
+cast-said : tie.Need-cast-said Inv-loop μ-loop
+cast-said c = omega (arith, fits (c .before .before))
+
+mul-said : tie.Need-mul-said Inv-loop μ-loop
+mul-said c = omega (arith, fits (c .before .before))
+
+array-write-said : tie.Need-array-write-said Inv-loop μ-loop
+array-write-said c = omega (arith, fits (c .before .before))
+
+enum-known-p : tie.Need-enum-known-p Inv-loop μ-loop
+enum-known-p c = search needs
+
+stopped-requires-2 : tie.Need-stopped-requires-2 Inv-loop μ-loop
+stopped-requires-2 c κs = tt
 
 returns-2 : tie.Need-returns-2 Inv-loop μ-loop
-unfolding isRead
-returns-2 c =
-    let a = c .before .before .before .before .before .before .before .before .args in
-    let l = c .before .before .before .before .before .loop in
-    sym
-    (sym (l .inv .2)
-    ∙ all-stop (now (a .elements)) (now (a .s)) (l .state) (l .i) (omega arith) (c .before .before .step-on .ensures) (ap isRead (c .enum-told3 .given .1)))
+unfolding stays
+returns-2 c = c .stopped2 .ensures ∙ sym (on-mismatch _ _ _ (c .before .before .p .given .1)) ∙ turn (c .before .before .before .before)
 
-enum-told-4 : tie.Need-enum-told-4 Inv-loop μ-loop
-enum-told-4 c = search needs
+enum-known-p-2 : tie.Need-enum-known-p-2 Inv-loop μ-loop
+enum-known-p-2 c = search needs
+
+stopped-requires-3 : tie.Need-stopped-requires-3 Inv-loop μ-loop
+stopped-requires-3 c κs = tt
 
 returns-3 : tie.Need-returns-3 Inv-loop μ-loop
-unfolding isRead
-returns-3 c =
-    let a = c .before .before .before .before .before .before .before .before .args in
-    let l = c .before .before .before .before .before .loop in
-    sym
-    (sym (l .inv .2)
-    ∙ all-stop (now (a .elements)) (now (a .s)) (l .state) (l .i) (omega arith) (c .before .before .step-on .ensures) (ap isRead (c .enum-told4 .given .1)))
+unfolding stays
+returns-3 c = c .stopped3 .ensures ∙ sym (on-range _ _ _ (c .before .before .p2 .given .1)) ∙ turn (c .before .before .before .before)
 
 add-i : tie.Need-add-i Inv-loop μ-loop
 add-i c = omega arith
@@ -75,22 +117,22 @@ loop-less : tie.Need-loop-less Inv-loop μ-loop
 loop-less c = omega arith
 
 loop-again : tie.Need-loop-again Inv-loop μ-loop
-unfolding isRead
+unfolding Sound
 loop-again c =
-    let a = c .before .before .before .before .before .before .before .before .before .args in
-    let l = c .before .before .before .before .before .before .loop in
-    let g = c .before .before .before .step-on .ensures in (
-      omega arith,
-      step-within _ _ (l .state) (l .inv .1) g,
-      sym (all-more (now (a .elements)) (now (a .s)) (l .state) (l .i) (omega arith) g (ap isRead (c .before .enum-told .given .1))) ∙ l .inv .2,
-    )
+    ⊎-elim
+    (λ w. let f = w .1 .given .1 in (omega arith, omega (arith, rw f at (item-sound (c .before))), rw (w .3, w .4) (sym (on-skip _ _ _ f) ∙ turn (c .before))))
+    (λ w. let f = w .1 .given .1 in (omega arith, omega (arith, rw f at (item-sound (c .before))), rw (w .5, w .6) (sym (on-told _ _ _ f (w .3 .ensures) (w .4 .left)) ∙ turn (c .before))))
+    (c .match .came)
+
+stopped-requires-4 : tie.Need-stopped-requires-4 Inv-loop μ-loop
+stopped-requires-4 c κs = tt
 
 returns-4 : tie.Need-returns-4 Inv-loop μ-loop
 unfolding stays
 returns-4 c =
-    let a = c .before .before .before .before .args in
-    let l = c .before .loop in
-    sym (sym (l .inv .2) ∙ all-end (now (a .elements)) (now (a .s)) (l .state) (l .i) (omega arith))
+    let a = c .before .before .before .before .before .args in
+    let l = c .before .before .loop in
+    c .stopped4 .ensures ∙ sym (all-end (now (a .elements)) (now (a .s)) _ (l .i) (omega arith)) ∙ l .inv .2
 
 pub read-all-spec : {M : Type 1} → statement M
 read-all-spec =
@@ -99,17 +141,29 @@ read-all-spec =
     Inv-loop
     μ-loop
     loop-holds
-    mul-step-on
-    shared-slice-read-step-on
-    step-on-requires
-    enum-told
-    enum-told-2
+    mul-read-element
+    shared-slice-read-read-element
+    read-element-requires
+    enum-known-next
+    enum-known-kind
+    cast-conflicts
+    mul-conflicts
+    array-read-conflicts
+    conflicts-requires
+    stopped-requires
     returns
-    enum-told-3
+    add-said
+    cast-said
+    mul-said
+    array-write-said
+    enum-known-p
+    stopped-requires-2
     returns-2
-    enum-told-4
+    enum-known-p-2
+    stopped-requires-3
     returns-3
     add-i
     loop-less
     loop-again
+    stopped-requires-4
     returns-4)
