@@ -10,6 +10,7 @@ use Rattle.text.specs.Case.{fold}
 use Rattle.text.specs.Digits.{leading, number, isDigit, digitRun, decimal}
 use Rattle.text.specs.Names as names
 use Rattle.text.specs.Names.{goesOn, firstName, orElse, readName}
+use Rattle.text.specs.Naming as naming
 use Rattle.text.specs.Space.{isSpace, spaces}
 use Rattle.format.specs.Conversions as conversions
 use Rattle.format.specs.Opening as opening
@@ -17,14 +18,13 @@ use Rattle.strftime.specs.Writing as writer
 use Rattle.judge.specs.Agreement as agreement
 use Rattle.judge.specs.Search as search
 use Rattle.judge.specs.Verdicts as verdicts
-use Rattle.strptime.specs.Naming as naming
 use Rattle.strptime.specs.Elements as elements
 use Rattle.strptime.specs.Reading as reading
 use Rattle.strptime.specs.Answers as answers
 use Rattle.examples.specs.Starred.{Case, starred, moment, midnight, wrote, fields, shown, readAs, gives, kindsInOrder}
 
 pub all-hold : map (λ (c : Case). c .0) starred ≡ map (λ (c : Case). c .1) starred
-unfolding starred moment midnight wrote fields shown readAs gives bytes fold leading number isDigit digitRun decimal goesOn firstName orElse readName isSpace spaces calendar.computes moments.computes values.computes names.computes conversions.computes opening.computes writer.namesFor writer.placeFor writer.nameFor writer.formed writer.converted writer.element writer.text writer.refused writer.put writer.opened writer.dated writer.writing writer.numberOf writer.placeOf agreement.computes search.computes verdicts.computes naming.computes elements.computes reading.computes answers.computes
+unfolding starred moment midnight wrote fields shown readAs gives bytes fold leading number isDigit digitRun decimal goesOn firstName orElse readName isSpace spaces calendar.computes moments.computes values.computes names.computes naming.computes conversions.computes opening.computes writer.nameFor writer.formed writer.converted writer.element writer.text writer.refused writer.put writer.opened writer.dated writer.writing writer.numberOf writer.placeOf agreement.computes search.computes verdicts.computes elements.computes reading.computes answers.computes
 all-hold = refl
 
 -- the writer writes the value of kind k, 1 to 15, for the k-th of the paper's letters

@@ -14,11 +14,11 @@ use Rattle.format.specs.declared.conversions.Form.the-variants.{Zeros, Blanks, 
 use Rattle.judge.specs.Agreement.{said}
 use Rattle.text.specs.Digits.{digitRun, decimal}
 use Rattle.text.specs.Names.{readName}
+use Rattle.text.specs.Naming.{namesFor}
 use Rattle.text.specs.Space.{isSpace, spaces}
 use Rattle.text.specs.declared.names.NameRead.{NameRead}
 use Rattle.text.specs.declared.names.NameRead.the-variants.{Found, Nothing}
 use Rattle.strptime.specs.Elements.{ordinary, readByte, ranged, readNumber, fromSunday, named, readNamed, readForm, readConversion, readElement}
-use Rattle.strptime.specs.Naming.{namesFor}
 use Rattle.strptime.specs.Reading.{goes, stays, told, tell, taken, stepOn, isRead, readAll}
 use Rattle.strptime.specs.declared.Outcome.{Outcome}
 use Rattle.strptime.specs.declared.Outcome.the-variants.{Read, Mismatch, Range, Conflict}

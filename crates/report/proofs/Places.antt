@@ -22,7 +22,6 @@ use Rattle.judge.specs.declared.Verdict.the-variants.{Unsaid, Impossible, Open 
 use Rattle.judge.specs.declared.Verdict.{Verdict}
 use Rattle.strptime.specs.Answers.{most, done, withHour, withDay, judged, concluded, readBy, readElements, placeOf}
 use Rattle.strptime.specs.Elements.{ordinary, readByte, ranged, readNumber, fromSunday, named, readNamed, readForm, readConversion, readElement}
-use Rattle.strptime.specs.Naming.{namesFor}
 use Rattle.strptime.specs.Reading.{start, goes, stays, told, tell, taken, stepOn, isRead, readAll}
 use Rattle.strptime.specs.declared.Answer.the-variants.{TextTooLong}
 use Rattle.strptime.specs.declared.Answer.{Answer}
@@ -35,6 +34,7 @@ use Rattle.strptime.specs.declared.elements.Item.the-variants.{Skip, Fact, NoMa
 use Rattle.strptime.specs.declared.elements.Item.{Item}
 use Rattle.text.specs.Digits.{digitRun, decimal}
 use Rattle.text.specs.Names.{readName}
+use Rattle.text.specs.Naming.{namesFor}
 use Rattle.text.specs.Space.{isSpace, spaces}
 use Rattle.text.specs.declared.names.NameRead.the-variants.{Found, Nothing}
 use Rattle.text.specs.declared.names.NameRead.{NameRead}

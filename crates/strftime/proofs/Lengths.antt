@@ -13,6 +13,7 @@ use lib.Seq.{drop-cons}
 use Rattle.laws.proofs.Table.{both}
 use Rattle.text.specs.Digits.{leading, number}
 use Rattle.text.specs.Names.{nameAt}
+use Rattle.text.specs.Naming.{namesFor, placeFor}
 use Rattle.text.specs.Rows.{padded}
 use Rattle.text.specs.declared.names.Names.{Names}
 use Rattle.text.proofs.Rows.{held}
@@ -22,7 +23,7 @@ use Rattle.format.specs.declared.conversions.Form.{Form}
 use Rattle.format.specs.declared.conversions.Form.the-variants.{Zeros, Blanks, FromSunday, Short, Full, Lower, Unknown}
 use Rattle.values.specs.Values.{value}
 use Rattle.values.specs.declared.Moment.{Moment}
-use Rattle.strftime.specs.Writing.{nameFor, namesFor, placeFor, formed, converted, element, text}
+use Rattle.strftime.specs.Writing.{nameFor, formed, converted, element, text}
 
 leading-length : (f w n : ℕ) → length (leading f w n) ≡ w
 unfolding leading

@@ -2,13 +2,12 @@
 use Prim.Native.Nat.{ℕ, _-_, _%_}
 use mathlib.Core.Bool.{cond}
 use mathlib.Core.List.{List, [], _∷_, _++_, map}
-use lib.Dec.{eqb, leb, ltb}
+use lib.Dec.{leb, ltb}
 use lib.ListN.{length, drop}
 use Rattle.text.specs.Case.{fold}
 use Rattle.text.specs.Digits.{number}
 use Rattle.text.specs.Names.{nameAt, short}
-use Rattle.text.specs.declared.names.Names.{Names}
-use Rattle.text.specs.declared.names.Names.the-variants.{Weekdays, Months, Halves}
+use Rattle.text.specs.Naming.{namesFor, placeFor}
 use Rattle.format.specs.Conversions.{conversionOf}
 use Rattle.format.specs.Opening.{Opening, Ended, Whole, BadAt, opening}
 use Rattle.format.specs.declared.conversions.Conversion.{Conversion}
@@ -22,13 +21,6 @@ use Rattle.values.specs.declared.MomentFields.the-variants.{Valid, Bad}
 use Rattle.strftime.specs.declared.Fields.{Fields}
 use Rattle.strftime.specs.declared.Written.{Written}
 use Rattle.strftime.specs.declared.Written.the-variants.{Done, FormatTooLong, BadMoment, BadConversion, BufferTooSmall}
-
--- the table that names a kind's values, and a value's place in it: kind 4 is the month, 7 the weekday, 15 the half of the day
-unfoldable pub namesFor : ℕ → Names
-namesFor k = cond (eqb k 4) Months (cond (eqb k 7) Weekdays Halves)
-
-unfoldable pub placeFor : ℕ → ℕ → ℕ
-placeFor k v = cond (eqb k 15) v (v - 1)
 
 -- the name of value v of kind k
 unfoldable pub nameFor : ℕ → ℕ → List ℕ

@@ -4,8 +4,9 @@ use format::Form;
 use format::Opened;
 use format::conversion_of;
 use format::open;
-use text::Names;
 use text::name_length;
+use text::names_for;
+use text::place_for;
 use text::write_name;
 use text::write_name_lower;
 use text::write_number;
@@ -19,7 +20,7 @@ ghost use Rattle.text.specs.Case.{fold};
 ghost use Rattle.text.specs.Digits.{number};
 ghost use Rattle.text.specs.Names.{short};
 ghost use Rattle.format.specs.Opening.{opening};
-ghost use Rattle.strftime.specs.Writing.{namesFor, placeFor, nameFor, converted, element, text, mostElements, elementsWriting, opened, writing, numberOf, placeOf};
+ghost use Rattle.strftime.specs.Writing.{nameFor, converted, element, text, mostElements, elementsWriting, opened, writing, numberOf, placeOf};
 ghost use Rattle.strftime.specs.Private.{Puts};
 
 pub struct Fields {
@@ -157,31 +158,6 @@ fn length_of_name(kind: u32, value: u32) -> usize
     ensures { λ r. ⌜ r ≡ length (nameFor kind value) ⌝ }
 {
     name_length(names_for(kind), place_for(kind, value))
-}
-
-// The table that names the values of a kind, and the place of a value in it.
-fn names_for(kind: u32) -> Names
-    ensures { λ r. ⌜ r ≡ namesFor kind ⌝ }
-{
-    if kind == 4 {
-        return Names::Months;
-    }
-    if kind == 7 {
-        return Names::Weekdays;
-    }
-    Names::Halves
-}
-
-fn place_for(kind: u32, value: u32) -> usize
-    ensures { λ r. ⌜ r ≡ placeFor kind value ⌝ }
-{
-    if kind == 15 {
-        return value as usize;
-    }
-    if value == 0 {
-        return 0;
-    }
-    value as usize - 1
 }
 
 // Puts what the elements write, one after the other, over the start of `out`, and says how many bytes that is.

@@ -13,12 +13,12 @@ use Rattle.format.specs.declared.conversions.Conversion.{Conversion}
 use Rattle.format.specs.declared.conversions.Form.{Form}
 use Rattle.format.specs.declared.conversions.Form.the-variants.{Zeros, Blanks, FromSunday, Short, Full, Lower, Unknown}
 use Rattle.strptime.specs.Elements.{ordinary, readByte, ranged, readNumber, fromSunday, named, readNamed, readForm, readConversion, readElement}
-use Rattle.strptime.specs.Naming.{namesFor, valueAt}
 use Rattle.strptime.specs.declared.elements.Item.{Item}
 use Rattle.strptime.specs.declared.elements.Item.the-variants.{Skip, Fact, NoMatch, OutOfRange}
 use Rattle.text.specs.Case.{fold}
 use Rattle.text.specs.Digits.{isDigit, digitRun, decimal}
 use Rattle.text.specs.Names.{namesOf, short, goesOn, firstName, orElse, readName, weekdayNames, monthNames, halfNames}
+use Rattle.text.specs.Naming.{namesFor, firstValue, valueAt}
 use Rattle.text.specs.Space.{isSpace, spaces}
 use Rattle.text.specs.declared.names.NameRead.{NameRead}
 use Rattle.text.specs.declared.names.NameRead.the-variants.{Found, Nothing}
@@ -167,14 +167,14 @@ module _ (s : List ℕ) (at : ℕ) (h : at ≤ length s) where
   sound-sunday (OutOfRange p) t = t
 
   sound-named : (c : Conversion) → Small c → Sound s (readNamed c s at)
-  unfolding readNamed named valueAt Sound
+  unfolding readNamed named valueAt firstValue Sound
   sound-named c m = go (readName (namesFor (c .kind)) (drop at s)) refl
     where
       go : (r : NameRead) → readName (namesFor (c .kind)) (drop at s) ≡ r → Sound s (named (c .kind) r at)
       go (Found i n) e =
           let f = name-named (namesFor (c .kind)) (drop at s) i n e in (
             m .kind,
-            picked (λ (x : ℕ). x < 100000) (eqb (c .kind) 15) i (suc i) (omega (arith, f .place)) (omega (arith, f .place)),
+            picked (λ (x : ℕ). x + i < 100000) (eqb (c .kind) 15) 0 1 (omega (arith, f .place)) (omega (arith, f .place)),
             omega (arith, f .long, length-drop at s),
           )
       go Nothing e = tt

@@ -13,11 +13,11 @@ use lib.Seq.{drop-cons}
 use Rattle.format.specs.declared.conversions.Conversion.{Conversion}
 use Rattle.format.specs.declared.conversions.Form.{Form}
 use Rattle.strptime.specs.Elements.{ordinary, readByte, ranged, readNumber, named, readNamed, readForm, readConversion}
-use Rattle.strptime.specs.Naming.{namesFor, valueAt}
 use Rattle.strptime.specs.declared.elements.Item.{Item}
 use Rattle.strptime.specs.declared.elements.Item.the-variants.{Skip, Fact, NoMatch, OutOfRange}
 use Rattle.text.specs.Digits.{digitRun, readDigits}
 use Rattle.text.specs.Names.{readName}
+use Rattle.text.specs.Naming.{namesFor, valueAt}
 use Rattle.text.specs.Space.{isSpace, spaces}
 use Rattle.text.specs.declared.digits.Digits.{Digits}
 use Rattle.text.specs.declared.names.NameRead.{NameRead}

@@ -8,11 +8,11 @@ use Rattle.format.specs.Conversions.{conversionOf}
 use Rattle.format.specs.declared.conversions.Conversion.{Conversion}
 use Rattle.format.specs.declared.conversions.Form.{Form}
 use Rattle.format.specs.declared.conversions.Form.the-variants.{Zeros, Blanks, FromSunday, Short, Full, Lower, Unknown}
-use Rattle.strptime.specs.Naming.{namesFor, valueAt}
 use Rattle.strptime.specs.declared.elements.Item.{Item}
 use Rattle.strptime.specs.declared.elements.Item.the-variants.{Skip, Fact, NoMatch, OutOfRange}
 use Rattle.text.specs.Digits.{digitRun, decimal}
 use Rattle.text.specs.Names.{readName}
+use Rattle.text.specs.Naming.{namesFor, valueAt}
 use Rattle.text.specs.Space.{isSpace, spaces}
 use Rattle.text.specs.declared.names.NameRead.{NameRead}
 use Rattle.text.specs.declared.names.NameRead.the-variants.{Found, Nothing}

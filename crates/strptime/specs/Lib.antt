@@ -2,5 +2,4 @@
 pub mod Answers
 pub mod Demand
 pub mod Elements
-pub mod Naming
 pub mod Reading

@@ -3,15 +3,15 @@ use format::Conversion;
 use format::Form;
 use format::conversion_of;
 use text::NameRead;
-use text::Names;
 use text::is_space;
+use text::names_for;
 use text::read_digits;
 use text::read_name;
 use text::skip_space;
+use text::value_at;
 ghost use mathlib.Core.Path.{_≡_};
 ghost use Prim.Native.Nat.{_≤_, _<_};
 ghost use lib.ListN.{length};
-ghost use Rattle.strptime.specs.Naming.{namesFor, valueAt};
 ghost use Rattle.strptime.specs.Elements.{readByte, readNumber, fromSunday, readNamed, readConversion, readElement};
 
 // What an element found: nothing to say, a fact with the offset of its first digit or letter, or a refusal with its place.
@@ -70,28 +70,6 @@ fn from_sunday(item: Item) -> Item
         Item::NoMatch(p) => Item::NoMatch(p),
         Item::OutOfRange(p) => Item::OutOfRange(p),
     }
-}
-
-fn names_for(kind: u32) -> Names
-    ensures { λ r. ⌜ r ≡ namesFor kind ⌝ }
-{
-    if kind == 4 {
-        return Names::Months;
-    }
-    if kind == 7 {
-        return Names::Weekdays;
-    }
-    Names::Halves
-}
-
-fn value_at(kind: u32, i: usize) -> u32
-    requires { ⌜ i < 32 ⌝ }
-    ensures { λ r. ⌜ r ≡ valueAt kind i ⌝ }
-{
-    if kind == 15 {
-        return i as u32;
-    }
-    i as u32 + 1
 }
 
 fn read_named(c: Conversion, s: &[u8], at: usize) -> Item

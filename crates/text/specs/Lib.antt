@@ -3,5 +3,6 @@ pub mod Case
 pub mod Digits
 pub mod Distinct
 pub mod Names
+pub mod Naming
 pub mod Rows
 pub mod Space

@@ -1,10 +1,12 @@
 ghost use mathlib.Core.Path.{_≡_};
+ghost use Prim.Native.Nat.{_≤_, _<_};
 ghost use mathlib.Core.Bool.{cond};
 ghost use mathlib.Core.List.{_++_, map};
 ghost use lib.Dec.{eqb};
 ghost use lib.ListN.{length, take, drop};
 ghost use Rattle.text.specs.Case.{fold, lowered};
 ghost use Rattle.text.specs.Names.{namesOf, nameAt, readName};
+ghost use Rattle.text.specs.Naming.{namesFor, firstValue, placeFor, valueAt};
 ghost use Rattle.text.specs.Rows.{padded, overlaid, agreeing};
 
 // The tables of names: seven weekdays, twelve months, the two halves of the day.
@@ -64,6 +66,44 @@ pub fn fold(b: u8) -> u8
         return b;
     }
     b + 32
+}
+
+// The table that names the values of a kind of fact.
+pub fn names_for(kind: u32) -> Names
+    ensures { λ r. ⌜ r ≡ namesFor kind ⌝ }
+{
+    if kind == 4 {
+        return Names::Months;
+    }
+    if kind == 7 {
+        return Names::Weekdays;
+    }
+    Names::Halves
+}
+
+fn first_value(kind: u32) -> u32
+    ensures { λ r. ⌜ (r ≡ firstValue kind) × (r ≤ 1) ⌝ }
+{
+    if kind == 15 { 0 } else { 1 }
+}
+
+// The place of a value in its table; 0 below the first value.
+pub fn place_for(kind: u32, value: u32) -> usize
+    ensures { λ r. ⌜ r ≡ placeFor kind value ⌝ }
+{
+    let first = first_value(kind);
+    if value < first {
+        return 0;
+    }
+    (value - first) as usize
+}
+
+// The value at a place.
+pub fn value_at(kind: u32, i: usize) -> u32
+    requires { ⌜ i < 32 ⌝ }
+    ensures { λ r. ⌜ r ≡ valueAt kind i ⌝ }
+{
+    first_value(kind) + i as u32
 }
 
 fn name_count(t: Names) -> usize
