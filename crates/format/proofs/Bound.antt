@@ -13,6 +13,7 @@ use borrow.Author.Tests.{ne-eqb, eqb-true}
 use lib.Dec.{T, eqb, eqb·suc-zero, leb, ltb, leb→le, ltb→lt, lit<, lit≤}
 use lib.ListN.{length, getD, length-append}
 use Rattle.laws.specs.Bytes.{bytes}
+use Rattle.laws.proofs.Cases.{either}
 use Rattle.laws.proofs.Table.{both, all, at}
 use Rattle.format.specs.Conversions.{conversionOf, computes as rows-compute}
 use Rattle.format.specs.Opening.{Ended, Opening, IsElement, among, simple, composite, after-E, after-O, letter, step, ownFormat, nothing, before, composed, acted, scan, compositeTo, openTo, opening, computes}
@@ -21,11 +22,6 @@ use Rattle.format.specs.declared.conversions.Form.{Form}
 use Rattle.format.specs.declared.conversions.Form.the-variants.{Zeros, Blanks, FromSunday, Short, Full, Lower, Unknown}
 use Rattle.format.specs.declared.opening.Act.{Act}
 use Rattle.format.specs.declared.opening.Act.the-variants.{Wait, Emit, Open, Refuse}
-
--- what holds of both branches of a test, each where the test goes its way
-either : {A : Type 0} (P : A → Type 0) (t : Bool) {a b : A} → (t ≡ true → P a) → (t ≡ false → P b) → P (cond t a b)
-either P true f g = f refl
-either P false f g = g refl
 
 -- ---- the composites' own formats
 

@@ -1,7 +1,10 @@
--- Laws of the format layer. `Bound` is for the crates above: how many elements a format opens to, and what they are.
+-- Laws of the format layer. `Bound`, `Refused` and `Small` are for the crates above: how many elements a format opens to and what they are,
+-- where its first bad % is, and how large the numbers of a row are.
 pub mod Bound
 mod Cases
 pub mod Letters
+pub mod Refused
 pub mod Rows
+pub mod Small
 pub mod Stores
 pub mod Turns

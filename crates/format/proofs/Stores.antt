@@ -4,13 +4,15 @@ use Prim.Native.Nat.{ℕ, suc, _+_, _≤_, _<_}
 use mathlib.Core.Bool.{Bool, true, false, cond}
 use mathlib.Core.List.{List, [], _∷_, _++_}
 use mathlib.Core.Path.{_≡_, refl, sym, ap, _∙_}
-use native.Mathlib.Nat.{zero-add, add-zero, add-suc, suc-add}
+use native.Mathlib.Nat.{zero-add, add-zero}
 use native.Mathlib.Numerals.{add-one}
 use native.Mathlib.Omega.{arith}
 use borrow.Author.Tests.{le-leb, lt-leb, leb-true, leb-false}
 use lib.Dec.{leb}
 use lib.ListN.{length, set, length-set, length-append}
 use lib.Seq.{sets, drop-nil, set-out, length-sets}
+use Rattle.laws.proofs.Cases.{clash}
+use Rattle.laws.proofs.Stores.{sets-append}
 use Rattle.format.specs.Opening.{Ended, Opening, nothing, before, composed, closed, answer, stored}
 use Rattle.format.specs.Opening.Ended.{Whole, BadAt}
 use Rattle.format.specs.Private.{answerAfter}
@@ -22,10 +24,6 @@ use Rattle.format.specs.declared.opening.Opened.the-variants.{Done, Bad,
 sets-past : (l vs : List ℕ) (i : ℕ) → length l ≤ i → sets l i vs ≡ l
 sets-past l [] i h = refl
 sets-past l (v ∷ vs) i h = rw (set-out l i v h) (sets-past l vs (suc i) (omega arith))
-
-sets-append : (l : List ℕ) (i : ℕ) (a b : List ℕ) → sets l i (a ++ b) ≡ sets (sets l i a) (i + length a) b
-sets-append l i [] b = rw (add-zero i)
-sets-append l i (x ∷ a) b = rw (add-suc, ← suc-add) (sets-append (set l i x) (suc i) a b)
 
 sets-shift : (x : ℕ) (l : List ℕ) (i : ℕ) (vs : List ℕ) → sets (x ∷ l) (suc i) vs ≡ x ∷ sets l i vs
 sets-shift x l i [] = refl
@@ -39,25 +37,22 @@ sets-stored (x ∷ l) (v ∷ vs) = sets-shift v l 0 vs ∙ ap (λ (r : List ℕ)
 
 -- ---- what an answer says of the opening that it answers
 
-apart : {P : Type 0} → _≡_ {A = ℕ} 0 1 → P
-apart z = absurd (omega arith)
-
 pub when-done : (fits : Bool) (d : Ended) (n k : ℕ) → cond fits (closed n d) Full ≡ Done k → (fits ≡ true) × (d ≡ Whole) × (k ≡ n)
 unfolding closed
 when-done true Whole n k e = (refl, refl, (cc))
-when-done true (BadAt p) n k e = apart (cc)
-when-done false d n k e = apart (cc)
+when-done true (BadAt p) n k e = clash (cc)
+when-done false d n k e = clash (cc)
 
 pub when-bad : (fits : Bool) (d : Ended) (n p : ℕ) → cond fits (closed n d) Full ≡ Bad p → (fits ≡ true) × (d ≡ BadAt p)
 unfolding closed
-when-bad true Whole n p e = apart (cc)
+when-bad true Whole n p e = clash (cc)
 when-bad true (BadAt q) n p e = (refl, (cc))
-when-bad false d n p e = apart (cc)
+when-bad false d n p e = clash (cc)
 
 pub when-full : (fits : Bool) (d : Ended) (n : ℕ) → cond fits (closed n d) Full ≡ Full → fits ≡ false
 unfolding closed
-when-full true Whole n e = apart (cc)
-when-full true (BadAt q) n e = apart (cc)
+when-full true Whole n e = clash (cc)
+when-full true (BadAt q) n e = clash (cc)
 when-full false d n e = refl
 
 -- ---- storing an opening

@@ -16,7 +16,7 @@ use Rattle.report.specs.Private.{answerBy, Usable}
 use Rattle.strptime.specs.Answers.{most, readElements, readOpened, reading}
 use Rattle.strptime.specs.declared.Answer.the-variants.{TextTooLong}
 use Rattle.format.proofs.Stores.{when-bad}
-use Rattle.report.proofs.Places.{bad-most}
+use Rattle.format.proofs.Refused.{bad-within}
 use Rattle.strptime.proofs.Opens.{opened-done, opened-bad, opened-full, opened-whole}
 
 -- it is answered by r and the elements es
@@ -43,5 +43,5 @@ module _ (f room : List ℕ) (short : length f ≤ most) (h : 13 * length f ≤ 
       go (Bad p) d =
           let n = length (opening f .elements) in
           let b : opening f .ended ≡ BadAt p = when-bad (leb n (length room)) (opening f .ended) n p (sym e ∙ d) .1 in
-          (omega (arith, bad-most f b), λ s. rw (short-reading s, opened-bad f room h e p s d))
+          (omega (arith, bad-within f b), λ s. rw (short-reading s, opened-bad f room h e p s d))
       go Full d = absurd (opened-full f room h e d)

@@ -3,7 +3,6 @@ pub mod Refusals
 pub mod Decimal
 pub mod Formats
 pub mod Listing
-pub mod Places
 pub mod Putting
 pub mod Splitting
 pub mod Whole

@@ -3,18 +3,18 @@
 use Prim.Native.Nat.{ℕ, suc, _+_, _-_, _*_, _≤_, _<_}
 use mathlib.Core.Bool.{Bool, true, false, cond}
 use mathlib.Core.List.{List, [], _∷_, _++_}
-use mathlib.Core.Path.{_≡_, refl, sym, ap, _∙_}
+use mathlib.Core.Path.{_≡_, refl, ap, _∙_}
 use native.Mathlib.Nat.{add-zero}
 use native.Mathlib.Omega.{arith}
 use lib.Dec.{eqb}
 use lib.ListN.{length, take, drop, length-append, length-drop, drop-of-length-le}
 use lib.Seq.{sets, drop-drop, length-sets}
+use Rattle.laws.proofs.Stores.{sets-append}
 use Rattle.report.specs.Line.{lineOf}
 use Rattle.report.specs.Lines.{newline, onto, lines, lineLength}
 use Rattle.report.specs.Private.{Puts}
 use Rattle.report.specs.Report.{answered}
 use Rattle.strptime.specs.declared.Answer.{Answer}
-use Rattle.report.proofs.Putting.{sets-append}
 
 -- a byte at the front of the first line
 onto-first : (b : ℕ) (s : List ℕ) → onto b (lines s) ≡ (b ∷ take (lineLength s) s) ∷ lines (drop (suc (lineLength s)) s)

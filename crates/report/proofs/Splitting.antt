@@ -9,7 +9,7 @@ use lib.Dec.{eqb}
 use lib.ListN.{length, getD, drop, length-drop, drop-of-length-le}
 use lib.Seq.{drop-cons}
 use Rattle.report.specs.Lines.{newline, lineLength}
-use Rattle.strptime.proofs.Sound.{picked}
+use Rattle.laws.proofs.Cases.{picked}
 
 module _ (s : List ℕ) (i : ℕ) where
   pub end : length s ≤ i → lineLength (drop i s) ≡ 0
@@ -28,7 +28,7 @@ line-most : (s : List ℕ) → lineLength s ≤ length s
 unfolding lineLength
 line-most [] = omega arith
 line-most (b ∷ s) =
-    picked (λ (n : ℕ). n ≤ suc (length s)) (eqb b newline) 0 (suc (lineLength s)) (omega arith) (omega (arith, line-most s))
+    picked (λ (n : ℕ). n ≤ suc (length s)) (eqb b newline) (omega arith) (omega (arith, line-most s))
 
 -- a line ends within the input
 pub within : (s : List ℕ) (i : ℕ) {stop : ℕ} → i ≤ length s → stop ≡ i + lineLength (drop i s) → (i ≤ stop) × (stop ≤ length s)

@@ -1,26 +1,26 @@
 -- What an element writes, and how long that is: at most nine bytes, by one test over the table of conversions.
 -- Assumes nothing.
 use Prim.Native.Nat.{ℕ, zero, suc, _+_, _-_, _*_, _/_, _≤_, _<_}
-use mathlib.Core.Bool.{Bool, true, false, cond, _&&_}
 use mathlib.Core.List.{List, [], _∷_, _++_}
 use mathlib.Core.Path.{_≡_, refl}
 use native.Mathlib.Numerals.{add-one}
 use native.Mathlib.Omega.{arith}
 use borrow.Author.Tests.{lt-ltb, le-ltb}
-use lib.Dec.{T, eqb, leb, ltb, leb→le}
+use lib.Dec.{ltb}
 use lib.ListN.{length, drop, getD, replicate, length-append, length-take, length-map, drop-of-length-le}
 use lib.Seq.{drop-cons}
-use Rattle.laws.proofs.Table.{both}
+use Rattle.laws.proofs.Cases.{picked}
 use Rattle.text.specs.Digits.{leading, number}
 use Rattle.text.specs.Names.{nameAt}
 use Rattle.text.specs.Naming.{namesFor, placeFor}
 use Rattle.text.specs.Rows.{padded}
 use Rattle.text.specs.declared.names.Names.{Names}
 use Rattle.text.proofs.Rows.{held}
-use Rattle.format.specs.Conversions.{Row, rows, find, conversionOf, computes}
+use Rattle.format.specs.Conversions.{conversionOf}
 use Rattle.format.specs.declared.conversions.Conversion.{Conversion}
 use Rattle.format.specs.declared.conversions.Form.{Form}
 use Rattle.format.specs.declared.conversions.Form.the-variants.{Zeros, Blanks, FromSunday, Short, Full, Lower, Unknown}
+use Rattle.format.proofs.Small.{conversion-small}
 use Rattle.values.specs.Values.{value}
 use Rattle.values.specs.declared.Moment.{Moment}
 use Rattle.strftime.specs.Writing.{nameFor, formed, converted, element, text}
@@ -59,31 +59,11 @@ named k v p q = rw (p, q)
 
 -- ---- at most nine bytes
 
--- what holds of both branches of a test
-either : {A : Type 0} (P : A → Type 0) (t : Bool) {a b : A} → P a → P b → P (cond t a b)
-either P true p q = p
-either P false p q = q
-
 name-most : (k v : ℕ) → length (nameFor k v) ≤ 9
 unfolding nameFor padded
 name-most k v =
     let name = nameAt (namesFor k) (placeFor k v) in
     omega (arith, held (namesFor k) (placeFor k v) refl refl .fits, length-take 9 (name ++ replicate 9 32))
-
-narrow : List Row → Bool
-narrow [] = true
-narrow (r ∷ rs) = leb (r .row .width) 9 && narrow rs
-
-find-most : (c : ℕ) (rs : List Row) → T (narrow rs) → find c rs .width ≤ 9
-unfolding find narrow
-find-most c [] t = omega arith
-find-most c (r ∷ rs) t =
-    let u = both (leb (r .row .width) 9) (narrow rs) t in
-    either (λ (d : Conversion). d .width ≤ 9) (eqb c (r .letter)) (leb→le (r .row .width) 9 (u .0)) (find-most c rs (u .1))
-
-width-most : (c : ℕ) → conversionOf c .width ≤ 9
-unfolding computes narrow
-width-most c = find-most c rows tt
 
 formed-most : (f : Form) (w k v : ℕ) → w ≤ 9 → length (formed f w k v) ≤ 9
 unfolding formed
@@ -99,8 +79,8 @@ element-most : (m : Moment) (e : ℕ) → length (element m e) ≤ 9
 unfolding element converted
 element-most m e =
     let c = conversionOf (e - 256) in
-    either (λ (s : List ℕ). length s ≤ 9) (ltb e 256) (omega arith)
-    (formed-most (c .form) (c .width) (c .kind) (value (c .kind) m) (width-most (e - 256)))
+    picked (λ (s : List ℕ). length s ≤ 9) (ltb e 256) (omega arith)
+    (formed-most (c .form) (c .width) (c .kind) (value (c .kind) m) (conversion-small (e - 256) .width))
 
 pub text-most : (m : Moment) (es : List ℕ) → length (text m es) ≤ 9 * length es
 unfolding text

@@ -1,14 +1,14 @@
 -- Demand 3 of the reader: a matched text is answered by verdicts in the paper's words, and no date is invented.
 -- Assumes nothing.
-use Prim.Native.Nat.{ℕ, _≤_}
+use Prim.Native.Nat.{ℕ}
 use mathlib.Core.List.{List}
-use mathlib.Core.Path.{_≡_, refl, sym, ap, _∙_}
-use native.Mathlib.Omega.{arith}
+use mathlib.Core.Path.{_≡_, refl, sym, _∙_}
 use borrow.Author.Tests.{le-leb}
 use lib.ListN.{length}
+use Rattle.laws.proofs.Cases.{clash}
 use Rattle.calendar.specs.Calendar.{dateOf}
 use Rattle.calendar.specs.declared.Date.{Date}
-use Rattle.judge.specs.Demand.{NoneBears, IsDay, DayAgrees, Only, DayJudged, HourJudged}
+use Rattle.judge.specs.Demand.{NoneBears, IsDay, DayAgrees, Only, DayJudged}
 use Rattle.judge.specs.Verdicts.{dayVerdict, hourVerdict}
 use Rattle.judge.specs.declared.Verdict.{Verdict}
 use Rattle.judge.specs.declared.Verdict.the-variants.{Unsaid as NotSaid, Impossible, Open, Agreed}
@@ -17,17 +17,10 @@ use Rattle.strptime.specs.Answers.{most, done, withHour, withDay, judged
 use Rattle.strptime.specs.Demand.{Matched, Answered, NoneInvented}
 use Rattle.strptime.specs.Reading.{stays}
 use Rattle.strptime.specs.declared.State.{State}
-use Rattle.strptime.specs.declared.Stepped.{Stepped}
-use Rattle.strptime.specs.declared.Outcome.the-variants.{Read}
 use Rattle.strptime.specs.declared.Day.{Day}
 use Rattle.strptime.specs.declared.Day.the-variants.{NoDate, On}
 use Rattle.strptime.specs.declared.Said.{Said}
-use Rattle.strptime.specs.declared.Said.the-variants.{Unsaid, Is}
-use Rattle.strptime.specs.declared.Answer.{Answer}
-use Rattle.strptime.specs.declared.Answer.the-variants.{Done, NoDay, NoHour, OpenDay, OpenHour}
-
-clash : {A : Type 0} → _≡_ {A = ℕ} 0 1 → A
-clash z = absurd (omega arith)
+use Rattle.strptime.specs.declared.Answer.the-variants.{Done}
 
 module _ (f s : List ℕ) (t : State) (m : Matched f s t) where
   -- the answer to a matched text is its judging

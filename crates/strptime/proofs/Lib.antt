@@ -3,3 +3,4 @@ pub mod Ways
 pub mod Walk
 pub mod Demand
 pub mod Opens
+pub mod Places

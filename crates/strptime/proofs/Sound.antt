@@ -6,9 +6,9 @@ use mathlib.Core.List.{List, [], _∷_, map}
 use mathlib.Core.Path.{_≡_, refl, _∙_}
 use native.Mathlib.Omega.{arith}
 use borrow.Author.Tests.{leb-true}
-use lib.Dec.{T, eqb, leb, ltb, leb→le, ltb→lt, lit<, lit≤}
+use lib.Dec.{eqb, leb, ltb, lit<, lit≤}
 use lib.ListN.{length, drop, length-drop, length-map}
-use Rattle.format.specs.Conversions.{Row, find, rows, conversionOf}
+use Rattle.format.specs.Conversions.{conversionOf}
 use Rattle.format.specs.declared.conversions.Conversion.{Conversion}
 use Rattle.format.specs.declared.conversions.Form.{Form}
 use Rattle.format.specs.declared.conversions.Form.the-variants.{Zeros, Blanks, FromSunday, Short, Full, Lower, Unknown}
@@ -24,57 +24,22 @@ use Rattle.text.specs.declared.names.NameRead.{NameRead}
 use Rattle.text.specs.declared.names.NameRead.the-variants.{Found, Nothing}
 use Rattle.text.specs.declared.names.Names.{Names}
 use Rattle.text.specs.declared.names.Names.the-variants.{Weekdays, Months, Halves}
-use Rattle.laws.proofs.Table.{both}
-
--- whichever branch is taken
-pub picked : {A : Type 0} (P : A → Type 0) (b : Bool) (x y : A) → P x → P y → P (cond b x y)
-picked P true x y p q = p
-picked P false x y p q = q
-
-clash : {A : Type 0} → _≡_ {A = ℕ} 0 1 → A
-clash z = absurd (omega arith)
-
--- ---- the rows of the conversions are small: one computed test
-abbrev small : Conversion → Bool
-small c = leb (c .width) 9 && (ltb (c .kind) 18 && ltb (c .high) 100000)
-
-abbrev all-small : List Row → Bool
-all-small [] = true
-all-small (r ∷ rs) = small (r .row) && all-small rs
-
-found-small : (c : ℕ) (rs : List Row) → T (all-small rs) → T (small (find c rs))
-unfolding find
-found-small c [] t = tt
-found-small c (r ∷ rs) t =
-    let b = both (small (r .row)) (all-small rs) t in
-    picked (λ x. T (small x)) (eqb c (r .letter)) (r .row) (find c rs) (b .0) (found-small c rs (b .1))
-
-pub record Small (c : Conversion) : Type 0 where
-  pub width : c .width ≤ 9
-  pub kind : c .kind < 18
-  pub high : c .high < 100000
-
-pub conversion-small : (c : ℕ) → Small (conversionOf c)
-unfolding conversionOf rows
-conversion-small c =
-    let r = find c rows in
-    let t = both (leb (r .width) 9) (ltb (r .kind) 18 && ltb (r .high) 100000) (found-small c rows tt) in
-    let u = both (ltb (r .kind) 18) (ltb (r .high) 100000) (t .1) in
-    record { width = leb→le (r .width) 9 (t .0); kind = ltb→lt (r .kind) 18 (u .0); high = ltb→lt (r .high) 100000 (u .1) }
+use Rattle.format.proofs.Small.{Small, conversion-small}
+use Rattle.laws.proofs.Cases.{picked, clash}
 
 -- ---- lengths
 pub spaces-most : (s : List ℕ) → spaces s ≤ length s
 unfolding spaces
 spaces-most [] = lit≤ tt
 spaces-most (b ∷ s) =
-    picked (λ (n : ℕ). n ≤ suc (length s)) (isSpace b) (suc (spaces s)) 0 (omega (arith, spaces-most s)) (omega arith)
+    picked (λ (n : ℕ). n ≤ suc (length s)) (isSpace b) (omega (arith, spaces-most s)) (omega arith)
 
 pub run-most : (w : ℕ) (s : List ℕ) → length (digitRun w s) ≤ length s
 unfolding digitRun
 run-most zero s = omega arith
 run-most (suc w) [] = lit≤ tt
 run-most (suc w) (b ∷ s) =
-    picked (λ (d : List ℕ). length d ≤ suc (length s)) (isDigit b) (b ∷ digitRun w s) [] (omega (arith, run-most w s)) (omega arith)
+    picked (λ (d : List ℕ). length d ≤ suc (length s)) (isDigit b) (omega (arith, run-most w s)) (omega arith)
 
 goes-on-most : (n s : List ℕ) → goesOn n s ≡ true → length n ≤ length s
 unfolding goesOn
@@ -122,35 +87,35 @@ name-named t s j n e = go (firstName 0 (namesOf t) s) refl e
         let r = first-named (map short (namesOf t)) 0 s j n g in
         record { place = omega (arith, r .place, few-names t, length-map (namesOf t) short); long = r .long }
 
--- ---- what an element found
+-- ---- what an element found: a small fact, and offsets of the text
 unfoldable pub Sound : List ℕ → Item → Type 0
 Sound s (Skip n) = n ≤ length s
-Sound s (Fact k v f n) = (k < 18) × (v < 100000) × (n ≤ length s)
-Sound s (NoMatch p) = Unit {0}
-Sound s (OutOfRange p) = Unit {0}
+Sound s (Fact k v from n) = (k < 18) × (v < 100000) × (from ≤ length s) × (n ≤ length s)
+Sound s (NoMatch p) = p ≤ length s
+Sound s (OutOfRange p) = p ≤ length s
 
 module _ (s : List ℕ) (at : ℕ) (h : at ≤ length s) where
   sound-byte : (b : ℕ) → Sound s (readByte b s at)
   unfolding readByte ordinary Sound
   sound-byte b =
-      picked (Sound s) (isSpace b) (Skip (at + spaces (drop at s))) (ordinary b (drop at s) at)
+      picked (Sound s) (isSpace b)
       (omega (arith, spaces-most (drop at s), length-drop at s))
       (go (drop at s) (length-drop at s))
     where
       go : (t : List ℕ) → length t ≡ length s - at → Sound s (ordinary b t at)
-      go [] e = tt
-      go (c ∷ t) e = picked (Sound s) (eqb c b) (Skip (at + 1)) (NoMatch at) (omega arith) tt
+      go [] e = h
+      go (c ∷ t) e = picked (Sound s) (eqb c b) (omega arith) h
 
   sound-ranged : (c : Conversion) (ds : List ℕ) (from : ℕ) → Small c → from + length ds ≤ length s → Sound s (ranged c ds from)
   unfolding ranged Sound
   sound-ranged c ds from m l =
-      picked (Sound s) (eqb (length ds) 0) (NoMatch from) (cond (leb (c .low) (decimal 0 ds) && leb (decimal 0 ds) (c .high)) (Fact (c .kind) (decimal 0 ds) from (from + length ds)) (OutOfRange from))
-      tt (go (leb (c .low) (decimal 0 ds)) (leb (decimal 0 ds) (c .high)) refl)
+      picked (Sound s) (eqb (length ds) 0) (omega arith)
+      (go (leb (c .low) (decimal 0 ds)) (leb (decimal 0 ds) (c .high)) refl)
     where
       go : (a b : Bool) → leb (decimal 0 ds) (c .high) ≡ b → Sound s (cond (a && b) (Fact (c .kind) (decimal 0 ds) from (from + length ds)) (OutOfRange from))
-      go false b e = tt
-      go true false e = tt
-      go true true e = (m .kind, omega (arith, m .high, leb-true (decimal 0 ds) (c .high) e), l)
+      go false b e = omega arith
+      go true false e = omega arith
+      go true true e = (m .kind, omega (arith, m .high, leb-true (decimal 0 ds) (c .high) e), omega arith, l)
 
   sound-number : (c : Conversion) → Small c → Sound s (readNumber c s at)
   unfolding readNumber
@@ -162,7 +127,7 @@ module _ (s : List ℕ) (at : ℕ) (h : at ≤ length s) where
   sound-sunday : (i : Item) → Sound s i → Sound s (fromSunday i)
   unfolding fromSunday Sound
   sound-sunday (Skip n) t = t
-  sound-sunday (Fact k v f n) t = (t .0, picked (λ (x : ℕ). x < 100000) (eqb v 0) 7 v (lit< tt) (t .1), t .2)
+  sound-sunday (Fact k v from n) t = (t .0, picked (λ (x : ℕ). x < 100000) (eqb v 0) (lit< tt) (t .1), t .2, t .3)
   sound-sunday (NoMatch p) t = t
   sound-sunday (OutOfRange p) t = t
 
@@ -174,10 +139,11 @@ module _ (s : List ℕ) (at : ℕ) (h : at ≤ length s) where
       go (Found i n) e =
           let f = name-named (namesFor (c .kind)) (drop at s) i n e in (
             m .kind,
-            picked (λ (x : ℕ). x + i < 100000) (eqb (c .kind) 15) 0 1 (omega (arith, f .place)) (omega (arith, f .place)),
+            picked (λ (x : ℕ). x + i < 100000) (eqb (c .kind) 15) (omega (arith, f .place)) (omega (arith, f .place)),
+            h,
             omega (arith, f .long, length-drop at s),
           )
-      go Nothing e = tt
+      go Nothing e = h
 
   sound-form : (f : Form) (c : Conversion) → Small c → Sound s (readForm f c s at)
   unfolding readForm Sound
@@ -187,10 +153,10 @@ module _ (s : List ℕ) (at : ℕ) (h : at ≤ length s) where
   sound-form Short c m = sound-named c m
   sound-form Full c m = sound-named c m
   sound-form Lower c m = sound-named c m
-  sound-form Unknown c m = tt
+  sound-form Unknown c m = h
 
   pub sound : (e : ℕ) → Sound s (readElement e s at)
   unfolding readElement readConversion
   sound e =
       let c = conversionOf (e - 256) in
-      picked (Sound s) (ltb e 256) (readByte e s at) (readForm (c .form) c s at) (sound-byte e) (sound-form (c .form) c (conversion-small (e - 256)))
+      picked (Sound s) (ltb e 256) (sound-byte e) (sound-form (c .form) c (conversion-small (e - 256)))

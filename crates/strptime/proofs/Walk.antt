@@ -9,33 +9,43 @@ use borrow.Author.Tests.{not-true, not-false}
 use lib.Dec.{eqb}
 use lib.ListN.{length, getD, drop, set, drop-of-length-le}
 use lib.Seq.{drop-cons}
+use Rattle.laws.proofs.Cases.{picked}
 use Rattle.judge.specs.Agreement.{said}
 use Rattle.strptime.specs.Elements.{readElement}
 use Rattle.strptime.specs.Reading.{goes, stays, told, tell, taken, stepOn, isRead, readAll}
+use Rattle.strptime.specs.declared.Outcome.{Outcome}
 use Rattle.strptime.specs.declared.Outcome.the-variants.{Read, Mismatch, Range, Conflict}
 use Rattle.strptime.specs.declared.State.{State}
 use Rattle.strptime.specs.declared.Stepped.{Stepped}
 use Rattle.strptime.specs.declared.elements.Item.{Item}
 use Rattle.strptime.specs.declared.elements.Item.the-variants.{Skip, Fact, NoMatch, OutOfRange}
-use Rattle.strptime.proofs.Sound.{picked, Sound, sound}
+use Rattle.strptime.proofs.Sound.{Sound, sound}
 
 -- a number is the first of its kind, or the one that was said
 abbrev consistent : State → ℕ → ℕ → Bool
 consistent t k n = eqb (said (t .facts) k) 0 || eqb (said (t .facts) k) (suc n)
 
--- a step stays within the text
-taken-within : (s : List ℕ) (t : State) → t .at ≤ length s → (i : Item) → Sound s i → taken t i .state .at ≤ length s
-unfolding taken goes stays tell Sound
-taken-within s t h (Skip n) p = p
-taken-within s t h (Fact k n from next) p =
-    picked (λ (r : Stepped). r .state .at ≤ length s) (consistent t k n)
-    (goes (told (t .facts) k n) next) (stays t (Conflict from)) (p .2) h
-taken-within s t h (NoMatch q) p = h
-taken-within s t h (OutOfRange q) p = h
+-- a step stays within the text, and refuses at an offset of it
+unfoldable pub Placed : List ℕ → Outcome → Type 0
+Placed s Read = Unit {0}
+Placed s (Mismatch p) = p ≤ length s
+Placed s (Range p) = p ≤ length s
+Placed s (Conflict p) = p ≤ length s
 
-pub step-within : (e : ℕ) (s : List ℕ) (t : State) {r : Stepped} → t .at ≤ length s → r ≡ stepOn e s t → r .state .at ≤ length s
+abbrev pub Within : List ℕ → Stepped → Type 0
+Within s r = (r .state .at ≤ length s) × Placed s (r .outcome)
+
+taken-within : (s : List ℕ) (t : State) → t .at ≤ length s → (i : Item) → Sound s i → Within s (taken t i)
+unfolding taken goes stays tell Sound Placed
+taken-within s t h (Skip n) p = (p, tt)
+taken-within s t h (Fact k n from next) p =
+    picked (Within s) (consistent t k n) (p .3, tt) (h, p .2)
+taken-within s t h (NoMatch q) p = (h, p)
+taken-within s t h (OutOfRange q) p = (h, p)
+
+pub step-placed : (e : ℕ) (s : List ℕ) (t : State) → t .at ≤ length s → Within s (stepOn e s t)
 unfolding stepOn
-step-within e s t h g = rw g (taken-within s t h (readElement e s (t .at)) (sound s (t .at) h e))
+step-placed e s t h = taken-within s t h (readElement e s (t .at)) (sound s (t .at) h e)
 
 -- ---- one turn of the loop
 abbrev pub here : List ℕ → ℕ → State

@@ -8,7 +8,7 @@ use lib.ListN.{length}
 use lib.Seq.{length-take-le}
 use Rattle.report.specs.Private.{answerBy, Usable}
 use Rattle.strptime.specs.Answers.{most, placeOf}
-use Rattle.report.proofs.Places.{place-most}
+use Rattle.strptime.proofs.Places.{elements-most}
 use Rattle.report.proofs.answers.answer_to.Statement.{statement}
 use Rattle.report.proofs.answers.answer_to.Tie as tie
 
@@ -38,7 +38,7 @@ returns-2 : tie.Need-returns-2
 unfolding answerBy
 returns-2 c =
     let a = c .before .before .before .before .before .before .before .args in
-    (rw (c .before .before .before .opened .given .1) (c .read-elements .ensures), rw (c .read-elements .ensures) (place-most _ (now (a .text))))
+    (rw (c .before .before .before .opened .given .1) (c .read-elements .ensures), rw (c .read-elements .ensures) (elements-most _ (now (a .text))))
 
 returns-3 : tie.Need-returns-3
 unfolding answerBy placeOf Usable

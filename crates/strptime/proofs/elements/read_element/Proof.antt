@@ -2,8 +2,8 @@
 use native.Mathlib.Omega.{arith}
 use borrow.Author.Needs.{needs}
 use borrow.Author.Tests.{lt-ltb, le-ltb}
+use Rattle.format.proofs.Small.{conversion-small}
 use Rattle.strptime.specs.Elements.{readElement}
-use Rattle.strptime.proofs.Sound.{conversion-small}
 use Rattle.strptime.proofs.elements.read_element.Statement.{statement}
 use Rattle.strptime.proofs.elements.read_element.Tie as tie
 

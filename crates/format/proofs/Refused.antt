@@ -2,17 +2,18 @@
 -- Assumes nothing.
 use Prim.Native.Nat.{ℕ, _+_, _≤_}
 use mathlib.Core.List.{List, [], _∷_}
+use mathlib.Core.Path.{_≡_}
 use native.Mathlib.Omega.{arith}
 use lib.Dec.{eqb}
 use lib.ListN.{length}
+use Rattle.laws.proofs.Cases.{picked}
 use Rattle.format.specs.Opening.{Ended, Opening, nothing, before, composed, acted, scan, compositeTo, openTo, opening, step}
 use Rattle.format.specs.Opening.Ended.{Whole, BadAt}
 use Rattle.format.specs.declared.opening.Act.{Act}
 use Rattle.format.specs.declared.opening.Act.the-variants.{Wait, Emit, Open, Refuse}
-use Rattle.larusqem.proofs.Either.{either}
 
 -- an opening that ended badly ended at n or before
-unfoldable pub Until : ℕ → Ended → Type 0
+unfoldable Until : ℕ → Ended → Type 0
 Until n Whole = Unit {0}
 Until n (BadAt p) = p ≤ n
 
@@ -32,14 +33,13 @@ module _ (inner : ℕ → Opening) (n start : ℕ) (within : start ≤ n) where
 
 scan-until : (inner : ℕ → Opening) (s : List ℕ) (n phase start i : ℕ) → start ≤ i → i + length s ≤ n → Until n (scan inner phase start i s .ended)
 unfolding scan nothing Until
-scan-until inner [] n phase start i h l =
-    either (λ (o : Opening). Until n (o .ended)) (eqb phase 0) (λ _. tt) (λ _. omega arith)
+scan-until inner [] n phase start i h l = picked (λ (o : Opening). Until n (o .ended)) (eqb phase 0) tt (omega arith)
 scan-until inner (b ∷ s) n phase start i h l =
     acted-until inner n start (omega arith) (λ p. scan inner p start (i + 1) s) (scan inner 0 (i + 1) (i + 1) s)
     (λ p. scan-until inner s n p start (i + 1) (omega arith) (omega arith))
     (scan-until inner s n 0 (i + 1) (i + 1) (omega arith) (omega arith))
     (step phase b)
 
-pub opening-until : (f : List ℕ) → Until (length f) (opening f .ended)
-unfolding opening openTo
-opening-until f = scan-until (compositeTo 2) f (length f) 0 0 0 (omega arith) (omega arith)
+pub bad-within : (f : List ℕ) {p : ℕ} → opening f .ended ≡ BadAt p → p ≤ length f
+unfolding opening openTo Until
+bad-within f e = rw e at (scan-until (compositeTo 2) f (length f) 0 0 0 (omega arith) (omega arith))
