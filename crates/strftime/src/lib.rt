@@ -48,8 +48,8 @@ const MOST_ELEMENTS: usize = 6656;
 
 const WIDEST: usize = 9;
 
-// Writes a moment by a format over the start of the buffer. A short format is opened into a small array: to clear the large one takes
-// longer than to write.
+// Writes a moment by a format over the start of the buffer. The format is opened into the smallest of three arrays that has room for it: to
+// clear the largest takes longer than to write.
 pub fn strftime(format: &[u8], fields: Fields, out: &mut [u8]) -> Written
     ensures { λ r. ⌜ r ≡ writing (now (format .entry)) fields (now (out .entry)) .answer ⌝ }
     ensures { λ _. ⌜ now (out .exit) ≡ writing (now (format .entry)) fields (now (out .entry)) .buffer ⌝ }
@@ -67,8 +67,12 @@ pub fn strftime(format: &[u8], fields: Fields, out: &mut [u8]) -> Written
     ) {
         MomentFields::Bad(field) => Written::BadMoment(field),
         MomentFields::Valid(moment) => {
-            if format.len() <= 32 {
-                let mut elements = [0u32; 208];
+            if format.len() <= 16 {
+                let mut elements = [0u32; 104];
+                return write_format(format, moment, &mut elements, out);
+            }
+            if format.len() <= 128 {
+                let mut elements = [0u32; 832];
                 return write_format(format, moment, &mut elements, out);
             }
             let mut elements = [0u32; MOST_ELEMENTS];
@@ -226,16 +230,14 @@ fn put_full(out: &mut [u8], kind: u32, value: u32) -> usize
     requires { ⌜ length (nameFor kind value) ≤ length (now out) ⌝ }
     ensures { λ r. ⌜ Puts (nameFor kind value) (now (out .entry)) r (now (out .exit)) ⌝ }
 {
-    write_name(out, names_for(kind), place_for(kind, value));
-    length_of_name(kind, value)
+    write_name(out, names_for(kind), place_for(kind, value))
 }
 
 fn put_lower(out: &mut [u8], kind: u32, value: u32) -> usize
     requires { ⌜ length (map fold (nameFor kind value)) ≤ length (now out) ⌝ }
     ensures { λ r. ⌜ Puts (map fold (nameFor kind value)) (now (out .entry)) r (now (out .exit)) ⌝ }
 {
-    write_name_lower(out, names_for(kind), place_for(kind, value));
-    length_of_name(kind, value)
+    write_name_lower(out, names_for(kind), place_for(kind, value))
 }
 
 // The paper's number of an answer.

@@ -106,7 +106,8 @@ fn read_opened(format: &[u8], text: &[u8], room: &mut [u32]) -> Answer
     }
 }
 
-// Reads a text by a format: the day and hour that all its facts fix, or the refusal with its place.
+// Reads a text by a format: the day and hour that all its facts fix, or the refusal with its place. The format is opened into the smallest
+// of three arrays that has room for it: to clear the largest takes longer than to read.
 pub fn strptime(format: &[u8], text: &[u8]) -> Answer
     ensures { λ r. ⌜ r ≡ reading (now (format .entry)) (now (text .entry)) ⌝ }
 {
@@ -116,10 +117,14 @@ pub fn strptime(format: &[u8], text: &[u8]) -> Answer
     if 1024 < text.len() {
         return Answer::TextTooLong;
     }
-    if format.len() <= 32 {
-        let mut few = [0; 208];
-        return read_opened(format, text, &mut few);
+    if format.len() <= 16 {
+        let mut elements = [0; 104];
+        return read_opened(format, text, &mut elements);
     }
-    let mut many = [0; 6656];
-    read_opened(format, text, &mut many)
+    if format.len() <= 128 {
+        let mut elements = [0; 832];
+        return read_opened(format, text, &mut elements);
+    }
+    let mut elements = [0; 6656];
+    read_opened(format, text, &mut elements)
 }

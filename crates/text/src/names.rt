@@ -164,27 +164,31 @@ fn overlay(out: &mut [u8], name: &[u8], lower: bool)
     }
 }
 
-// A name, or as much of it as there is room for, over the start of `out`.
-fn put_name(out: &mut [u8], t: Names, i: usize, lower: bool)
+// A name, or as much of it as there is room for, over the start of `out`; how long the name is.
+fn put_name(out: &mut [u8], t: Names, i: usize, lower: bool) -> usize
+    ensures { λ r. ⌜ r ≡ length (nameAt t i) ⌝ }
     ensures { λ _. ⌜ now (out .exit) ≡ overlaid (lowered lower (nameAt t i)) (now (out .entry)) ⌝ }
 {
     let n = name_length(t, i);
     let name = row(t, i);
     overlay(out, &name[..n], lower);
+    n
 }
 
-// Copies a name's first bytes over `out`, as many as both have: a slice of three bytes takes the short form.
-pub fn write_name(out: &mut [u8], t: Names, i: usize)
+// Copies a name's first bytes over `out`, as many as both have: a slice of three bytes takes the short form. Says how long the name is.
+pub fn write_name(out: &mut [u8], t: Names, i: usize) -> usize
+    ensures { λ r. ⌜ r ≡ length (nameAt t i) ⌝ }
     ensures { λ _. ⌜ now (out .exit) ≡ take (length (now (out .entry))) (nameAt t i) ++ drop (length (nameAt t i)) (now (out .entry)) ⌝ }
 {
-    put_name(out, t, i, false);
+    put_name(out, t, i, false)
 }
 
 // The same in small letters.
-pub fn write_name_lower(out: &mut [u8], t: Names, i: usize)
+pub fn write_name_lower(out: &mut [u8], t: Names, i: usize) -> usize
+    ensures { λ r. ⌜ r ≡ length (nameAt t i) ⌝ }
     ensures { λ _. ⌜ now (out .exit) ≡ take (length (now (out .entry))) (map fold (nameAt t i)) ++ drop (length (nameAt t i)) (now (out .entry)) ⌝ }
 {
-    put_name(out, t, i, true);
+    put_name(out, t, i, true)
 }
 
 fn same_letter(a: u8, b: u8) -> bool

@@ -14,17 +14,15 @@ place-for-requires c κs = search needs
 write-name-requires : tie.Need-write-name-requires
 write-name-requires c κs = search needs
 
-length-of-name-requires : tie.Need-length-of-name-requires
-length-of-name-requires c κs = search needs
-
 same-length : tie.Need-same-length
 same-length c = search needs
 
 returns : tie.Need-returns
 returns c =
-    let s = c .before .before .before .before .before .before .before .before in
-    let n = named _ _ (c .before .before .before .before .before .names-for .ensures) (c .before .before .before .before .place-for .ensures) in
-    puts-name _ _ (s .pre) (c .length-of-name .ensures) (rw n at (c .before .before .before .write-name .ensures))
+    let s = c .before .before .before .before .before .before .before in
+    let n = named _ _ (c .before .before .before .before .names-for .ensures) (c .before .before .before .place-for .ensures) in
+    let w = rw n at (c .before .before .write-name .ensures) in
+    puts-name _ _ (s .pre) (w .0) (w .1)
 
 pub put-full-spec : {M : Type 1} → statement M
 put-full-spec =
@@ -33,6 +31,5 @@ put-full-spec =
     names-for-requires
     place-for-requires
     write-name-requires
-    length-of-name-requires
     same-length
     returns)

@@ -18,18 +18,16 @@ place-for-requires c κs = search needs
 write-name-lower-requires : tie.Need-write-name-lower-requires
 write-name-lower-requires c κs = search needs
 
-length-of-name-requires : tie.Need-length-of-name-requires
-length-of-name-requires c κs = search needs
-
 same-length : tie.Need-same-length
 same-length c = search needs
 
 returns : tie.Need-returns
 returns c =
-    let s = c .before .before .before .before .before .before .before .before in
-    let n = named _ _ (c .before .before .before .before .before .names-for .ensures) (c .before .before .before .before .place-for .ensures) in
+    let s = c .before .before .before .before .before .before .before in
+    let n = named _ _ (c .before .before .before .before .names-for .ensures) (c .before .before .before .place-for .ensures) in
     let l = length-map (nameFor (s .args .kind) (s .args .value)) fold in
-    puts-name _ _ (s .pre) (c .length-of-name .ensures ∙ sym l) (rw (n, ← l) at (c .before .before .before .write-name-lower .ensures))
+    let w = rw n at (c .before .before .write-name-lower .ensures) in
+    puts-name _ _ (s .pre) (w .0 ∙ sym l) (rw (← l) at (w .1))
 
 pub put-lower-spec : {M : Type 1} → statement M
 put-lower-spec =
@@ -38,6 +36,5 @@ put-lower-spec =
     names-for-requires
     place-for-requires
     write-name-lower-requires
-    length-of-name-requires
     same-length
     returns)

@@ -50,7 +50,7 @@ returns : tie.Need-returns
 returns c =
     let l = c .before .before .before .before .before .before in
     let n = named _ _ (c .before .before .before .before .names-for .ensures) (c .before .before .before .place-for .ensures) in
-    puts-part _ 3 _ (fits l) (long l) (rw n at (c .before .before .write-name .ensures))
+    puts-part _ 3 _ (fits l) (long l) (rw n at (c .before .before .write-name .ensures .1))
 
 pub put-short-spec : {M : Type 1} → statement M
 put-short-spec =

@@ -1,7 +1,7 @@
 -- `strftime::strftime` meets its contract: 1 and 2 are answered here, what follows is that of the opened format.
 use native.Mathlib.Omega.{arith}
-use Rattle.strftime.proofs.Order.{too-long, bad-moment, good-moment}
 use borrow.Author.Needs.{needs}
+use Rattle.strftime.proofs.Order.{too-long, bad-moment, good-moment}
 use Rattle.strftime.proofs.strftime.Statement.{statement}
 use Rattle.strftime.proofs.strftime.Tie as tie
 
@@ -28,7 +28,8 @@ same-length c = search needs
 
 returns-2 : tie.Need-returns-2
 returns-2 c =
-    good-moment _ _ _ (omega arith) (c .before .before .before .before .before .before .before .before .before .before .from-fields .ensures) (c .before .before .before .before .before .before .before .before .moment .given .1) (c .before .before .before .write-format .ensures)
+    let m = c .before .before .before .before .before .before .before .before in
+    good-moment _ _ _ (omega arith) (m .before .before .from-fields .ensures) (m .moment .given .1) (c .before .before .before .write-format .ensures)
 
 slice-aggregate-write-format-2 : tie.Need-slice-aggregate-write-format-2
 slice-aggregate-write-format-2 c = search needs
@@ -36,15 +37,30 @@ slice-aggregate-write-format-2 c = search needs
 write-format-requires-2 : tie.Need-write-format-requires-2
 write-format-requires-2 c κs = search needs
 
-returns-3 : tie.Need-returns-3
-returns-3 c = bad-moment _ _ _ (omega arith) (c .before .before .before .from-fields .ensures) (c .before .field .given .1)
-
 same-length-2 : tie.Need-same-length-2
 same-length-2 c = search needs
 
+returns-3 : tie.Need-returns-3
+returns-3 c =
+    let m = c .before .before .before .before .before .before .before .before .before in
+    good-moment _ _ _ (omega arith) (m .before .before .from-fields .ensures) (m .moment .given .1) (c .before .before .before .write-format2 .ensures)
+
+slice-aggregate-write-format-3 : tie.Need-slice-aggregate-write-format-3
+slice-aggregate-write-format-3 c = search needs
+
+write-format-requires-3 : tie.Need-write-format-requires-3
+write-format-requires-3 c κs = search needs
+
 returns-4 : tie.Need-returns-4
-returns-4 c =
-    good-moment _ _ _ (omega arith) (c .before .before .before .before .before .before .before .before .before .before .from-fields .ensures) (c .before .before .before .before .before .before .before .before .moment .given .1) (c .before .before .before .write-format2 .ensures)
+returns-4 c = bad-moment _ _ _ (omega arith) (c .before .before .before .from-fields .ensures) (c .before .field .given .1)
+
+same-length-3 : tie.Need-same-length-3
+same-length-3 c = search needs
+
+returns-5 : tie.Need-returns-5
+returns-5 c =
+    let m = c .before .before .before .before .before .before .before .before .before in
+    good-moment _ _ _ (omega arith) (m .before .before .from-fields .ensures) (m .moment .given .1) (c .before .before .before .write-format3 .ensures)
 
 pub strftime-spec : {M : Type 1} → statement M
 strftime-spec =
@@ -60,6 +76,10 @@ strftime-spec =
     returns-2
     slice-aggregate-write-format-2
     write-format-requires-2
-    returns-3
     same-length-2
-    returns-4)
+    returns-3
+    slice-aggregate-write-format-3
+    write-format-requires-3
+    returns-4
+    same-length-3
+    returns-5)

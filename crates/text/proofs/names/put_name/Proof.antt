@@ -33,7 +33,8 @@ returns : tie.Need-returns
 returns c =
     let l = c .before .before .before .before .before in
     let a = l .before .before .before .args in
-    rw (held (a .t) (a .i) (l .before .name-length .ensures) (l .row .ensures) .name) at (c .before .before .overlay .ensures)
+    let n = l .before .name-length .ensures in
+    (n, rw (held (a .t) (a .i) n (l .row .ensures) .name) at (c .before .before .overlay .ensures))
 
 pub put-name-spec : {M : Type 1} → statement M
 put-name-spec =

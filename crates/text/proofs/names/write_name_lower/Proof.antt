@@ -14,7 +14,7 @@ same-length c = search needs
 
 returns : tie.Need-returns
 unfolding overlaid lowered
-returns c = rw length-map at (c .before .before .put-name .ensures)
+returns c = let e = c .before .before .put-name .ensures in (e .0, rw length-map at (e .1))
 
 pub write-name-lower-spec : {M : Type 1} → statement M
 write-name-lower-spec = tie.close (tie.spec put-name-requires same-length returns)
