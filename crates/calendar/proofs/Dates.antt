@@ -1,15 +1,15 @@
 -- Dates and day numbers are each other's inverse over the whole calendar, and day numbers follow the order of dates.
 -- Assumes nothing.
 use Prim.Native.Nat.{ℕ, zero, suc, _+_, _-_, _≤_, _<_}
-use mathlib.Core.Bool.{Bool, true, false, cond}
+use mathlib.Core.Bool.{Bool, true, false, cond, _&&_, false≢true}
 use mathlib.Core.Logic.{_⊎_, inl, inr, ⊎-elim}
 use mathlib.Core.Path.{_≡_, refl, sym, ap, ap₂, _∙_}
 use native.Mathlib.Decide.{decLe}
 use native.Mathlib.Nat.{eq-or-lt-of-le}
 use native.Mathlib.Omega.{arith}
-use borrow.Author.Tests.{le-leb}
-use lib.Dec.{eqb}
-use Rattle.calendar.specs.Calendar.{date, weekday, monthLengths, sum, yearLength, monthLength, lastYear, dateFault, dayOfYear, daysBefore, dayNumber, days, yearOf, monthOf, dateIn, dateOf}
+use borrow.Author.Tests.{le-leb, leb-true}
+use lib.Dec.{eqb, leb}
+use Rattle.calendar.specs.Calendar.{date, within, weekday, monthLengths, sum, yearLength, monthLength, lastYear, dateFault, dayOfYear, daysBefore, dayNumber, days, yearOf, monthOf, dateIn, dateOf}
 use Rattle.calendar.specs.Dates.{fromFields, fromDayNumber}
 use Rattle.calendar.specs.declared.Date.{Date}
 use Rattle.calendar.specs.declared.FromFields.{FromFields}
@@ -39,6 +39,36 @@ valid-no-fault y m d v =
       le-leb 1 d (v .day-low),
       le-leb d (monthLength y m) (v .day-high),
     )
+
+-- and a date without a bad field is valid
+no-fault : (b : Bool) (x f : ℕ) → cond b x (suc f) ≡ 0 → (b ≡ true) × (x ≡ 0)
+no-fault true x f e = (refl, e)
+no-fault false x f e = absurd (omega (arith, e))
+
+from-within : (a b n : ℕ) → within a b n ≡ true → (a ≤ n) × (n ≤ b)
+from-within a b n e = let p = and-true (leb a n) e in (leb-true a n (p .0), leb-true n b (p .1))
+  where
+    and-true : (x : Bool) {z : Bool} → (x && z) ≡ true → (x ≡ true) × (z ≡ true)
+    and-true true e = (refl, e)
+    and-true false e = absurd (false≢true e)
+
+pub no-fault-valid : (y m d : ℕ) → dateFault y m d ≡ 0 → Valid y m d
+unfolding dateFault
+no-fault-valid y m d e =
+    let p = no-fault (within 1 lastYear y) _ 0 e in
+    let q = no-fault (within 1 12 m) _ 1 (p .1) in
+    let r = no-fault (within 1 (monthLength y m) d) _ 2 (q .1) in
+    let years = from-within 1 lastYear y (p .0) in
+    let months = from-within 1 12 m (q .0) in
+    let days = from-within 1 (monthLength y m) d (r .0) in
+    record {
+      year-low = years .0;
+      year-high = years .1;
+      month-low = months .0;
+      month-high = months .1;
+      day-low = days .0;
+      day-high = days .1;
+    }
 
 day-of-year-is : (y q d : ℕ) → dayOfYear y (suc q) d ≡ sum (monthLength y) q + d
 unfolding dayOfYear
