@@ -7,7 +7,7 @@
 #include "larusqem.h"
 
 #define DATES 1000
-#define ROUNDS 15
+#define ROUNDS 100
 
 static double now(void) {
     struct timespec t;
