@@ -4,8 +4,8 @@
 use calendar::Date;
 use calendar::FromFields;
 use calendar::FromNumber;
-ghost use Prim.Native.Nat.{_+_, _≤_};
-ghost use lib.ListN.{length};
+use libc::STDOUT_FILENO;
+use text::write_number;
 
 // A digest starts at 0 and takes values one after the other, h to (h * P + v) mod M.
 // M is prime and P is not a multiple of it, so multiplying by P takes different remainders to different ones. If one value below M is wrong, the
@@ -53,50 +53,35 @@ fn digest_days(past: u32, last: u32) -> u32 {
     h
 }
 
-fn digit(n: u32) -> u8 {
-    48 + (n % 10) as u8
+fn print(bytes: &[u8]) {
+    io::write_all(STDOUT_FILENO, bytes);
 }
 
-// Puts the last `width` decimal digits of `n` from `at` on.
-fn put_number(out: &mut [u8], at: usize, width: usize, n: u32)
-    requires { ⌜ at + width ≤ length (now out) ⌝ }
-{
-    let mut left = width;
-    let mut rest = n;
-    while 0 < left {
-        left -= 1;
-        out[at + left] = digit(rest);
-        rest /= 10;
-    }
+// One line: the year in four digits, a blank, the digest in ten, a newline.
+fn print_line(year: u32, digest: u32) {
+    let mut four = [0u8; 4];
+    write_number(&mut four, b'0', year);
+    print(&four);
+    print(b" ");
+    let mut ten = [0u8; 10];
+    write_number(&mut ten, b'0', digest);
+    print(&ten);
+    print(b"\n");
 }
 
-// Puts one line, 16 bytes: the year in four digits, a blank, the digest in ten, a newline.
-fn put_line(out: &mut [u8], at: usize, year: u32, digest: u32)
-    requires { ⌜ at + 16 ≤ length (now out) ⌝ }
-{
-    put_number(out, at, 4, year);
-    out[at + 4] = b' ';
-    put_number(out, at + 5, 10, digest);
-    out[at + 15] = b'\n';
-}
-
-// Puts the lines of all hundred centuries.
-fn put_centuries(out: &mut [u8])
-    requires { ⌜ 1600 ≤ length (now out) ⌝ }
-{
+// The lines of all hundred centuries.
+fn print_centuries() {
     let mut past = 0;
     let mut century: u32 = 0;
     while century < 100 {
         let year = 100 * century + 99;
         let last = number_of(year, 12, 31);
-        put_line(out, century as usize * 16, year, digest_days(past, last));
+        print_line(year, digest_days(past, last));
         past = last;
         century += 1;
     }
 }
 
 fn main() {
-    let mut out = [0u8; 1600];
-    put_centuries(&mut out);
-    io::write_all(1, &out);
+    print_centuries();
 }
