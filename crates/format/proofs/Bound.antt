@@ -2,7 +2,7 @@
 -- opens to at most 13 elements; each is a byte or a conversion, since only letters of the table are emitted.
 -- Assumes nothing.
 use Prim.Native.Nat.{ℕ, zero, suc, _+_, _-_, _*_, _≤_, _<_, suc-le-suc}
-use mathlib.Core.Bool.{Bool, true, false, cond, _&&_}
+use mathlib.Core.Bool.{Bool, true, false, cond}
 use mathlib.Core.List.{List, [], _∷_, _++_}
 use mathlib.Core.Logic.{inl, inr}
 use mathlib.Core.Path.{_≡_, refl, sym, subst}
@@ -13,6 +13,7 @@ use borrow.Author.Tests.{ne-eqb, eqb-true}
 use lib.Dec.{T, eqb, eqb·suc-zero, leb, ltb, leb→le, ltb→lt, lit<, lit≤}
 use lib.ListN.{length, getD, length-append}
 use Rattle.laws.specs.Bytes.{bytes}
+use Rattle.laws.specs.Lists.{every}
 use Rattle.laws.proofs.Cases.{either}
 use Rattle.laws.proofs.Table.{both, all, at}
 use Rattle.format.specs.Conversions.{conversionOf, computes as rows-compute}
@@ -120,12 +121,8 @@ at-all : (P : ℕ → Type 0) (s : List ℕ) → ((k : ℕ) → k < length s →
 at-all P [] f = tt
 at-all P (x ∷ s) f = (f 0 (omega arith), at-all P s (λ k h. f (suc k) (suc-le-suc h)))
 
-abbrev every : (ℕ → Bool) → List ℕ → Bool
-every p [] = true
-every p (x ∷ s) = p x && every p s
-
 among-passes : (p : ℕ → Bool) (b : ℕ) (s : List ℕ) → T (every p s) → among b s ≡ true → T (p b)
-unfolding among
+unfolding among every
 among-passes p b [] t e = absurd (let z : _≡_ {A = ℕ} 0 1 = cc in omega arith)
 among-passes p b (a ∷ s) t e =
     let u = both (p a) (every p s) t in
@@ -145,7 +142,7 @@ known Lower = true
 known Unknown = false
 
 simple-known : (b : ℕ) → among b simple ≡ true → conversionOf b .form ≡ Unknown → ⊥
-unfolding computes rows-compute
+unfolding computes rows-compute every
 simple-known b e u = subst (λ (f : Form). T (known f)) u (among-passes (λ c. known (conversionOf c .form)) b simple tt e)
 
 -- what a byte emits is an element
@@ -199,7 +196,7 @@ module _ (inner : ℕ → Opening) (f : (c : ℕ) → All IsElement (inner c .el
       (λ p. scan-elements s (h .1) p start (i + 1)) (scan-elements s (h .1) 0 (i + 1) (i + 1)) (step phase b) (step-emits phase b (h .0))
 
 own-bytes : (c : ℕ) → All (λ b. b < 256) (ownFormat c)
-unfolding ownFormat bytes
+unfolding ownFormat bytes every
 own-bytes c = small (ownFormat c) (own-passes (every (λ b. ltb b 256)) tt tt c)
   where
     small : (s : List ℕ) → T (every (λ b. ltb b 256) s) → All (λ b. b < 256) s

@@ -1,9 +1,10 @@
 -- The rows of the conversions are small: one computed test.
 -- Assumes nothing.
 use Prim.Native.Nat.{ℕ, _≤_, _<_}
-use mathlib.Core.Bool.{Bool, true, _&&_}
+use mathlib.Core.Bool.{Bool, _&&_}
 use mathlib.Core.List.{List, [], _∷_}
 use lib.Dec.{T, eqb, leb, ltb, leb→le, ltb→lt}
+use Rattle.laws.specs.Lists.{every}
 use Rattle.laws.proofs.Cases.{picked}
 use Rattle.laws.proofs.Table.{both}
 use Rattle.format.specs.Conversions.{Row, find, rows, conversionOf}
@@ -13,11 +14,10 @@ abbrev small : Conversion → Bool
 small c = leb (c .width) 9 && (ltb (c .kind) 18 && ltb (c .high) 100000)
 
 abbrev all-small : List Row → Bool
-all-small [] = true
-all-small (r ∷ rs) = small (r .row) && all-small rs
+all-small rs = every (λ (r : Row). small (r .row)) rs
 
 found-small : (c : ℕ) (rs : List Row) → T (all-small rs) → T (small (find c rs))
-unfolding find
+unfolding find every
 found-small c [] t = tt
 found-small c (r ∷ rs) t =
     let b = both (small (r .row)) (all-small rs) t in
@@ -29,7 +29,7 @@ pub record Small (c : Conversion) : Type 0 where
   pub high : c .high < 100000
 
 pub conversion-small : (c : ℕ) → Small (conversionOf c)
-unfolding conversionOf rows
+unfolding conversionOf rows every
 conversion-small c =
     let r = find c rows in
     let t = both (leb (r .width) 9) (ltb (r .kind) 18 && ltb (r .high) 100000) (found-small c rows tt) in

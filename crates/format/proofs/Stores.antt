@@ -11,9 +11,10 @@ use borrow.Author.Tests.{le-leb, lt-leb, leb-true, leb-false}
 use lib.Dec.{leb}
 use lib.ListN.{length, set, length-set, length-append}
 use lib.Seq.{sets, drop-nil, set-out, length-sets}
+use Rattle.laws.specs.Lists.{overlaid}
 use Rattle.laws.proofs.Cases.{clash}
 use Rattle.laws.proofs.Stores.{sets-append}
-use Rattle.format.specs.Opening.{Ended, Opening, nothing, before, composed, closed, answer, stored}
+use Rattle.format.specs.Opening.{Ended, Opening, nothing, before, composed, closed, answer}
 use Rattle.format.specs.Opening.Ended.{Whole, BadAt}
 use Rattle.format.specs.Private.{answerAfter}
 use Rattle.format.specs.declared.opening.Opened.{Opened}
@@ -29,11 +30,11 @@ sets-shift : (x : ℕ) (l : List ℕ) (i : ℕ) (vs : List ℕ) → sets (x ∷ 
 sets-shift x l i [] = refl
 sets-shift x l i (v ∷ vs) = sets-shift x (set l i v) (suc i) vs
 
-sets-stored : (l vs : List ℕ) → sets l 0 vs ≡ stored vs l
-unfolding stored
-sets-stored [] vs = sets-past [] vs 0 (omega arith) ∙ sym (drop-nil (length vs))
-sets-stored (x ∷ l) [] = refl
-sets-stored (x ∷ l) (v ∷ vs) = sets-shift v l 0 vs ∙ ap (λ (r : List ℕ). v ∷ r) (sets-stored l vs)
+sets-overlaid : (l vs : List ℕ) → sets l 0 vs ≡ overlaid vs l
+unfolding overlaid
+sets-overlaid [] vs = sets-past [] vs 0 (omega arith) ∙ sym (drop-nil (length vs))
+sets-overlaid (x ∷ l) [] = refl
+sets-overlaid (x ∷ l) (v ∷ vs) = sets-shift v l 0 vs ∙ ap (λ (r : List ℕ). v ∷ r) (sets-overlaid l vs)
 
 -- ---- what an answer says of the opening that it answers
 
@@ -68,9 +69,9 @@ Gives r xs ys m t = (r ≡ answerAfter m (length ys) t) × (xs ≡ sets ys m (t 
 
 -- from the start of a slice
 pub from-start : {r : Opened} {xs : List ℕ} (ys : List ℕ) (t : Opening) → Gives r xs ys 0 t
-    → (r ≡ answer (length ys) t) × (xs ≡ stored (t .elements) ys)
+    → (r ≡ answer (length ys) t) × (xs ≡ overlaid (t .elements) ys)
 unfolding answer answerAfter
-from-start ys t e = (rw (zero-add (length (t .elements))) at (e .0), e .1 ∙ sets-stored ys (t .elements))
+from-start ys t e = (rw (zero-add (length (t .elements))) at (e .0), e .1 ∙ sets-overlaid ys (t .elements))
 
 module _ {ys : List ℕ} {m : ℕ} {t : Opening} (xs : List ℕ) (n : ℕ) where
   -- nothing is left to store

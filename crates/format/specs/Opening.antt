@@ -7,7 +7,7 @@ use mathlib.Core.List.{List, [], _∷_, _++_}
 use mathlib.Core.Logic.{_⊎_}
 use mathlib.Core.Path.{_≡_}
 use lib.Dec.{eqb, leb}
-use lib.ListN.{length, take, drop}
+use lib.ListN.{length}
 use Rattle.laws.specs.Bytes.{bytes}
 use Rattle.format.specs.Conversions.{conversionOf}
 use Rattle.format.specs.declared.conversions.Form.the-variants.{Unknown}
@@ -131,10 +131,6 @@ closed n (BadAt p) = Bad p
 unfoldable pub answer : ℕ → Opening → Opened
 answer room o = cond (leb (length (o .elements)) room) (closed (length (o .elements)) (o .ended)) Full
 
--- the slice afterwards: the elements at its front, as many as fit; every other entry stays
-unfoldable pub stored : List ℕ → List ℕ → List ℕ
-stored e out = take (length out) e ++ drop (length e) out
-
 -- ---- What an element can be: a byte, or 256 more than the letter of a conversion
 
 abbrev pub IsElement : ℕ → Type 0
@@ -142,5 +138,5 @@ IsElement e = (e < 256) ⊎ ((256 ≤ e) × (conversionOf (e - 256) .form ≡ Un
 
 -- all that opening a format computes by
 unfoldable pub computes : Unit {0}
-unfolding bytes among simple composite after-E after-O letter step ownFormat nothing before composed acted scan compositeTo openTo opening closed answer stored
+unfolding bytes among simple composite after-E after-O letter step ownFormat nothing before composed acted scan compositeTo openTo opening closed answer
 computes = tt

@@ -3,7 +3,8 @@ ghost use Prim.Native.Nat.{_≤_};
 ghost use lib.ListN.{length, take};
 ghost use lib.Seq.{sets};
 ghost use Rattle.format.specs.Private.{holds, answerAfter};
-ghost use Rattle.format.specs.Opening.{letter, step, ownFormat, openTo, opening, answer, stored};
+ghost use Rattle.laws.specs.Lists.{overlaid};
+ghost use Rattle.format.specs.Opening.{letter, step, ownFormat, openTo, opening, answer};
 
 // What a byte of a format does: the conversion goes on, an element is stored, a composite is opened, or the conversion is bad.
 pub enum Act {
@@ -171,7 +172,7 @@ fn open_to(depth: u32, format: &[u8], out: &mut [u32], from: usize) -> Opened
 // Opens a format: stores the elements before its first bad %, or all, at the front of `out`, as many as fit.
 pub fn open(format: &[u8], out: &mut [u32]) -> Opened
     ensures { λ r. ⌜ r ≡ answer (length (now (out .entry))) (opening (now (format .entry))) ⌝ }
-    ensures { λ _. ⌜ now (out .exit) ≡ stored (opening (now (format .entry)) .elements) (now (out .entry)) ⌝ }
+    ensures { λ _. ⌜ now (out .exit) ≡ overlaid (opening (now (format .entry)) .elements) (now (out .entry)) ⌝ }
 {
     open_to(2, format, out, 0)
 }

@@ -4,7 +4,8 @@ use mathlib.Core.Bool.{cond}
 use mathlib.Core.List.{List}
 use lib.Dec.{leb}
 use lib.ListN.{length}
-use Rattle.format.specs.Opening.{opening, answer, stored}
+use Rattle.laws.specs.Lists.{overlaid}
+use Rattle.format.specs.Opening.{opening, answer}
 use Rattle.format.specs.declared.opening.Opened.{Opened}
 use Rattle.format.specs.declared.opening.Opened.the-variants.{Done, Bad, Full}
 use Rattle.values.specs.Moments.{momentOf}
@@ -64,5 +65,5 @@ pub record OpenedInto : Type 0 where
 unfoldable pub openedInto : List ℕ → List ℕ → OpenedInto
 openedInto f out =
     cond (leb (length f) most)
-    (record { answer = packedOpened (answer (length out) (opening f)); elements = stored (opening f .elements) out })
+    (record { answer = packedOpened (answer (length out) (opening f)); elements = overlaid (opening f .elements) out })
     (record { answer = packed 1 0; elements = out })

@@ -1,2 +1,3 @@
 -- Definitions that the specifications of several crates cite.
 pub mod Bytes
+pub mod Lists

@@ -1,19 +1,17 @@
 -- The writer's order, 1, 2, 3, 4, and then 0: what each way out answers and leaves in the buffer.
 -- Assumes nothing.
-use Prim.Native.Nat.{ℕ, _*_, _≤_, _<_}
-use mathlib.Core.List.{List, _++_}
-use mathlib.Core.Path.{_≡_, refl, sym, _∙_}
+use Prim.Native.Nat.{ℕ, _≤_, _<_}
+use mathlib.Core.List.{List}
+use mathlib.Core.Path.{_≡_, refl, _∙_}
 use native.Mathlib.Omega.{arith}
-use borrow.Author.Tests.{le-leb, lt-leb, leb-true, leb-false}
-use lib.Dec.{leb}
-use lib.ListN.{length, take, drop, length-append}
-use lib.Seq.{take-all, take-append-seam}
-use Rattle.format.specs.Opening.{Opening, opening, answer, stored}
+use borrow.Author.Tests.{le-leb, lt-leb}
+use lib.ListN.{length, take}
+use Rattle.laws.specs.Lists.{overlaid}
+use Rattle.format.specs.Opening.{Opening, opening, answer}
 use Rattle.format.specs.Opening.Ended.{Whole, BadAt}
 use Rattle.format.specs.declared.opening.Opened.{Opened}
-use Rattle.format.specs.declared.opening.Opened.the-variants.{Done as Opens, Bad as Breaks, Full}
-use Rattle.format.proofs.Bound.{bound}
-use Rattle.format.proofs.Stores.{when-done, when-bad, when-full}
+use Rattle.format.specs.declared.opening.Opened.the-variants.{Done as Opens, Bad as Breaks}
+use Rattle.format.proofs.Opened.{opened-done, opened-bad as opened-broken}
 use Rattle.values.specs.Moments.{momentOf}
 use Rattle.values.specs.declared.Moment.{Moment}
 use Rattle.values.specs.declared.MomentFields.{MomentFields}
@@ -59,44 +57,18 @@ module _ (o : Opening) (m : Moment) (b : List ℕ) where
   opened-bad e = rw e
 
 -- a format f is opened into xs: r is the answer, and ys is what is then stored
-module _ (f xs : List ℕ) {r : Opened} {ys : List ℕ} (a : r ≡ answer (length xs) (opening f)) (s : ys ≡ stored (opening f .elements) xs) where
-  abbrev elements : List ℕ
-  elements = opening f .elements
-
-  fits : {n : ℕ} → r ≡ Opens n → (length elements ≤ length xs) × (n ≡ length elements) × (opening f .ended ≡ Whole)
-  unfolding answer
-  fits {n} e =
-      let w = when-done (leb (length elements) (length xs)) (opening f .ended) (length elements) n (sym a ∙ e) in
-      (leb-true (length elements) (length xs) (w .0), w .2, w .1)
-
-  -- the elements are the first n entries
-  pub all-stored : {n : ℕ} → r ≡ Opens n → (n ≤ length ys) × (take n ys ≡ elements)
-  unfolding stored
-  all-stored {n} e =
-      let w = fits e in
-      let rest = drop (length elements) xs in
-      let q : ys ≡ elements ++ rest = s ∙ rw (take-all (length xs) elements (w .0)) in
-      rw (q, w .1) (omega (arith, length-append elements rest), take-append-seam elements rest)
-
+module _ (f xs : List ℕ) {r : Opened} {ys : List ℕ} (a : r ≡ answer (length xs) (opening f)) (s : ys ≡ overlaid (opening f .elements) xs) where
   pub whole : {n : ℕ} (m : Moment) (b : List ℕ) {t : Written} {c : List ℕ} → r ≡ Opens n → length xs ≤ mostElements
       → Gives t c (elementsWriting (take n ys) m b) → Gives t c (opened (opening f) m b)
   unfolding elementsWriting
-  whole {n} m b e few g =
-      let w = fits e in
-      rw (opened-whole (opening f) m b (w .2)) (rw (all-stored e .1, le-leb (length elements) mostElements (omega arith)) at g)
+  whole m b e few g =
+      let w = opened-done f xs a s e in
+      rw (opened-whole (opening f) m b (w .whole))
+      (rw (w .first, le-leb (length (opening f .elements)) mostElements (omega (arith, w .fits))) at g)
 
   pub broken : {p : ℕ} (m : Moment) (b : List ℕ) → r ≡ Breaks p → Gives (BadConversion p) b (opened (opening f) m b)
-  unfolding answer refused
-  broken {p} m b e =
-      let w = when-bad (leb (length elements) (length xs)) (opening f .ended) (length elements) p (sym a ∙ e) in
-      rw (opened-bad (opening f) m b (w .1)) (refl, refl)
-
-  -- 13 entries to two bytes are enough
-  pub never-full : 13 * length f ≤ 2 * length xs → r ≡ Full → ⊥
-  unfolding answer
-  never-full h e =
-      let w = when-full (leb (length elements) (length xs)) (opening f .ended) (length elements) (sym a ∙ e) in
-      omega (arith, bound f, leb-false (length elements) (length xs) w)
+  unfolding refused
+  broken m b e = rw (opened-bad (opening f) m b (opened-broken f xs a e)) (refl, refl)
 
 -- ---- the format's length and the moment: 1 and 2
 

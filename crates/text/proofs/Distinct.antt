@@ -9,9 +9,10 @@ use native.Mathlib.Omega.{arith}
 use borrow.Author.Tests.{eqb-true, eqb-false, ne-eqb}
 use lib.Dec.{eqb}
 use lib.ListN.{length, getD, take, length-map}
+use Rattle.laws.specs.Lists.{every}
 use Rattle.text.specs.Case.{fold}
 use Rattle.text.specs.Names.{namesOf, nameAt, short, goesOn, firstName, orElse, readName, computes}
-use Rattle.text.specs.Distinct.{every, apart, distinct, shortLength}
+use Rattle.text.specs.Distinct.{apart, distinct, shortLength}
 use Rattle.text.specs.declared.names.Names.{Names}
 use Rattle.text.specs.declared.names.Names.the-variants.{Weekdays, Months, Halves}
 use Rattle.text.specs.declared.names.NameRead.{NameRead}

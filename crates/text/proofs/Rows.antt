@@ -10,10 +10,10 @@ use borrow.Author.Tests.{leb-true, not-true, not-false}
 use lib.Dec.{eqb, leb}
 use lib.ListN.{length, getD, take, drop, set, replicate, length-append, length-take, length-map, length-replicate, drop-of-length-le, List·getD-map}
 use lib.Seq.{drop-cons, take-take, take-append-seam, take-all, paste-suc}
+use Rattle.laws.specs.Lists.{every, overlaid}
 use Rattle.text.specs.Case.{fold, lowered}
 use Rattle.text.specs.Names.{namesOf, nameAt, computes}
-use Rattle.text.specs.Rows.{padded, overlaid, agreeing}
-use Rattle.text.specs.Distinct.{every}
+use Rattle.text.specs.Rows.{padded, agreeing}
 use Rattle.text.specs.declared.names.Names.{Names}
 use Rattle.text.specs.declared.names.Names.the-variants.{Weekdays, Months, Halves}
 use Rattle.text.proofs.Table.{entry, each}

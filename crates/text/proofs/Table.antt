@@ -5,7 +5,7 @@ use mathlib.Core.Bool.{Bool, true, and-eq-true-iff}
 use mathlib.Core.List.{List, [], _∷_, map}
 use native.Mathlib.Nat.{le-of-suc-le-suc, not-suc-le-zero}
 use lib.ListN.{length, getD, List·getD-eq-default}
-use Rattle.text.specs.Distinct.{every}
+use Rattle.laws.specs.Lists.{every}
 use Rattle.text.specs.Names.{namesOf}
 use Rattle.text.specs.declared.names.Names.{Names}
 

@@ -3,14 +3,10 @@ use Prim.Native.Nat.{ℕ}
 use mathlib.Core.Bool.{Bool, true, false, cond, _&&_}
 use mathlib.Core.List.{List, [], _∷_}
 use lib.Dec.{eqb}
+use Rattle.laws.specs.Lists.{every}
 use Rattle.text.specs.Case.{fold}
 use Rattle.text.specs.declared.names.Names.{Names}
 use Rattle.text.specs.declared.names.Names.the-variants.{Weekdays, Months, Halves}
-
--- a test passes at each name of a table
-unfoldable pub every : (List ℕ → Bool) → List (List ℕ) → Bool
-every p [] = true
-every p (n ∷ ns) = p n && every p ns
 
 -- two names differ, compared without case, at a place that both have: neither begins with the other
 unfoldable pub apart : List ℕ → List ℕ → Bool

@@ -3,16 +3,12 @@ use Prim.Native.Nat.{ℕ, suc}
 use mathlib.Core.Bool.{cond}
 use mathlib.Core.List.{List, [], _∷_, _++_}
 use lib.Dec.{eqb}
-use lib.ListN.{length, take, drop, replicate}
+use lib.ListN.{take, replicate}
 use Rattle.text.specs.Case.{fold}
 
 -- a name in its row of nine bytes, with blanks after it
 unfoldable pub padded : List ℕ → List ℕ
 padded n = take 9 (n ++ replicate 9 32)
-
--- a text over the start of a buffer, as much of it as the buffer has room for
-unfoldable pub overlaid : List ℕ → List ℕ → List ℕ
-overlaid x buf = take (length buf) x ++ drop (length x) buf
 
 -- how many letters of a name a text goes on with, compared without case
 unfoldable pub agreeing : List ℕ → List ℕ → ℕ

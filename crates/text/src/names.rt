@@ -4,10 +4,11 @@ ghost use mathlib.Core.Bool.{cond};
 ghost use mathlib.Core.List.{_++_, map};
 ghost use lib.Dec.{eqb};
 ghost use lib.ListN.{length, take, drop};
+ghost use Rattle.laws.specs.Lists.{overlaid};
 ghost use Rattle.text.specs.Case.{fold, lowered};
 ghost use Rattle.text.specs.Names.{namesOf, nameAt, readName};
 ghost use Rattle.text.specs.Naming.{namesFor, firstValue, placeFor, valueAt};
-ghost use Rattle.text.specs.Rows.{padded, overlaid, agreeing};
+ghost use Rattle.text.specs.Rows.{padded, agreeing};
 
 // The tables of names: seven weekdays, twelve months, the two halves of the day.
 pub enum Names {

@@ -3,7 +3,8 @@ use Prim.Native.Nat.{_≤_}
 use mathlib.Core.Path.{sym}
 use lib.ListN.{length}
 use lib.Seq.{length-take-le}
-use Rattle.strftime.proofs.Order.{all-stored, whole, broken, never-full}
+use Rattle.format.proofs.Opened.{opened-done, never-full}
+use Rattle.strftime.proofs.Order.{whole, broken}
 use borrow.Author.Needs.{needs}
 use Rattle.strftime.proofs.write_format.Statement.{statement}
 use Rattle.strftime.proofs.write_format.Tie as tie
@@ -15,7 +16,7 @@ start c = c .before .before .before .before .before .before .before .before .bef
 room : (c : tie.After-n) → c .n .given .0 .0 ≤ length (c .before .before .before .before .«open» .last .1 .0)
 room c =
     let o = c .before .before .before .before .«open» in
-    all-stored (start c .args .format .now) (start c .args .elements .now) (o .ensures .0) (o .ensures .1) (c .n .given .1) .0
+    opened-done (start c .args .format .now) (start c .args .elements .now) (o .ensures .0) (o .ensures .1) (c .n .given .1) .room
 
 open-requires : tie.Need-open-requires
 open-requires c κs = search needs
@@ -67,7 +68,7 @@ returns-3 : tie.Need-returns-3
 returns-3 c =
     let o = c .before .before .before .before .«open» in
     let s = c .before .before .before .before .before .before .before .before .before in
-    absurd (never-full (s .args .format .now) (s .args .elements .now) (o .ensures .0) (o .ensures .1) (s .pre .0) (c .enum-told .given .1))
+    absurd (never-full (s .args .format .now) (s .args .elements .now) (o .ensures .0) (s .pre .0) (c .enum-told .given .1))
 
 pub write-format-spec : {M : Type 1} → statement M
 write-format-spec =

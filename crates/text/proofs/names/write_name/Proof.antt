@@ -1,7 +1,7 @@
 -- `text::names::write_name` meets its contract: it is that of `put_name` for a name as it stands.
 use borrow.Author.Needs.{needs}
 use Rattle.text.specs.Case.{lowered}
-use Rattle.text.specs.Rows.{overlaid}
+use Rattle.laws.specs.Lists.{overlaid}
 use Rattle.text.proofs.names.write_name.Statement.{statement}
 use Rattle.text.proofs.names.write_name.Tie as tie
 

@@ -2,7 +2,7 @@
 use borrow.Author.Needs.{needs}
 use lib.ListN.{length-map}
 use Rattle.text.specs.Case.{lowered}
-use Rattle.text.specs.Rows.{overlaid}
+use Rattle.laws.specs.Lists.{overlaid}
 use Rattle.text.proofs.names.write_name_lower.Statement.{statement}
 use Rattle.text.proofs.names.write_name_lower.Tie as tie
 
