@@ -120,6 +120,10 @@ openTo depth s = scan (compositeTo depth) 0 0 0 s
 unfoldable pub opening : List ℕ → Opening
 opening s = openTo 2 s
 
+-- the longest format, and the longest text that is read by one
+abbrev pub most : ℕ
+most = 1024
+
 -- ---- Opening a format into a slice
 
 -- the answer where all n elements fit

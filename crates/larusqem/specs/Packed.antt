@@ -5,13 +5,13 @@ use mathlib.Core.List.{List}
 use lib.Dec.{leb}
 use lib.ListN.{length}
 use Rattle.laws.specs.Lists.{overlaid}
-use Rattle.format.specs.Opening.{opening, answer}
+use Rattle.format.specs.Opening.{opening, answer, most}
 use Rattle.format.specs.declared.opening.Opened.{Opened}
 use Rattle.format.specs.declared.opening.Opened.the-variants.{Done, Bad, Full}
 use Rattle.values.specs.Moments.{momentOf}
 use Rattle.values.specs.declared.MomentFields.{MomentFields}
 use Rattle.values.specs.declared.MomentFields.the-variants.{Valid, Bad as BadField}
-use Rattle.strftime.specs.Writing.{Writing, refused, elementsWriting, most, numberOf, placeOf}
+use Rattle.strftime.specs.Writing.{Writing, refused, elementsWriting, numberOf, placeOf}
 use Rattle.strftime.specs.declared.Fields.{Fields}
 use Rattle.strftime.specs.declared.Written.{Written}
 use Rattle.strftime.specs.declared.Written.the-variants.{BadMoment}

@@ -9,11 +9,11 @@ use borrow.Author.Tests.{le-leb, lt-leb}
 use lib.Dec.{leb}
 use lib.ListN.{length}
 use Rattle.laws.specs.Lists.{overlaid}
-use Rattle.format.specs.Opening.{opening, answer}
+use Rattle.format.specs.Opening.{opening, answer, most}
 use Rattle.format.specs.declared.opening.Opened.the-variants.{Done, Bad, Full}
 use Rattle.format.specs.declared.opening.Opened.{Opened}
 use Rattle.report.specs.Private.{answerBy, Usable}
-use Rattle.strptime.specs.Answers.{most, readElements, readOpened, reading}
+use Rattle.strptime.specs.Answers.{readElements, readOpened, reading}
 use Rattle.strptime.specs.declared.Answer.the-variants.{TextTooLong}
 use Rattle.format.proofs.Opened.{opened-done, opened-bad, never-full}
 use Rattle.format.proofs.Refused.{bad-within}

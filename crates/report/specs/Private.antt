@@ -6,10 +6,10 @@ use mathlib.Core.Path.{_≡_}
 use lib.Dec.{leb}
 use lib.ListN.{length, take}
 use lib.Seq.{sets}
+use Rattle.format.specs.Opening.{most}
 use Rattle.format.specs.declared.opening.Opened.{Opened}
 use Rattle.format.specs.declared.opening.Opened.the-variants.{Done as Opens, Bad as Breaks, Full}
 use Rattle.strptime.specs.Answers.{readElements}
-use Rattle.strptime.specs.Answers as Answers
 use Rattle.strptime.specs.declared.Answer.{Answer}
 use Rattle.strptime.specs.declared.Answer.the-variants.{FormatTooLong, TextTooLong, BadConversion}
 
@@ -21,11 +21,11 @@ pub record Puts (x before : List ℕ) (at : ℕ) (after : List ℕ) (end : ℕ) 
 -- how a text is answered by a format that was opened before: into all of its elements, to its first bad %, or not at all
 unfoldable pub answerBy : Opened → List ℕ → List ℕ → Answer
 answerBy (Opens n) es s = readElements (take n es) s
-answerBy (Breaks p) es s = cond (leb (length s) Answers.most) (BadConversion p) TextTooLong
+answerBy (Breaks p) es s = cond (leb (length s) most) (BadConversion p) TextTooLong
 answerBy Full es s = FormatTooLong
 
 -- the elements are there, and a bad % stands within the longest format
 unfoldable pub Usable : Opened → List ℕ → Type 0
 Usable (Opens n) es = n ≤ length es
-Usable (Breaks p) es = p ≤ Answers.most
+Usable (Breaks p) es = p ≤ most
 Usable Full es = Unit {0}

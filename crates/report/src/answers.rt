@@ -7,7 +7,8 @@ ghost use mathlib.Core.Path.{_≡_};
 ghost use mathlib.Core.List.{List};
 ghost use Prim.Native.Nat.{ℕ, _≤_};
 ghost use lib.ListN.{length};
-ghost use Rattle.strptime.specs.Answers.{most, placeOf, reading};
+ghost use Rattle.format.specs.Opening.{most};
+ghost use Rattle.strptime.specs.Answers.{placeOf, reading};
 ghost use Rattle.report.specs.Private.{answerBy, Usable};
 
 // Opens a format; one that is too long counts as one without room for its elements.

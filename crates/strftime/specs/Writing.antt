@@ -9,7 +9,7 @@ use Rattle.text.specs.Digits.{number}
 use Rattle.text.specs.Names.{nameAt, short}
 use Rattle.text.specs.Naming.{namesFor, placeFor}
 use Rattle.format.specs.Conversions.{conversionOf}
-use Rattle.format.specs.Opening.{Opening, Ended, Whole, BadAt, opening}
+use Rattle.format.specs.Opening.{Opening, Ended, Whole, BadAt, opening, most}
 use Rattle.format.specs.declared.conversions.Conversion.{Conversion}
 use Rattle.format.specs.declared.conversions.Form.{Form}
 use Rattle.format.specs.declared.conversions.Form.the-variants.{Zeros, Blanks, FromSunday, Short, Full, Lower, Unknown}
@@ -82,10 +82,6 @@ opened o m b = go (o .ended)
 unfoldable pub dated : List ℕ → MomentFields → List ℕ → Writing
 dated f (Valid m) b = opened (opening f) m b
 dated f (Bad n) b = refused (BadMoment n) b
-
--- the longest format
-abbrev pub most : ℕ
-most = 1024
 
 -- "Writer's order: 1, 2, 3, 4"
 unfoldable pub writing : List ℕ → Fields → List ℕ → Writing

@@ -8,12 +8,13 @@ use lib.ListN.{length}
 use Rattle.laws.proofs.Cases.{clash}
 use Rattle.calendar.specs.Calendar.{dateOf}
 use Rattle.calendar.specs.declared.Date.{Date}
+use Rattle.format.specs.Opening.{most}
 use Rattle.judge.specs.Demand.{NoneBears, IsDay, DayAgrees, Only, DayJudged}
 use Rattle.judge.specs.Verdicts.{dayVerdict, hourVerdict}
 use Rattle.judge.specs.declared.Verdict.{Verdict}
 use Rattle.judge.specs.declared.Verdict.the-variants.{Unsaid as NotSaid, Impossible, Open, Agreed}
 use Rattle.judge.proofs.Demand.{day-judged, hour-judged}
-use Rattle.strptime.specs.Answers.{most, done, withHour, withDay, judged, concluded, readBy, readOpened, reading}
+use Rattle.strptime.specs.Answers.{done, withHour, withDay, judged, concluded, readBy, readOpened, reading}
 use Rattle.strptime.specs.Demand.{Matched, Answered, NoneInvented}
 use Rattle.strptime.specs.Reading.{stays}
 use Rattle.strptime.specs.declared.State.{State}

@@ -9,13 +9,13 @@ use borrow.Author.Tests.{leb-true}
 use lib.Dec.{leb, lit≤}
 use lib.ListN.{length}
 use Rattle.laws.proofs.Cases.{either, picked}
-use Rattle.format.specs.Opening.{Ended, opening}
+use Rattle.format.specs.Opening.{Ended, opening, most}
 use Rattle.format.specs.Opening.Ended.{Whole, BadAt}
 use Rattle.format.proofs.Refused.{bad-within}
 use Rattle.judge.specs.Verdicts.{dayVerdict, hourVerdict}
 use Rattle.judge.specs.declared.Verdict.{Verdict}
 use Rattle.judge.specs.declared.Verdict.the-variants.{Unsaid, Impossible, Open, Agreed}
-use Rattle.strptime.specs.Answers.{most, done, withHour, withDay, judged, concluded, readBy, readElements, readOpened, reading, placeOf}
+use Rattle.strptime.specs.Answers.{done, withHour, withDay, judged, concluded, readBy, readElements, readOpened, reading, placeOf}
 use Rattle.strptime.specs.Reading.{start, stays, stepOn, isRead, readAll}
 use Rattle.strptime.specs.declared.Answer.{Answer}
 use Rattle.strptime.specs.declared.Day.{Day}

@@ -5,7 +5,7 @@ use mathlib.Core.List.{List}
 use lib.Dec.{eqb, leb}
 use lib.ListN.{length}
 use Rattle.calendar.specs.Calendar.{dateOf}
-use Rattle.format.specs.Opening.{Opening, Ended, Whole, BadAt, opening}
+use Rattle.format.specs.Opening.{Opening, Ended, Whole, BadAt, opening, most}
 use Rattle.judge.specs.Agreement.{said}
 use Rattle.judge.specs.Verdicts.{dayVerdict, hourVerdict}
 use Rattle.judge.specs.declared.Verdict.{Verdict}
@@ -20,10 +20,6 @@ use Rattle.strptime.specs.declared.Outcome.the-variants.{Read, Mismatch,
 use Rattle.strptime.specs.declared.Said.{Said}
 use Rattle.strptime.specs.declared.Said.the-variants.{Unsaid, Is}
 use Rattle.strptime.specs.declared.State.{State}
-
--- the longest format, and the longest text
-abbrev pub most : ℕ
-most = 1024
 
 -- what was said of a kind, as an answer gives it
 unfoldable pub saidOf : ℕ → Said

@@ -5,10 +5,10 @@ use mathlib.Core.Path.{_≡_}
 use lib.ListN.{length}
 use Rattle.calendar.specs.Calendar.{dateOf}
 use Rattle.calendar.specs.declared.Date.{Date}
-use Rattle.format.specs.Opening.{Whole, opening}
+use Rattle.format.specs.Opening.{Whole, opening, most}
 use Rattle.judge.specs.Demand.{NoneBears, IsDay, DayAgrees, Only, DayJudged, HourJudged}
 use Rattle.judge.specs.declared.Verdict.{Verdict}
-use Rattle.strptime.specs.Answers.{most, withDay, reading}
+use Rattle.strptime.specs.Answers.{withDay, reading}
 use Rattle.strptime.specs.Reading.{start, stays, readAll}
 use Rattle.strptime.specs.declared.State.{State}
 use Rattle.strptime.specs.declared.Outcome.the-variants.{Read}

@@ -4,7 +4,7 @@ use native.Mathlib.Omega.{arith}
 use borrow.Author.Tests.{le-leb, lt-leb}
 use lib.ListN.{length}
 use denote.Ref.{now}
-use Rattle.strftime.specs.Writing.{most}
+use Rattle.format.specs.Opening.{most}
 use Rattle.larusqem.specs.Packed.{packedOpened, openedInto}
 use Rattle.larusqem.proofs.Places.{open-place}
 use borrow.Author.Needs.{needs}

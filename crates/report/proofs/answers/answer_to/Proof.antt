@@ -6,8 +6,9 @@ use borrow.Author.Tests.{le-leb, lt-leb}
 use denote.Ref.{now}
 use lib.ListN.{length}
 use lib.Seq.{length-take-le}
+use Rattle.format.specs.Opening.{most}
 use Rattle.report.specs.Private.{answerBy, Usable}
-use Rattle.strptime.specs.Answers.{most, placeOf}
+use Rattle.strptime.specs.Answers.{placeOf}
 use Rattle.strptime.proofs.Places.{elements-most}
 use Rattle.report.proofs.answers.answer_to.Statement.{statement}
 use Rattle.report.proofs.answers.answer_to.Tie as tie

@@ -4,7 +4,8 @@ use borrow.Author.Needs.{needs}
 use borrow.Author.Tests.{le-leb, lt-leb}
 use lib.ListN.{length}
 use denote.Ref.{now}
-use Rattle.strptime.specs.Answers.{most, readElements}
+use Rattle.format.specs.Opening.{most}
+use Rattle.strptime.specs.Answers.{readElements}
 use Rattle.strptime.proofs.answers.read_elements.Statement.{statement}
 use Rattle.strptime.proofs.answers.read_elements.Tie as tie
 

@@ -7,8 +7,8 @@ use borrow.Author.Needs.{needs}
 use borrow.Author.Tests.{le-leb, lt-leb}
 use lib.ListN.{length}
 use denote.Ref.{now}
-use Rattle.format.specs.Opening.{opening}
-use Rattle.strptime.specs.Answers.{most, readOpened, reading}
+use Rattle.format.specs.Opening.{most, opening}
+use Rattle.strptime.specs.Answers.{readOpened, reading}
 use Rattle.strptime.specs.declared.Answer.{Answer}
 use Rattle.strptime.proofs.answers.strptime.Statement.{statement}
 use Rattle.strptime.proofs.answers.strptime.Tie as tie
