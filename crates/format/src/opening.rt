@@ -1,10 +1,10 @@
 ghost use mathlib.Core.Path.{_≡_};
-ghost use Prim.Native.Nat.{_≤_};
+ghost use Prim.Native.Nat.{_≤_, _<_};
 ghost use lib.ListN.{length, take};
 ghost use lib.Seq.{sets};
-ghost use Rattle.format.specs.Private.{holds, answerAfter};
+ghost use Rattle.format.specs.Private.{holds, ending, lastByte, turnAt, answerAfter};
 ghost use Rattle.laws.specs.Lists.{overlaid};
-ghost use Rattle.format.specs.Opening.{letter, step, ownFormat, openTo, opening, answer};
+ghost use Rattle.format.specs.Opening.{letter, ownFormat, openTo, opening, answer};
 
 // What a byte of a format does: the conversion goes on, an element is stored, a composite is opened, or the conversion is bad.
 pub enum Act {
@@ -19,6 +19,18 @@ pub enum Opened {
     Done(usize),
     Bad(usize),
     Full,
+}
+
+// The byte that ends a conversion: its phase and its offset.
+pub struct Last {
+    pub phase: u32,
+    pub at: usize,
+}
+
+// What stands at an offset of a format: what it does, and the offset after it.
+pub struct Turn {
+    pub act: Act,
+    pub next: usize,
 }
 
 // A composite's own format: some bytes, and how many of them it has.
@@ -45,6 +57,13 @@ fn holds(set: u64, b: u8) -> bool
     (set >> (b - 64)) % 2 == 1
 }
 
+// What a byte outside a conversion does.
+fn literal(b: u8) -> Act
+    ensures { λ r. ⌜ r ≡ Act.Emit b ⌝ }
+{
+    Act::Emit(b as u32)
+}
+
 // What a letter after % does.
 fn letter(b: u8) -> Act
     ensures { λ r. ⌜ r ≡ letter b ⌝ }
@@ -67,35 +86,79 @@ fn letter(b: u8) -> Act
     Act::Refuse
 }
 
-// What a byte does outside a conversion (phase 0), after % (1), after %E (2) and after %O (3).
-fn step(phase: u32, b: u8) -> Act
-    ensures { λ r. ⌜ r ≡ step phase b ⌝ }
+// What the last byte of a conversion does, after % (phase 1), %E (2) or %O (3).
+fn end(phase: u32, b: u8) -> Act
+    ensures { λ r. ⌜ r ≡ ending phase b ⌝ }
 {
-    if phase == 0 {
-        if b == b'%' {
-            return Act::Wait(1);
-        }
-        return Act::Emit(b as u32);
-    }
-    if phase == 1 {
-        if b == b'E' {
-            return Act::Wait(2);
-        }
-        if b == b'O' {
-            return Act::Wait(3);
-        }
-        return letter(b);
-    }
     if phase == 2 {
         if holds(AFTER_E, b) {
             return letter(b);
         }
         return Act::Refuse;
     }
-    if holds(AFTER_O, b) {
-        return letter(b);
+    if phase == 3 {
+        if holds(AFTER_O, b) {
+            return letter(b);
+        }
+        return Act::Refuse;
     }
-    Act::Refuse
+    letter(b)
+}
+
+// The last byte of the conversion whose % stands at `at`: its phase and its offset.
+fn last_byte(format: &[u8], at: usize) -> Last
+    requires { ⌜ at < length (now format) ⌝ }
+    ensures { λ r. ⌜ r ≡ lastByte (now (format .entry)) at ⌝ }
+{
+    if format.len() <= at + 1 {
+        return Last {
+            phase: 1,
+            at: at + 1,
+        };
+    }
+    let b = format[at + 1];
+    if b == b'E' {
+        return Last {
+            phase: 2,
+            at: at + 2,
+        };
+    }
+    if b == b'O' {
+        return Last {
+            phase: 3,
+            at: at + 2,
+        };
+    }
+    Last {
+        phase: 1,
+        at: at + 1,
+    }
+}
+
+// What stands at `at`: a byte, or a conversion, which is bad where the format ends in it.
+fn turn_at(format: &[u8], at: usize) -> Turn
+    requires { ⌜ at < length (now format) ⌝ }
+    ensures { λ r. ⌜ r ≡ turnAt (now (format .entry)) at ⌝ }
+{
+    let b = format[at];
+    if b != b'%' {
+        return Turn {
+            act: literal(b),
+            next: at + 1,
+        };
+    }
+    let last = last_byte(format, at);
+    let k = last.at;
+    if format.len() <= k {
+        return Turn {
+            act: Act::Refuse,
+            next: k,
+        };
+    }
+    Turn {
+        act: end(last.phase, format[k]),
+        next: k + 1,
+    }
 }
 
 // The own format of a composite; of no other letter.
@@ -122,28 +185,22 @@ fn open_to(depth: u32, format: &[u8], out: &mut [u32], from: usize) -> Opened
     ensures { λ _. ⌜ now (out .exit) ≡ sets (now (out .entry)) from (openTo depth (now (format .entry)) .elements) ⌝ }
 {
     let mut n = from;
-    let mut phase = 0;
-    let mut start = 0;
     let mut i = 0;
     while i < format.len() {
-        match step(phase, format[i]) {
-            Act::Wait(p) => {
-                phase = p;
-                i += 1;
-            }
+        let turn = turn_at(format, i);
+        let act = turn.act;
+        match act {
+            Act::Wait(_) => return Opened::Bad(i), // never: a conversion's last byte ends it
             Act::Emit(e) => {
                 if out.len() <= n {
                     return Opened::Full;
                 }
                 out[n] = e;
                 n += 1;
-                i += 1;
-                phase = 0;
-                start = i;
             }
             Act::Open(c) => {
                 if depth == 0 {
-                    return Opened::Bad(start);
+                    return Opened::Bad(i);
                 }
                 let own = own_format(c);
                 let bytes = own.0;
@@ -151,22 +208,16 @@ fn open_to(depth: u32, format: &[u8], out: &mut [u32], from: usize) -> Opened
                 match open_to(depth - 1, &bytes[..len], out, n) {
                     Opened::Done(m) => {
                         n = m;
-                        i += 1;
-                        phase = 0;
-                        start = i;
                     }
-                    Opened::Bad(_) => return Opened::Bad(start),
+                    Opened::Bad(_) => return Opened::Bad(i),
                     Opened::Full => return Opened::Full,
                 }
             }
-            Act::Refuse => return Opened::Bad(start),
+            Act::Refuse => return Opened::Bad(i),
         }
+        i = turn.next;
     }
-    if phase == 0 {
-        Opened::Done(n)
-    } else {
-        Opened::Bad(start)
-    }
+    Opened::Done(n)
 }
 
 // Opens a format: stores the elements before its first bad %, or all, at the front of `out`, as many as fit.

@@ -21,6 +21,9 @@ ghost use Rattle.format.specs.Opening.{opening};
 ghost use Rattle.judge.specs.Verdicts.{hourVerdict};
 ghost use Rattle.strptime.specs.Answers.{saidOf, done, withHour, judged, readBy, readElements, readOpened, reading};
 
+// The most bytes of a format, and of a text.
+const MOST_BYTES: usize = 1024;
+
 fn said_of(s: u32) -> Said
     ensures { λ r. ⌜ r ≡ saidOf s ⌝ }
 {
@@ -88,7 +91,7 @@ fn read_by(elements: &[u32], s: &[u8]) -> Answer
 pub fn read_elements(elements: &[u32], text: &[u8]) -> Answer
     ensures { λ r. ⌜ r ≡ readElements (now (elements .entry)) (now (text .entry)) ⌝ }
 {
-    if 1024 < text.len() {
+    if MOST_BYTES < text.len() {
         return Answer::TextTooLong;
     }
     read_by(elements, text)
@@ -111,10 +114,10 @@ fn read_opened(format: &[u8], text: &[u8], room: &mut [u32]) -> Answer
 pub fn strptime(format: &[u8], text: &[u8]) -> Answer
     ensures { λ r. ⌜ r ≡ reading (now (format .entry)) (now (text .entry)) ⌝ }
 {
-    if 1024 < format.len() {
+    if MOST_BYTES < format.len() {
         return Answer::FormatTooLong;
     }
-    if 1024 < text.len() {
+    if MOST_BYTES < text.len() {
         return Answer::TextTooLong;
     }
     if format.len() <= 16 {

@@ -79,7 +79,7 @@ fn read_named(c: Conversion, s: &[u8], at: usize) -> Item
     match read_name(names_for(c.kind), s, at) {
         NameRead::Found { index, length } => Item::Fact(
             c.kind,
-            value_at(c.kind, index),
+            value_at(c.kind, index as u8),
             at,
             at + length,
         ),

@@ -100,8 +100,7 @@ pub fn place_for(kind: u32, value: u32) -> usize
 }
 
 // The value at a place.
-pub fn value_at(kind: u32, i: usize) -> u32
-    requires { ⌜ i < 32 ⌝ }
+pub fn value_at(kind: u32, i: u8) -> u32
     ensures { λ r. ⌜ r ≡ valueAt kind i ⌝ }
 {
     first_value(kind) + i as u32

@@ -18,11 +18,14 @@ read-name-requires c κs = search needs
 enum-known-index : tie.Need-enum-known-index
 enum-known-index c = search needs
 
-value-at-requires : tie.Need-value-at-requires
-value-at-requires c κs = name-named _ _ _ _ (sym (c .before .before .before .read-name .ensures) ∙ c .before .index .given .1) .place
+cast-value-at : tie.Need-cast-value-at
+cast-value-at c = omega (arith, name-named _ _ _ _ (sym (c .before .before .before .read-name .ensures) ∙ c .before .index .given .1) .place)
 
-add-t10 : tie.Need-add-t10
-add-t10 c = omega (arith, length-drop (c .before .before .before .before .before .before .before .args .at) (now (c .before .before .before .before .before .before .before .args .s)), name-named _ _ _ _ (sym (c .before .before .before .before .read-name .ensures) ∙ c .before .before .index .given .1) .long)
+value-at-requires : tie.Need-value-at-requires
+value-at-requires c κs = search needs
+
+add-t11 : tie.Need-add-t11
+add-t11 c = omega (arith, length-drop (c .before .before .before .before .before .before .before .args .at) (now (c .before .before .before .before .before .before .before .args .s)), name-named _ _ _ _ (sym (c .before .before .before .before .read-name .ensures) ∙ c .before .before .index .given .1) .long)
 
 enum-told : tie.Need-enum-told
 enum-told c = search needs
@@ -40,8 +43,9 @@ read-named-spec =
     names-for-requires
     read-name-requires
     enum-known-index
+    cast-value-at
     value-at-requires
-    add-t10
+    add-t11
     enum-told
     returns
     returns-2)

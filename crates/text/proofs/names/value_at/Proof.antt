@@ -8,9 +8,6 @@ use Rattle.text.proofs.names.value_at.Tie as tie
 first-value-requires : tie.Need-first-value-requires
 first-value-requires c κs = search needs
 
-cast-result : tie.Need-cast-result
-cast-result c = search needs
-
 add-result : tie.Need-add-result
 add-result c = search needs
 
@@ -19,4 +16,4 @@ unfolding valueAt
 returns c = omega arith
 
 pub value-at-spec : {M : Type 1} → statement M
-value-at-spec = tie.close (tie.spec first-value-requires cast-result add-result returns)
+value-at-spec = tie.close (tie.spec first-value-requires add-result returns)
