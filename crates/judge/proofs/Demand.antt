@@ -9,6 +9,7 @@ use native.Mathlib.Nat.{le-antisymm, lt-of-not-le, eq-or-lt-of-le}
 use native.Mathlib.Omega.{arith}
 use borrow.Author.Tests.{eq-eqb, ne-eqb, eqb-true, not-false}
 use lib.Dec.{eqb, lit≤}
+use Rattle.laws.proofs.Cases.{clash}
 use Rattle.calendar.specs.Calendar.{days, dateOf}
 use Rattle.judge.specs.Agreement.{said, every, agrees, dateAgrees, dayAgrees, hourAgrees, dayBorne, hourBorne}
 use Rattle.judge.specs.Demand.{NoneBears, IsDay, IsHour, DayAgrees, HourAgrees, Only, Earliest, Judged, DayJudged, HourJudged}
@@ -21,10 +22,6 @@ use Rattle.judge.specs.declared.Verdict.the-variants.{Unsaid, Agreed}
 use Rattle.values.specs.Values.{dateValue, hourValue}
 use Rattle.calendar.proofs.Years.{days-is}
 use Rattle.judge.proofs.Tells.{Tells, none, single, double, tells}
-
--- two different verdicts, or two different Booleans, are not equal
-clash : {A : Type 0} → _≡_ {A = ℕ} 0 1 → A
-clash z = absurd (omega arith)
 
 -- The words over any test p of the n numbers from `from` on that says just what agreement is, where nothing said leaves the first of them free
 module _
