@@ -6,7 +6,7 @@ ghost use Prim.Native.Nat.{_+_, _-_, _≤_};
 ghost use mathlib.Core.Bool.{not};
 ghost use lib.Dec.{eqb};
 ghost use Rattle.values.specs.Values.{dateValue, hourValue};
-ghost use Rattle.judge.specs.Agreement.{said, every, agrees, dateAgrees, hourAgrees};
+ghost use Rattle.judge.specs.Agreement.{said, every, agrees, hourAgrees};
 
 // Whether what was said of a date fact, if anything was, is its value.
 fn date_kind_agrees(said: u32, kind: u32, date: Date) -> bool
@@ -41,12 +41,6 @@ pub(crate) fn date_kinds_agree(facts: Facts, date: Date, from: u32, end: u32) ->
         kind += 1;
     }
     true
-}
-
-pub fn date_agrees(facts: Facts, date: Date) -> bool
-    ensures { λ r. ⌜ r ≡ dateAgrees facts date ⌝ }
-{
-    date_kinds_agree(facts, date, 1, 13)
 }
 
 pub fn hour_agrees(facts: Facts, hour: u32) -> bool

@@ -3,7 +3,6 @@ mod agreement;
 mod judging;
 mod search;
 
-pub use agreement::date_agrees;
 pub use agreement::hour_agrees;
 pub use judging::judge_day;
 pub use judging::judge_hour;
