@@ -3,6 +3,7 @@
 use calendar::Date;
 use calendar::FromFields;
 use calendar::FromNumber;
+use format::MOST_BYTES;
 use format::Opened;
 use format::open;
 use strftime::Fields;
@@ -26,9 +27,6 @@ ghost use Rattle.strptime.specs.Answers.{reading, readElements, placeOf};
 ghost use Rattle.larusqem.specs.Dates.{numberFrom, dateFrom};
 ghost use Rattle.larusqem.specs.Packed.{packed, packedWritten, fields, writingBy, placeOpened, packedOpened, openedInto};
 ghost use Rattle.larusqem.specs.Words.{dayOrZero, flag, numberOr0, wordsOf, told};
-
-// The most bytes of a format.
-const MOST_BYTES: usize = 1024;
 
 // The words of a reading's answer.
 const WORDS: usize = 14;

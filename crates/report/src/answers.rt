@@ -1,4 +1,5 @@
 // How the texts of a list are answered by its format, which is opened once.
+use format::MOST_BYTES;
 use format::Opened;
 use format::open;
 use strptime::Answer;
@@ -17,7 +18,7 @@ pub(crate) fn open_format(format: &[u8], elements: &mut [u32]) -> Opened
     ensures { λ r. ⌜ Usable r (now (elements .exit)) ⌝ }
     ensures { λ r. ⌜ ((s : List ℕ) → answerBy r (now (elements .exit)) s ≡ reading (now (format .entry)) s) ⌝ }
 {
-    if 1024 < format.len() {
+    if MOST_BYTES < format.len() {
         return Opened::Full;
     }
     open(format, elements)
@@ -32,7 +33,7 @@ pub(crate) fn answer_to(opened: Opened, elements: &[u32], text: &[u8]) -> Answer
     match opened {
         Opened::Done(n) => read_elements(&elements[..n], text),
         Opened::Bad(p) => {
-            if 1024 < text.len() {
+            if MOST_BYTES < text.len() {
                 return Answer::TextTooLong;
             }
             Answer::BadConversion(p)

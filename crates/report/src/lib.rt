@@ -1,6 +1,7 @@
 // The report on a list of texts: a header, and a line for each text as it is read by the list's first line, the format.
 use answers::answer_to;
 use answers::open_format;
+use format::MOST_ELEMENTS;
 use format::Opened;
 use line::put_bytes;
 use line::put_line;
@@ -55,7 +56,7 @@ pub fn report(input: &[u8], out: &mut [u8; ROOM]) -> usize
     }
     let start = put_bytes(out, 0, b"number place date time\n");
     let end = line_end(input, 0);
-    let mut elements = [0; 6656];
+    let mut elements = [0; MOST_ELEMENTS];
     let opened = open_format(&input[..end], &mut elements);
     put_lines(opened, &elements, input, end + 1, out, start)
 }

@@ -1,6 +1,8 @@
 // The writer: a format, a moment's fields and a buffer; all or nothing.
 use format::Conversion;
 use format::Form;
+use format::MOST_BYTES;
+use format::MOST_ELEMENTS;
 use format::Opened;
 use format::conversion_of;
 use format::open;
@@ -41,11 +43,7 @@ pub enum Written {
     BufferTooSmall(usize),
 }
 
-// The most bytes of a format, the most elements that it opens to, 13 to two bytes, and the most bytes that an element writes.
-const MOST_BYTES: usize = 1024;
-
-const MOST_ELEMENTS: usize = 6656;
-
+// The most bytes that an element writes.
 const WIDEST: usize = 9;
 
 // Writes a moment by a format over the start of the buffer. The format is opened into the smallest of three arrays that has room for it: to

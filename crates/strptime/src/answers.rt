@@ -7,6 +7,8 @@ use crate::State;
 use crate::reading::read_all;
 use calendar::Date;
 use calendar::FromNumber;
+use format::MOST_BYTES;
+use format::MOST_ELEMENTS;
 use format::Opened;
 use format::open;
 use judge::Facts;
@@ -20,9 +22,6 @@ ghost use Rattle.calendar.specs.Calendar.{days, dateOf};
 ghost use Rattle.format.specs.Opening.{opening};
 ghost use Rattle.judge.specs.Verdicts.{hourVerdict};
 ghost use Rattle.strptime.specs.Answers.{saidOf, done, withHour, judged, readBy, readElements, readOpened, reading};
-
-// The most bytes of a format, and of a text.
-const MOST_BYTES: usize = 1024;
 
 fn said_of(s: u32) -> Said
     ensures { λ r. ⌜ r ≡ saidOf s ⌝ }
@@ -128,6 +127,6 @@ pub fn strptime(format: &[u8], text: &[u8]) -> Answer
         let mut elements = [0; 832];
         return read_opened(format, text, &mut elements);
     }
-    let mut elements = [0; 6656];
+    let mut elements = [0; MOST_ELEMENTS];
     read_opened(format, text, &mut elements)
 }
