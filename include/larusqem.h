@@ -48,8 +48,8 @@
 extern "C" {
 #endif
 
-/* the longest format and the longest text, the most elements that a format opens to, the most bytes that a writing takes, the words of a
-   reading's answer, and what comes back in a number's place where an array has too few entries */
+/* the longest format and the longest text, the most elements that a format opens to, the length of a buffer that is enough for every
+   writing, the words of a reading's answer, and what comes back in a number's place where an array has too few entries */
 #define LARUSQEM_LONGEST 1024
 #define LARUSQEM_ELEMENTS 6656
 #define LARUSQEM_WIDEST 59904

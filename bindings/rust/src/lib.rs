@@ -20,6 +20,8 @@
 //! # Ok::<(), Box<dyn std::error::Error>>(())
 //! ```
 //!
+//! What is proved are the C functions of the repository's static library. This crate gives them types, and is tested.
+//!
 //! Every call is pure: no locale, time zone, clock or global state, and any number of threads may share a [`Format`].
 #![deny(unsafe_code)]
 #![warn(missing_docs)]
@@ -168,7 +170,7 @@ pub struct Reading {
     pub second: Option<u32>,
 }
 
-/// Why a text is not read, in the order in which it is judged.
+/// Why a text is not read. Judged are 1, 5, 3, then 6, 7 and 8 from left to right, then 9 or 10 for the day, then 9 or 10 for the hour.
 ///
 /// ```
 /// use larusqem::{strptime, Date, FormatError, ReadError};
