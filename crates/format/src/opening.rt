@@ -6,7 +6,8 @@ ghost use Rattle.format.specs.Private.{holds, ending, lastByte, turnAt, 
 ghost use Rattle.laws.specs.Lists.{overlaid};
 ghost use Rattle.format.specs.Opening.{letter, ownFormat, openTo, opening, answer};
 
-// What a byte of a format does: the conversion goes on, an element is stored, a composite is opened, or the conversion is bad.
+// What a byte of a format does: the conversion goes on, an element is stored, a composite is opened, or the conversion is bad. A whole element,
+// which is what the code takes at a time, never goes on.
 pub enum Act {
     Wait(u32),
     Emit(u32),
@@ -21,7 +22,7 @@ pub enum Opened {
     Full,
 }
 
-// The byte that ends a conversion: its phase and its offset.
+// The byte that ends a conversion: its phase and its offset, which is past the format's end where the conversion is unfinished.
 pub struct Last {
     pub phase: u32,
     pub at: usize,

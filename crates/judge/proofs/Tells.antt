@@ -1,4 +1,4 @@
--- What the first two found tell of a range of numbers, and that nothing else is told the same.
+-- What the first two found tell of a range of numbers.
 -- Assumes nothing.
 use Prim.Native.Nat.{ℕ, zero, suc, _+_, _≤_, _<_}
 use mathlib.Core.Bool.{Bool, true, false, cond, false≢true}

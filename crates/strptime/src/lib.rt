@@ -18,7 +18,7 @@ pub struct State {
     pub at: usize,
 }
 
-// How reading an element went: refused with its place, or read.
+// How the reading of elements went: all are read, or one is refused, with its place.
 pub enum Outcome {
     Read,
     Mismatch(usize),
@@ -43,7 +43,8 @@ pub enum Said {
     Is(u32),
 }
 
-// The answer to a reading, in the order in which refusals are judged.
+// The answer to a reading: done, then the refusals 1, 5, 3, 6, 7, 8 in the order in which they are judged, then 9 and 10, each for the day and for the
+// hour. The day is judged before the hour.
 pub enum Answer {
     Done(usize, Day, Said, Said, Said),
     FormatTooLong,
