@@ -216,6 +216,8 @@ def hours():
         yield b"%r", text
     yield from ((b"%M", b"59"), (b"%S", b"60"), (b"%M%S", b"0000"), (b"%M %p", b"7 AM"), (b"%S %I", b"60 12"), (b"%M %Y", b"7 1934"))
     yield b"%M %F", b"8 1934-03-05"
+    # two of the paper's cases
+    yield from ((b"%H%M", b"930"), (b"%I:%M", b"07:08"))
 
 
 def white_space():
@@ -237,7 +239,7 @@ def limits():
     """Refusals 1, 5 and 3, their order, and formats and texts of just 1,024 bytes."""
     long, full = b"x" * 1025, b"x" * 1024
     margin = b"Mon Mar  5 07:08:09 1934"
-    yield from ((long, b""), (long, long), (b"%Q" + full, long), (b"%Q", long), (b"%Q", full), (b"", long), (b"%d", b"5" + full))
+    yield from ((long, b""), (long, long), (b"%Q" + full, long), (b"%Q", long), (b"%Q", full), (b"", b"x"), (b"", long), (b"%d", b"5" + full))
     yield from ((full, full), (full, long), (full, full[1:]), (full[1:], full), (full, b"x" * 1000 + b"y" * 24), (b"%d", b"5" + full[1:]))
     yield from ((b" " * 1024, b" " * 1024), (b"%n" * 512, b"\t" * 1024), (b"%%" * 512, b"%" * 512), (b"%%" * 512, b"%" * 511))
     yield from ((b"%H" * 512, b"07" * 512), (b"%H" * 512, b"07" * 511 + b"08"), (b"%H" * 512, b"07" * 511), (b"%T" * 60, b"07:08:09" * 60))

@@ -124,6 +124,10 @@ opening s = openTo 2 s
 abbrev pub most : ℕ
 most = 1024
 
+-- the most elements that a format opens to: 13 to two bytes (proofs/Bound.antt)
+abbrev pub mostElements : ℕ
+mostElements = 6656
+
 -- ---- Opening a format into a slice
 
 -- the answer where all n elements fit

@@ -43,7 +43,7 @@ pub record Earliest (One : ℕ → Type 0) (Agrees : ℕ → Type 0) (a b : ℕ)
   pub earlier : a < b
   pub none-before : (k : ℕ) → One k → Agrees k → k < b → k ≡ a
 
--- "unsaid, impossible, open with the two earliest shown, or the one that agrees"
+-- unsaid, impossible ("number 9"), open ("10") with the two earliest shown, or the one that agrees
 pub record Judged (None : Type 0) (One : ℕ → Type 0) (Agrees : ℕ → Type 0) (v : Verdict) : Type 0 where
   pub unsaid : (v ≡ Unsaid) ↔ None
   pub impossible : (v ≡ Impossible) ↔ ((k : ℕ) → One k → Agrees k → ⊥)

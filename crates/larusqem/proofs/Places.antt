@@ -10,7 +10,7 @@ use lib.Dec.{eqb, leb, lit≤}
 use lib.ListN.{length}
 use Rattle.laws.proofs.Cases.{either}
 use Rattle.calendar.specs.Calendar.{within, dateFault, lastYear, monthLength}
-use Rattle.format.specs.Opening.{Ended, opening, answer, closed, most}
+use Rattle.format.specs.Opening.{Ended, opening, answer, closed, most, mostElements}
 use Rattle.format.specs.Opening.Ended.{Whole, BadAt}
 use Rattle.format.specs.declared.opening.Opened.{Opened}
 use Rattle.format.proofs.Bound.{bound}
@@ -18,7 +18,7 @@ use Rattle.format.proofs.Refused.{bad-within}
 use Rattle.values.specs.Moments.{momentFault, momentOf}
 use Rattle.values.specs.declared.Moment.{Moment}
 use Rattle.values.specs.declared.MomentFields.{MomentFields}
-use Rattle.strftime.specs.Writing.{Writing, text, refused, put, mostElements, elementsWriting, opened, dated, writing, placeOf as placeWritten}
+use Rattle.strftime.specs.Writing.{Writing, text, refused, put, elementsWriting, opened, dated, writing, placeOf as placeWritten}
 use Rattle.strftime.specs.declared.Fields.{Fields}
 use Rattle.strftime.proofs.Lengths.{text-most}
 use Rattle.strptime.specs.Answers.{readElements, reading, placeOf}

@@ -8,13 +8,13 @@ ghost use mathlib.Core.Path.{_≡_};
 ghost use mathlib.Core.List.{List};
 ghost use Prim.Native.Nat.{ℕ, _≤_};
 ghost use lib.ListN.{length};
-ghost use Rattle.format.specs.Opening.{most};
+ghost use Rattle.format.specs.Opening.{most, mostElements};
 ghost use Rattle.strptime.specs.Answers.{placeOf, reading};
 ghost use Rattle.report.specs.Private.{answerBy, Usable};
 
 // Opens a format; one that is too long counts as one without room for its elements.
 pub(crate) fn open_format(format: &[u8], elements: &mut [u32]) -> Opened
-    requires { ⌜ 6656 ≤ length (now elements) ⌝ }
+    requires { ⌜ mostElements ≤ length (now elements) ⌝ }
     ensures { λ r. ⌜ Usable r (now (elements .exit)) ⌝ }
     ensures { λ r. ⌜ ((s : List ℕ) → answerBy r (now (elements .exit)) s ≡ reading (now (format .entry)) s) ⌝ }
 {

@@ -7,7 +7,7 @@ use native.Mathlib.Omega.{arith}
 use borrow.Author.Tests.{le-leb, lt-leb}
 use lib.ListN.{length, take}
 use Rattle.laws.specs.Lists.{overlaid}
-use Rattle.format.specs.Opening.{Opening, opening, answer, most}
+use Rattle.format.specs.Opening.{Opening, opening, answer, most, mostElements}
 use Rattle.format.specs.Opening.Ended.{Whole, BadAt}
 use Rattle.format.specs.declared.opening.Opened.{Opened}
 use Rattle.format.specs.declared.opening.Opened.the-variants.{Done as Opens, Bad as Breaks}
@@ -17,7 +17,7 @@ use Rattle.values.specs.declared.Moment.{Moment}
 use Rattle.values.specs.declared.MomentFields.{MomentFields}
 use Rattle.values.specs.declared.MomentFields.the-variants.{Valid, Bad}
 use Rattle.strftime.specs.Private.{over}
-use Rattle.strftime.specs.Writing.{Writing, text, refused, put, mostElements, elementsWriting, opened, dated, writing}
+use Rattle.strftime.specs.Writing.{Writing, text, refused, put, elementsWriting, opened, dated, writing}
 use Rattle.strftime.specs.declared.Fields.{Fields}
 use Rattle.strftime.specs.declared.Written.{Written}
 use Rattle.strftime.specs.declared.Written.the-variants.{Done, FormatTooLong, BadMoment, BadConversion, BufferTooSmall}

@@ -9,7 +9,7 @@ use Rattle.text.specs.Digits.{number}
 use Rattle.text.specs.Names.{nameAt, short}
 use Rattle.text.specs.Naming.{namesFor, placeFor}
 use Rattle.format.specs.Conversions.{conversionOf}
-use Rattle.format.specs.Opening.{Opening, Ended, Whole, BadAt, opening, most}
+use Rattle.format.specs.Opening.{Opening, Ended, Whole, BadAt, opening, most, mostElements}
 use Rattle.format.specs.declared.conversions.Conversion.{Conversion}
 use Rattle.format.specs.declared.conversions.Form.{Form}
 use Rattle.format.specs.declared.conversions.Form.the-variants.{Zeros, Blanks, FromSunday, Short, Full, Lower, Unknown}
@@ -62,10 +62,6 @@ unfoldable pub put : List ℕ → List ℕ → Writing
 put s b =
     cond (leb (length s) (length b)) (record { answer = Done (length s); buffer = s ++ drop (length s) b })
     (refused (BufferTooSmall (length s)) b)
-
--- the most elements that a format opens to: 13 to two bytes (proofs/Bound.antt of the format layer)
-abbrev pub mostElements : ℕ
-mostElements = 6656
 
 -- A writing of elements that a format was opened to before. No opened format has more than the most elements.
 unfoldable pub elementsWriting : List ℕ → Moment → List ℕ → Writing

@@ -21,8 +21,8 @@ ghost use lib.ListN.{length};
 ghost use Rattle.text.specs.Case.{fold};
 ghost use Rattle.text.specs.Digits.{number};
 ghost use Rattle.text.specs.Names.{short};
-ghost use Rattle.format.specs.Opening.{opening};
-ghost use Rattle.strftime.specs.Writing.{nameFor, converted, element, text, mostElements, elementsWriting, opened, writing, numberOf, placeOf};
+ghost use Rattle.format.specs.Opening.{mostElements, opening};
+ghost use Rattle.strftime.specs.Writing.{nameFor, converted, element, text, elementsWriting, opened, writing, numberOf, placeOf};
 ghost use Rattle.strftime.specs.Private.{Puts};
 
 pub struct Fields {
