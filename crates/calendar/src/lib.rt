@@ -108,8 +108,12 @@ fn year_near(year: u32, k: u32) -> u32
     ensures { λ r. ⌜ (r ≡ yearOf k) × (r < 2 ^ 20) ⌝ }
 {
     let before = days_before(year);
-    if 0 < year && before < k && k <= before + 365 {
-        return year;
+    if 0 < year {
+        if before < k {
+            if k <= before + 365 {
+                return year;
+            }
+        }
     }
     year_of(k)
 }

@@ -1,9 +1,7 @@
 -- `calendar::year_near` meets its contract. Assumes nothing.
-use Prim.Native.Nat.{_+_}
 use mathlib.Core.Path.{sym}
 use native.Mathlib.Omega.{arith}
 use borrow.Author.Needs.{needs}
-use borrow.Author.Tests.{ltb-true, leb-true}
 use Rattle.calendar.proofs.Years.{year-within}
 use Rattle.calendar.proofs.year_near.Statement.{statement}
 use Rattle.calendar.proofs.year_near.Tie as tie
@@ -19,9 +17,7 @@ returns c =
     let d = c .before .before .before in
     let a = d .before .args in
     let e = d .days-before .ensures .0 in
-    let after = ltb-true (d .days-before .result) (a .k) (c .before .if2 .taken) in
-    let upto = leb-true (a .k) (d .days-before .result + 365) (c .if3 .taken) in
-    (sym (year-within (a .year) (a .k) (c .before .before .if1 .taken) (omega (arith, e)) (omega (arith, e))), omega arith)
+    (sym (year-within (a .year) (a .k) (omega arith) (omega (arith, e)) (omega (arith, e))), omega arith)
 
 year-of-requires : tie.Need-year-of-requires
 year-of-requires c κs = search needs
