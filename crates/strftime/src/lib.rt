@@ -1,9 +1,13 @@
 // The writer: a format, a moment's fields and a buffer; all or nothing.
 use format::Conversion;
 use format::Form;
+use format::MIDDLE_BYTES;
+use format::MIDDLE_ELEMENTS;
 use format::MOST_BYTES;
 use format::MOST_ELEMENTS;
 use format::Opened;
+use format::SHORT_BYTES;
+use format::SHORT_ELEMENTS;
 use format::conversion_of;
 use format::open;
 use text::name_length;
@@ -46,8 +50,7 @@ pub enum Written {
 // The most bytes that an element writes.
 const WIDEST: usize = 9;
 
-// Writes a moment by a format over the start of the buffer. The format is opened into the smallest of three arrays that has room for it: to
-// clear the largest takes longer than to write.
+// Writes a moment by a format over the start of the buffer. The format is opened into the smallest of three arrays that has room for it.
 pub fn strftime(format: &[u8], fields: Fields, out: &mut [u8]) -> Written
     ensures { λ r. ⌜ r ≡ writing (now (format .entry)) fields (now (out .entry)) .answer ⌝ }
     ensures { λ _. ⌜ now (out .exit) ≡ writing (now (format .entry)) fields (now (out .entry)) .buffer ⌝ }
@@ -65,12 +68,12 @@ pub fn strftime(format: &[u8], fields: Fields, out: &mut [u8]) -> Written
     ) {
         MomentFields::Bad(field) => Written::BadMoment(field),
         MomentFields::Valid(moment) => {
-            if format.len() <= 16 {
-                let mut elements = [0u32; 104];
+            if format.len() <= SHORT_BYTES {
+                let mut elements = [0u32; SHORT_ELEMENTS];
                 return write_format(format, moment, &mut elements, out);
             }
-            if format.len() <= 128 {
-                let mut elements = [0u32; 832];
+            if format.len() <= MIDDLE_BYTES {
+                let mut elements = [0u32; MIDDLE_ELEMENTS];
                 return write_format(format, moment, &mut elements, out);
             }
             let mut elements = [0u32; MOST_ELEMENTS];

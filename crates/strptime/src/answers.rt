@@ -7,9 +7,13 @@ use crate::State;
 use crate::reading::read_all;
 use calendar::Date;
 use calendar::FromNumber;
+use format::MIDDLE_BYTES;
+use format::MIDDLE_ELEMENTS;
 use format::MOST_BYTES;
 use format::MOST_ELEMENTS;
 use format::Opened;
+use format::SHORT_BYTES;
+use format::SHORT_ELEMENTS;
 use format::open;
 use judge::Facts;
 use judge::Verdict;
@@ -109,7 +113,7 @@ fn read_opened(format: &[u8], text: &[u8], room: &mut [u32]) -> Answer
 }
 
 // Reads a text by a format: the day and hour that all its facts fix, or the refusal with its place. The format is opened into the smallest
-// of three arrays that has room for it: to clear the largest takes longer than to read.
+// of three arrays that has room for it.
 pub fn strptime(format: &[u8], text: &[u8]) -> Answer
     ensures { λ r. ⌜ r ≡ reading (now (format .entry)) (now (text .entry)) ⌝ }
 {
@@ -119,12 +123,12 @@ pub fn strptime(format: &[u8], text: &[u8]) -> Answer
     if MOST_BYTES < text.len() {
         return Answer::TextTooLong;
     }
-    if format.len() <= 16 {
-        let mut elements = [0; 104];
+    if format.len() <= SHORT_BYTES {
+        let mut elements = [0; SHORT_ELEMENTS];
         return read_opened(format, text, &mut elements);
     }
-    if format.len() <= 128 {
-        let mut elements = [0; 832];
+    if format.len() <= MIDDLE_BYTES {
+        let mut elements = [0; MIDDLE_ELEMENTS];
         return read_opened(format, text, &mut elements);
     }
     let mut elements = [0; MOST_ELEMENTS];
