@@ -2,7 +2,7 @@
 -- Assumes nothing.
 use Prim.Native.Nat.{ℕ, zero, suc, _+_, _-_, _*_, _/_, _≤_, _<_}
 use mathlib.Core.Bool.{Bool, true, false, cond, _&&_}
-use mathlib.Core.List.{List, [], _∷_}
+use mathlib.Core.List.{List}
 use mathlib.Core.Logic.{⊎-elim}
 use mathlib.Core.Path.{_≡_, refl, sym, ap}
 use native.Mathlib.Decide.{decLe}
@@ -12,7 +12,7 @@ use borrow.Author.Tests.{ne-eqb}
 use lib.Dec.{T, eqb, leb, eqb→eq, leb→le, lit≤}
 use lib.ListN.{getD, List·getD-eq-default}
 use Rattle.calendar.specs.Calendar.{sum, leap, yearLength, monthLength, monthLengths, monthOf}
-use Rattle.calendar.proofs.Sum.{Located, sum-suc, sum-mono, period-is, locate}
+use Rattle.calendar.proofs.Sum.{sum-suc, sum-mono, period-is}
 use Rattle.laws.proofs.Table.{both, all, at}
 
 -- a month's length by whether the year is leap

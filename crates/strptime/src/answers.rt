@@ -15,7 +15,6 @@ use format::Opened;
 use format::SHORT_BYTES;
 use format::SHORT_ELEMENTS;
 use format::open;
-use judge::Facts;
 use judge::Verdict;
 use judge::judge_day;
 use judge::judge_hour;

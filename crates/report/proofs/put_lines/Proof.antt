@@ -1,7 +1,6 @@
 -- `report::put_lines` meets its contract. The invariant: to put the lines for the texts that are left gives what is to be shown, and there is room
 -- for as many lines as bytes are left.
 use Prim.Native.Nat.{_-_}
-use mathlib.Core.Path.{sym}
 use native.Mathlib.Omega.{arith}
 use denote.Ref.{now}
 use lib.ListN.{length}

@@ -1,9 +1,6 @@
 -- `format::opening::last_byte` meets its contract: the definition makes the same tests.
-use native.Mathlib.Omega.{arith}
 use borrow.Author.Needs.{needs}
 use borrow.Author.Tests.{eq-eqb, ne-eqb, le-leb, lt-leb}
-use lib.ListN.{length}
-use denote.Ref.{now}
 use Rattle.format.specs.Private.{lastByte}
 use Rattle.format.proofs.opening.last_byte.Statement.{statement}
 use Rattle.format.proofs.opening.last_byte.Tie as tie

@@ -1,5 +1,4 @@
 -- `format::opening::turn_at` meets its contract: the definition makes the same tests.
-use native.Mathlib.Omega.{arith}
 use borrow.Author.Needs.{needs}
 use borrow.Author.Tests.{eq-eqb, ne-eqb, le-leb, lt-leb}
 use Rattle.format.specs.Private.{turnAt}

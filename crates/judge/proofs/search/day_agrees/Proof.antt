@@ -1,13 +1,11 @@
 -- `judge::search::day_agrees` meets its contract. Assumes nothing.
 use Prim.Native.Nat.{ℕ}
-use mathlib.Core.Bool.{Bool, not}
+use mathlib.Core.Bool.{not}
 use mathlib.Core.Path.{_≡_, sym, ap, _∙_}
 use native.Mathlib.Omega.{arith}
 use borrow.Author.Needs.{needs}
 use borrow.Author.Tests.{not-true, not-false}
-use Rattle.calendar.specs.declared.Date.{Date}
 use Rattle.judge.specs.Agreement.{said, every, agrees}
-use Rattle.judge.specs.declared.Facts.{Facts}
 use Rattle.values.specs.Values.{dateValue, dateValues}
 use Rattle.judge.proofs.DayValues.{before-number, day-of-year-is, weekday-is, sunday-week-is, monday-week-is, fails-here, passes-here, unsaid-agree}
 use Rattle.judge.proofs.Parts.{test}

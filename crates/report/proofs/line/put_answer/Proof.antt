@@ -1,7 +1,6 @@
 -- `report::line::put_answer` meets its contract: of a finished reading all is shown, of any other answer nothing.
-use native.Mathlib.Omega.{arith}
 use borrow.Author.Needs.{needs}
-use Rattle.report.specs.Line.{answerShown, unsaidShown}
+use Rattle.report.specs.Line.{answerShown}
 use Rattle.report.proofs.Refusals.{refused}
 use Rattle.report.proofs.line.put_answer.Statement.{statement}
 use Rattle.report.proofs.line.put_answer.Tie as tie

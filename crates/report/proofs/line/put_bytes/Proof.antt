@@ -2,7 +2,7 @@
 use Prim.Native.Nat.{_-_}
 use native.Mathlib.Omega.{arith}
 use denote.Ref.{now}
-use lib.ListN.{length, length-set}
+use lib.ListN.{length}
 use Rattle.report.proofs.Putting.{Copying, copy-start, copy-next, copy-end}
 use Rattle.report.proofs.line.put_bytes.Statement.{statement}
 use Rattle.report.proofs.line.put_bytes.Tie as tie
