@@ -4,6 +4,7 @@ use mathlib.Core.Bool.{Bool, true, false, cond, _||_}
 use mathlib.Core.List.{List, [], _∷_}
 use lib.Dec.{eqb}
 use lib.ListN.{set, replicate}
+use Rattle.kinds.specs.Kinds.{count}
 use Rattle.judge.specs.Agreement.{said}
 use Rattle.judge.specs.declared.Facts.{Facts}
 use Rattle.strptime.specs.Elements.{readElement}
@@ -16,7 +17,7 @@ use Rattle.strptime.specs.declared.elements.Item.the-variants.{Skip, Fac
 
 -- nothing said yet
 unfoldable pub unsaid : Facts
-unsaid = record { said = replicate 18 0 }
+unsaid = record { said = replicate count 0 }
 
 unfoldable pub start : State
 start = record { facts = unsaid; at = 0 }
@@ -29,13 +30,14 @@ unfoldable pub stays : State → Outcome → Stepped
 stays t o = record { state = t; outcome = o }
 
 -- the facts with one more
-unfoldable pub told : Facts → ℕ → ℕ → Facts
-told f k n = record { said = set (f .said) k (suc n) }
+unfoldable pub noted : Facts → ℕ → ℕ → Facts
+noted f k n = record { said = set (f .said) k (suc n) }
 
 -- "Saying the same thing twice is allowed", saying it differently is 8
 unfoldable pub tell : State → ℕ → ℕ → ℕ → ℕ → Stepped
 tell t k n from next =
-    cond (eqb (said (t .facts) k) 0 || eqb (said (t .facts) k) (suc n)) (goes (told (t .facts) k n) next) (stays t (Conflict from))
+    cond (eqb (said (t .facts) k) 0 || eqb (said (t .facts) k) (suc n)) (goes (noted (t .facts) k n) next)
+    (stays t (Conflict from))
 
 unfoldable pub taken : State → Item → Stepped
 taken t (Skip next) = goes (t .facts) next
@@ -63,5 +65,5 @@ readAll (e ∷ es) s t =
 
 -- everything here, for proofs that compute
 unfoldable pub computes : Unit {0}
-unfolding unsaid start goes stays told tell taken stepOn isRead readAll
+unfolding unsaid start goes stays noted tell taken stepOn isRead readAll
 computes = tt
