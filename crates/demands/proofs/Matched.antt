@@ -1,0 +1,140 @@
+-- A text is matched exactly if the answer's number is none of those before 9, and then the judge is handed exactly the facts that it says.
+-- Assumes nothing.
+use Prim.Native.Nat.{ℕ, zero, suc, _≤_, _<_}
+use mathlib.Core.Bool.{Bool, true, false, cond, false≢true, true≢false}
+use mathlib.Core.List.{List, [], _∷_}
+use mathlib.Core.Logic.{_⊎_, _↔_, inl, inr, ⊎-elim}
+use mathlib.Core.Path.{_≡_, refl, sym, ap, _∙_}
+use native.Mathlib.Omega.{arith}
+use borrow.Author.Tests.{le-leb, leb-true}
+use lib.Dec.{leb}
+use lib.ListN.{length, getD, replicate}
+use Rattle.laws.proofs.Cases.{clash}
+use Rattle.kinds.specs.Kinds.{count}
+use Rattle.format.specs.Conversions.{among}
+use Rattle.format.specs.Opening.{Ended, Whole, BadAt, opening, longest}
+use Rattle.judge.specs.Agreement.{said}
+use Rattle.judge.specs.Verdicts.{dayVerdict, hourVerdict}
+use Rattle.judge.specs.declared.Verdict.{Verdict}
+use Rattle.judge.specs.declared.Verdict.the-variants.{Unsaid, Impossible, Open, Agreed}
+use Rattle.strptime.specs.Answers.{showing, refused, finished, done, withHour, withDay, judged, concluded, readBy, byFormat, reading}
+use Rattle.strptime.specs.Elements.{readElement}
+use Rattle.strptime.specs.Reading.{unsaid, start, stays, isRead, readAll}
+use Rattle.strptime.specs.declared.Day.{Day}
+use Rattle.strptime.specs.declared.Outcome.{Outcome}
+use Rattle.strptime.specs.declared.Outcome.the-variants.{Read, Mismatch, Range, Conflict}
+use Rattle.strptime.specs.declared.Reading.{Reading}
+use Rattle.strptime.specs.declared.State.{State}
+use Rattle.strptime.specs.declared.Stepped.{Stepped}
+use Rattle.demands.specs.Facts.{Says, facts, allRead, Consistent, Matched}
+use Rattle.demands.specs.Demand.{beforeNine}
+use Rattle.demands.proofs.Walk.{Kept, Small, Went, went, goes-through}
+
+-- ---- numbers of a judging
+
+abbrev Judging : Reading → Type 0
+Judging r = among (r .number) beforeNine ≡ false
+
+module _ (t : State) where
+  hour-numbers : (d : Day) (v : Verdict) → Judging (withHour t d v)
+  unfolding withHour done finished refused showing among
+  hour-numbers d Unsaid = refl
+  hour-numbers d Impossible = refl
+  hour-numbers d (Open a b) = refl
+  hour-numbers d (Agreed h) = refl
+
+  day-numbers : (v w : Verdict) → Judging (withDay t v w)
+  unfolding withDay refused showing among
+  day-numbers Unsaid w = hour-numbers _ w
+  day-numbers Impossible w = refl
+  day-numbers (Open a b) w = refl
+  day-numbers (Agreed k) w = hour-numbers _ w
+
+  judged-numbers : Judging (judged t)
+  unfolding judged
+  judged-numbers = day-numbers _ _
+
+-- ---- what is handed to the judge
+
+-- the reading of a text by a format's elements
+abbrev pub read : List ℕ → List ℕ → Stepped
+read f s = readAll (opening f .elements) s start
+
+none-kept : (k n : ℕ) → Kept (start .facts) k n → ⊥
+unfolding start unsaid
+none-kept k n e = omega (arith, zeros 18 k)
+  where
+    zeros : (m k : ℕ) → getD {A = ℕ} (replicate m 0) k 0 ≡ 0
+    zeros zero k = refl
+    zeros (suc m) zero = refl
+    zeros (suc m) (suc k) = zeros m k
+
+module _ (small : (e : ℕ) (s : List ℕ) (p : ℕ) → Small (readElement e s p)) (f s : List ℕ) where
+  read-went : isRead (read f s .outcome) ≡ true → Went (opening f .elements) s start
+  unfolding start unsaid
+  read-went = went small (opening f .elements) s start refl
+
+  -- exactly the facts that the text says
+  kept-said : isRead (read f s .outcome) ≡ true → (k n : ℕ) → Kept (read f s .state .facts) k n ↔ Says (facts f s) k n
+  unfolding facts start
+  kept-said w k n =
+      let g = read-went w .keeps k n in
+      (λ x. ⊎-elim (λ y. absurd (none-kept k n y)) (λ y. y) (g .0 x), λ x. g .1 (inr x))
+
+  consistent : isRead (read f s .outcome) ≡ true → Consistent (facts f s)
+  consistent w k m n x y =
+      let a = kept-said w k m .1 x in
+      let b = kept-said w k n .1 y in
+      omega (arith, sym a ∙ b)
+
+  matched-read : Matched f s → isRead (read f s .outcome) ≡ true
+  unfolding facts start
+  matched-read m =
+      goes-through small (opening f .elements) s start (unfold start unsaid in refl) (m .all-read)
+      (λ k a b x y. m .consistent k a b (not-kept k a x) (not-kept k b y))
+    where
+      not-kept : (k n : ℕ) → Kept (start .facts) k n ⊎ Says (facts f s) k n → Says (facts f s) k n
+      not-kept k n x = ⊎-elim (λ y. absurd (none-kept k n y)) (λ y. y) x
+
+  -- the answer to a matched text is its judging
+  pub matched-is : Matched f s → reading f s ≡ judged (read f s .state)
+  unfolding reading byFormat readBy concluded isRead
+  matched-is m =
+      rw (le-leb (length f) longest (m .format-short), le-leb (length s) longest (m .text-short), m .format-whole)
+      (concluding (read f s .outcome) (matched-read m))
+    where
+      concluding : (o : Outcome) → isRead o ≡ true → concluded (read f s .state) o ≡ judged (read f s .state)
+      concluding Read e = refl
+      concluding (Mismatch p) e = absurd (false≢true e)
+      concluding (Range p) e = absurd (false≢true e)
+      concluding (Conflict p) e = absurd (false≢true e)
+
+  -- a text whose answer has none of the numbers before 9 is matched: each way out of the order before 9 has one of them
+  judging-matched : (a : Bool) → leb (length f) longest ≡ a → (b : Bool) → leb (length s) longest ≡ b → (d : Ended) → opening f .ended ≡ d
+      → (o : Outcome) → read f s .outcome ≡ o → Judging (reading f s) → Matched f s
+  unfolding reading byFormat readBy concluded refused showing among isRead start
+  judging-matched false e b g d h o q j = absurd (true≢false (rw e at j))
+  judging-matched true e false g d h o q j = absurd (true≢false (rw (e, g) at j))
+  judging-matched true e true g (BadAt p) h o q j = absurd (true≢false (rw (e, g, h) at j))
+  judging-matched true e true g Whole h (Mismatch p) q j = absurd (true≢false (rw (e, g, h, q) at j))
+  judging-matched true e true g Whole h (Range p) q j = absurd (true≢false (rw (e, g, h, q) at j))
+  judging-matched true e true g Whole h (Conflict p) q j = absurd (true≢false (rw (e, g, h, q) at j))
+  judging-matched true e true g Whole h Read q j =
+      let w : isRead (read f s .outcome) ≡ true = rw q in
+      record {
+        format-short = leb-true (length f) longest e;
+        text-short = leb-true (length s) longest g;
+        format-whole = h;
+        all-read = read-went w .reads;
+        consistent = consistent w;
+      }
+
+  pub matched : Matched f s ↔ (among (reading f s .number) beforeNine ≡ false)
+  matched = (
+    λ m. rw (matched-is m) (judged-numbers (read f s .state)),
+    judging-matched _ refl _ refl (opening f .ended) refl (read f s .outcome) refl,
+  )
+
+  -- what the judge is handed: a kind has a number exactly if that fact is among those that the text says
+  pub handed : Matched f s → (k n : ℕ) → Kept (read f s .state .facts) k n ↔ Says (facts f s) k n
+  handed m = kept-said (matched-read m)

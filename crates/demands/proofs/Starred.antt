@@ -1,0 +1,29 @@
+-- Every starred case gives what paper 01 says: one statement, by computing.
+-- Assumes nothing.
+use mathlib.Core.List.{map}
+use mathlib.Core.Path.{_≡_, refl}
+use Rattle.laws.specs.Lists.{every}
+use Rattle.calendar.specs.Calendar as calendar
+use Rattle.values.specs.Moments as moments
+use Rattle.values.specs.Values as values
+use Rattle.text.specs.Case.{fold}
+use Rattle.text.specs.Digits.{leading, filled, isDigit, digitRun, decimal}
+use Rattle.text.specs.Names as names
+use Rattle.text.specs.Names.{goesOn, firstName, orElse, readName}
+use Rattle.text.specs.Naming as naming
+use Rattle.text.specs.Space.{isSpace, spaces}
+use Rattle.format.specs.Conversions as conversions
+use Rattle.format.specs.Opening as opening
+use Rattle.strftime.specs.Writing as writer
+use Rattle.judge.specs.Agreement as agreement
+use Rattle.judge.specs.Search as search
+use Rattle.judge.specs.Verdicts as verdicts
+use Rattle.strptime.specs.Elements as elements
+use Rattle.strptime.specs.Reading as reading
+use Rattle.strptime.specs.Answers as answers
+use Rattle.demands.specs.Starred as cases
+use Rattle.demands.specs.Starred.{Case, starred}
+
+pub all-hold : map (λ (c : Case). c .0) starred ≡ map (λ (c : Case). c .1) starred
+unfolding cases.computes every fold leading filled isDigit digitRun decimal goesOn firstName orElse readName isSpace spaces calendar.computes moments.computes values.computes names.computes naming.computes conversions.computes opening.computes writer.computes agreement.computes search.computes verdicts.computes elements.computes reading.computes answers.computes
+all-hold = refl

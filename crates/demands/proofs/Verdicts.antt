@@ -1,0 +1,135 @@
+-- What an answer made of two verdicts tells of them: each number and place stands for one verdict on the day, or on the hour.
+-- Assumes nothing.
+use Prim.Native.Nat.{ℕ}
+use mathlib.Core.Logic.{_⊎_, _↔_, inl, inr, ⊎-elim}
+use mathlib.Core.Path.{_≡_, refl, sym, ap, _∙_}
+use native.Mathlib.Omega.{arith}
+use Rattle.laws.proofs.Cases.{clash}
+use Rattle.kinds.specs.Kinds as kinds
+use Rattle.calendar.specs.Calendar.{dateOf}
+use Rattle.calendar.specs.declared.Date.{Date}
+use Rattle.judge.specs.Agreement.{said}
+use Rattle.judge.specs.declared.Verdict.{Verdict}
+use Rattle.judge.specs.declared.Verdict.the-variants.{Unsaid as NotSaid, Impossible, Open, Agreed}
+use Rattle.strptime.specs.Answers.{showing, refused, finished, saidOf, done, withHour, withDay}
+use Rattle.strptime.specs.declared.Day.{Day}
+use Rattle.strptime.specs.declared.Day.the-variants.{NoDate, On}
+use Rattle.strptime.specs.declared.Reading.{Reading}
+use Rattle.strptime.specs.declared.Said.{Said}
+use Rattle.strptime.specs.declared.Said.the-variants.{Unsaid, Is}
+use Rattle.strptime.specs.declared.Shown.{Shown}
+use Rattle.strptime.specs.declared.Shown.the-variants.{Nothing, Days, Hours}
+use Rattle.strptime.specs.declared.State.{State}
+
+-- the day that a verdict leaves, where it does not refuse
+abbrev pub Leaves : Verdict → Day → Type 0
+Leaves NotSaid x = x ≡ NoDate
+Leaves Impossible x = ⊥
+Leaves (Open a b) x = ⊥
+Leaves (Agreed k) x = x ≡ On (dateOf k)
+
+-- the hour likewise
+abbrev pub LeavesHour : Verdict → Said → Type 0
+LeavesHour NotSaid x = x ≡ Unsaid
+LeavesHour Impossible x = ⊥
+LeavesHour (Open a b) x = ⊥
+LeavesHour (Agreed h) x = x ≡ Is h
+
+-- a number, a place, and what is shown
+abbrev pub Refuses : ℕ → ℕ → Reading → Type 0
+Refuses n p r = (r .number ≡ n) × (r .place ≡ p)
+
+abbrev pub Shows : ℕ → Shown → Reading → Type 0
+Shows p x r = (r .number ≡ 10) × (r .place ≡ p) × (r .shown ≡ x)
+
+abbrev pub Finishes : Day → Said → Said → Said → Reading → Type 0
+Finishes x h m c r = (r .number ≡ 0) × (r .day ≡ x) × (r .hour ≡ h) × (r .minute ≡ m) × (r .second ≡ c)
+
+module _ (t : State) where
+  abbrev pub minute : Said
+  minute = saidOf (said (t .facts) kinds.minute)
+
+  abbrev pub second : Said
+  second = saidOf (said (t .facts) kinds.second)
+
+  -- ---- the hour
+
+  hour-not-day : (d : Day) (w : Verdict) → (withHour t d w .place ≡ 1) → (withHour t d w .number ≡ 0 → ⊥) → ⊥
+  unfolding withHour done finished refused showing
+  hour-not-day d NotSaid e n = n refl
+  hour-not-day d Impossible e n = omega arith
+  hour-not-day d (Open a b) e n = omega arith
+  hour-not-day d (Agreed h) e n = n refl
+
+  hour-none : (d : Day) (w : Verdict) → Refuses 9 2 (withHour t d w) ↔ (w ≡ Impossible)
+  unfolding withHour done finished refused showing
+  hour-none d NotSaid = (λ e. absurd (omega (arith, e .0)), λ e. clash (cc))
+  hour-none d Impossible = (λ e. refl, λ e. (refl, refl))
+  hour-none d (Open a b) = (λ e. absurd (omega (arith, e .0)), λ e. clash (cc))
+  hour-none d (Agreed h) = (λ e. absurd (omega (arith, e .0)), λ e. clash (cc))
+
+  hour-two : (d : Day) (w : Verdict) (a b : ℕ) → Shows 2 (Hours a b) (withHour t d w) ↔ (w ≡ Open a b)
+  unfolding withHour done finished refused showing
+  hour-two d NotSaid a b = (λ e. absurd (omega (arith, e .0)), λ e. clash (cc))
+  hour-two d Impossible a b = (λ e. absurd (omega (arith, e .0)), λ e. clash (cc))
+  hour-two d (Open x y) a b = (
+    λ e. let q = e .2 in cc,
+    λ e. let p : x ≡ a = cc in let q : y ≡ b = cc in (refl, refl, rw (p, q)),
+  )
+  hour-two d (Agreed h) a b = (λ e. absurd (omega (arith, e .0)), λ e. clash (cc))
+
+  hour-done : (d : Day) (w : Verdict) (x : Day) (h m c : Said)
+      → Finishes x h m c (withHour t d w) ↔ ((d ≡ x) × LeavesHour w h × (minute ≡ m) × (second ≡ c))
+  unfolding withHour done finished refused showing
+  hour-done d NotSaid x h m c = (λ e. (e .1, sym (e .2), e .3, e .4), λ e. (refl, e .0, sym (e .1), e .2, e .3))
+  hour-done d Impossible x h m c = (λ e. absurd (omega (arith, e .0)), λ e. absurd (e .1))
+  hour-done d (Open a b) x h m c = (λ e. absurd (omega (arith, e .0)), λ e. absurd (e .1))
+  hour-done d (Agreed k) x h m c = (λ e. (e .1, sym (e .2), e .3, e .4), λ e. (refl, e .0, sym (e .1), e .2, e .3))
+
+  -- ---- the day first
+
+  pub day-none : (v w : Verdict) → Refuses 9 1 (withDay t v w) ↔ (v ≡ Impossible)
+  unfolding withDay refused showing
+  day-none NotSaid w = (λ e. absurd (hour-not-day NoDate w (e .1) (λ z. omega (arith, sym z ∙ e .0))), λ e. clash (cc))
+  day-none Impossible w = (λ e. refl, λ e. (refl, refl))
+  day-none (Open a b) w = (λ e. absurd (omega (arith, e .0)), λ e. clash (cc))
+  day-none (Agreed k) w = (λ e. absurd (hour-not-day (On (dateOf k)) w (e .1) (λ z. omega (arith, sym z ∙ e .0))), λ e. clash (cc))
+
+  pub day-two : (v w : Verdict) (x y : Date) → Shows 1 (Days x y) (withDay t v w)
+      ↔ ((a : ℕ) × (b : ℕ) × (v ≡ Open a b) × (dateOf a ≡ x) × (dateOf b ≡ y))
+  unfolding withDay refused showing
+  day-two NotSaid w x y = (λ e. absurd (hour-not-day NoDate w (e .1) (λ z. omega (arith, sym z ∙ e .0))), λ e. clash (cc (e .2)))
+  day-two Impossible w x y = (λ e. absurd (omega (arith, e .0)), λ e. clash (cc (e .2)))
+  day-two (Open a b) w x y = (
+    λ e. let q = e .2 in (a, b, refl, (cc), (cc)),
+    λ e. let p = e .2 in let q : a ≡ e .0 = cc in let r : b ≡ e .1 = cc in (refl, refl, rw (q, r, e .3, e .4)),
+  )
+  day-two (Agreed k) w x y =
+      (λ e. absurd (hour-not-day (On (dateOf k)) w (e .1) (λ z. omega (arith, sym z ∙ e .0))), λ e. clash (cc (e .2)))
+
+  -- then the hour, where the day is not refused
+  pub then-none : (v w : Verdict) → Refuses 9 2 (withDay t v w) ↔ (((x : Day) × Leaves v x) × (w ≡ Impossible))
+  unfolding withDay refused showing
+  then-none NotSaid w = (λ e. ((NoDate, refl), hour-none NoDate w .0 e), λ e. hour-none NoDate w .1 (e .1))
+  then-none Impossible w = (λ e. absurd (omega (arith, e .1)), λ e. absurd (e .0 .1))
+  then-none (Open a b) w = (λ e. absurd (omega (arith, e .0)), λ e. absurd (e .0 .1))
+  then-none (Agreed k) w = (λ e. ((On (dateOf k), refl), hour-none (On (dateOf k)) w .0 e), λ e. hour-none (On (dateOf k)) w .1 (e .1))
+
+  pub then-two : (v w : Verdict) (a b : ℕ) → Shows 2 (Hours a b) (withDay t v w) ↔ (((x : Day) × Leaves v x) × (w ≡ Open a b))
+  unfolding withDay refused showing
+  then-two NotSaid w a b = (λ e. ((NoDate, refl), hour-two NoDate w a b .0 e), λ e. hour-two NoDate w a b .1 (e .1))
+  then-two Impossible w a b = (λ e. absurd (omega (arith, e .0)), λ e. absurd (e .0 .1))
+  then-two (Open x y) w a b = (λ e. absurd (omega (arith, e .1)), λ e. absurd (e .0 .1))
+  then-two (Agreed k) w a b = (λ e. ((On (dateOf k), refl), hour-two (On (dateOf k)) w a b .0 e), λ e. hour-two (On (dateOf k)) w a b .1 (e .1))
+
+  pub then-done : (v w : Verdict) (x : Day) (h m c : Said)
+      → Finishes x h m c (withDay t v w) ↔ (Leaves v x × LeavesHour w h × (minute ≡ m) × (second ≡ c))
+  unfolding withDay refused showing
+  then-done NotSaid w x h m c =
+      let g = hour-done NoDate w x h m c in
+      (λ e. let r = g .0 e in (sym (r .0), r .1, r .2, r .3), λ e. g .1 (sym (e .0), e .1, e .2, e .3))
+  then-done Impossible w x h m c = (λ e. absurd (omega (arith, e .0)), λ e. absurd (e .0))
+  then-done (Open a b) w x h m c = (λ e. absurd (omega (arith, e .0)), λ e. absurd (e .0))
+  then-done (Agreed k) w x h m c =
+      let g = hour-done (On (dateOf k)) w x h m c in
+      (λ e. let r = g .0 e in (sym (r .0), r .1, r .2, r .3), λ e. g .1 (sym (e .0), e .1, e .2, e .3))

@@ -1,0 +1,187 @@
+-- Reading elements, and what they say: the reader goes through exactly if every element finds what it wants and no kind is said again,
+-- differently; and then it has kept exactly what was said.
+-- Assumes nothing.
+use Prim.Native.Nat.{ℕ, zero, suc, _<_}
+use mathlib.Core.Bool.{Bool, true, false, cond, _||_, false≢true}
+use mathlib.Core.List.{List, [], _∷_}
+use mathlib.Core.Logic.{_⊎_, _↔_, inl, inr, ⊎-elim}
+use mathlib.Core.Path.{_≡_, refl, sym, ap, _∙_}
+use native.Mathlib.Decide.{ℕ-discrete}
+use native.Mathlib.Omega.{arith}
+use borrow.Author.Tests.{eq-eqb, ne-eqb, eqb-true}
+use lib.Dec.{eqb}
+use lib.ListN.{length, set, length-set}
+use lib.Seq.{getD-set-same, getD-set-other}
+use Rattle.kinds.specs.Kinds.{count}
+use Rattle.judge.specs.Agreement.{said}
+use Rattle.judge.specs.declared.Facts.{Facts}
+use Rattle.strptime.specs.Elements.{readElement}
+use Rattle.strptime.specs.Reading.{goes, stays, noted, tell, taken, stepOn, isRead, readAll}
+use Rattle.strptime.specs.declared.Outcome.{Outcome}
+use Rattle.strptime.specs.declared.Outcome.the-variants.{Read, Mismatch, Range, Conflict}
+use Rattle.strptime.specs.declared.State.{State}
+use Rattle.strptime.specs.declared.Stepped.{Stepped}
+use Rattle.strptime.specs.declared.elements.Item.{Item}
+use Rattle.strptime.specs.declared.elements.Item.the-variants.{Skip, Fact as Reads, NoMatch, OutOfRange}
+use Rattle.demands.specs.Facts.{Fact, saying, factsFrom, Says, going, allRead}
+
+-- a number is kept for a kind
+abbrev pub Kept : Facts → ℕ → ℕ → Type 0
+Kept f k n = said f k ≡ suc n
+
+suc-same : (m n : ℕ) → suc m ≡ suc n → m ≡ n
+suc-same m n e = omega arith
+
+-- one fact more, of a kind that nothing else was said of
+module _ (f : Facts) (k n : ℕ) (h : k < length (f .said)) (free : (said f k ≡ 0) ⊎ (said f k ≡ suc n)) where
+  noted-same : said (noted f k n) k ≡ suc n
+  unfolding noted
+  noted-same = getD-set-same (f .said) k (suc n) 0 h
+
+  noted-other : (j : ℕ) → (k ≡ j → ⊥) → said (noted f k n) j ≡ said f j
+  unfolding noted
+  noted-other j d = getD-set-other (f .said) k j (suc n) 0 (λ e. d (sym e))
+
+  kept-noted : (j m : ℕ) → Kept (noted f k n) j m → Kept f j m ⊎ ((k ≡ j) × (n ≡ m))
+  kept-noted j m e = go (ℕ-discrete k j)
+    where
+      go : Dec (k ≡ j) → Kept f j m ⊎ ((k ≡ j) × (n ≡ m))
+      go (yes d) = inr (d, suc-same n m (sym noted-same ∙ rw (← d) at e))
+      go (no d) = inl (sym (noted-other j d) ∙ e)
+
+  noted-keeps : (j m : ℕ) → Kept f j m → Kept (noted f k n) j m
+  noted-keeps j m e = go (ℕ-discrete k j)
+    where
+      go : Dec (k ≡ j) → Kept (noted f k n) j m
+      go (yes d) =
+          let e' : said f k ≡ suc m = rw d e in
+          let same : n ≡ m = ⊎-elim (λ z. absurd (omega arith)) (λ z. omega arith) free in
+          rw (← d, ← same) noted-same
+      go (no d) = noted-other j d ∙ e
+
+-- ---- one element after the other
+
+-- where an item leads, with the elements that are left
+onward : List ℕ → List ℕ → State → Item → Stepped
+onward es s t i = let r = taken t i in cond (isRead (r .outcome)) (readAll es s (r .state)) r
+
+abbrev at : Facts → ℕ → State
+at f p = record { facts = f; at = p }
+
+abbrev Whole : Stepped → Type 0
+Whole r = isRead (r .outcome) ≡ true
+
+-- what is kept is what was kept before, or what the facts say
+abbrev KeepsAll : Facts → List Fact → Facts → Type 0
+KeepsAll f xs g = (k n : ℕ) → Kept g k n ↔ (Kept f k n ⊎ Says xs k n)
+
+-- each kind has one number at the most, among what is kept and what the facts say
+abbrev OneEach : Facts → List Fact → Type 0
+OneEach f xs = (k m n : ℕ) → Kept f k m ⊎ Says xs k m → Kept f k n ⊎ Says xs k n → m ≡ n
+
+-- a reading by elements that goes through, and by an item and then elements
+pub record Went (es s : List ℕ) (t : State) : Type 0 where
+  pub reads : allRead es s (t .at) ≡ true
+  pub keeps : KeepsAll (t .facts) (factsFrom es s (t .at)) (readAll es s t .state .facts)
+
+record WentBy (es s : List ℕ) (t : State) (i : Item) : Type 0 where
+  reads : going (λ next. allRead es s next) i ≡ true
+  keeps : KeepsAll (t .facts) (saying (λ next. factsFrom es s next) i) (onward es s t i .state .facts)
+
+-- an item's kind has a place among what is kept
+abbrev pub Small : Item → Type 0
+Small i = (k n from next : ℕ) → i ≡ Reads k n from next → k < count
+
+free-of : (x n : ℕ) → (eqb x 0 || eqb x (suc n)) ≡ true → (x ≡ 0) ⊎ (x ≡ suc n)
+free-of x n e = go (eqb x 0) refl e
+  where
+    go : (b : Bool) → eqb x 0 ≡ b → (b || eqb x (suc n)) ≡ true → (x ≡ 0) ⊎ (x ≡ suc n)
+    go true f g = inl (eqb-true x 0 f)
+    go false f g = inr (eqb-true x (suc n) g)
+
+module _ (es s : List ℕ) (t : State) (l : length (t .facts .said) ≡ count)
+    (rest : (f : Facts) (p : ℕ) → length (f .said) ≡ count → Whole (readAll es s (at f p)) → Went es s (at f p)) where
+  -- a fact, by whether it is free to be kept
+  kept-by : (k n from next : ℕ) → k < count → (b : Bool) → (eqb (said (t .facts) k) 0 || eqb (said (t .facts) k) (suc n)) ≡ b
+      → Whole (onward es s t (Reads k n from next)) → WentBy es s t (Reads k n from next)
+  unfolding onward taken tell goes stays isRead going saying Says
+  kept-by k n from next h true e w =
+      let f = t .facts in
+      let free = free-of (said f k) n e in
+      let inside : k < length (f .said) = omega arith in
+      let long : length (noted f k n .said) ≡ count = unfold noted in length-set (f .said) k (suc n) ∙ l in
+      let r = rest (noted f k n) next long (rw e at w) in
+      record {
+        reads = r .reads;
+        keeps = λ j m. rw e (
+          λ x.
+              ⊎-elim
+              (λ y. ⊎-elim (λ z. inl z) (λ z. inr (inl z)) (kept-noted f k n inside free j m y))
+              (λ y. inr (inr y))
+              (r .keeps j m .0 x),
+          λ x. r .keeps j m .1
+              (⊎-elim
+              (λ y. inl (noted-keeps f k n inside free j m y))
+              (λ y. ⊎-elim (λ z. inl (rw (← z .0, ← z .1) (noted-same f k n inside free))) (λ z. inr z) y)
+              x),
+        );
+      }
+  kept-by k n from next h false e w = absurd (false≢true (rw e at w))
+
+  went-by : (i : Item) → Small i → Whole (onward es s t i) → WentBy es s t i
+  unfolding onward taken goes stays isRead going saying
+  went-by (Skip next) h w =
+      let r = rest (t .facts) next l w in
+      record { reads = r .reads; keeps = r .keeps }
+  went-by (Reads k n from next) h w = kept-by k n from next (h k n from next refl) _ refl w
+  went-by (NoMatch p) h w = absurd (false≢true w)
+  went-by (OutOfRange p) h w = absurd (false≢true w)
+
+-- the other way: elements that all find what they want, with one number for each kind, are read through
+module _ (es s : List ℕ) (t : State) (l : length (t .facts .said) ≡ count)
+    (rest : (f : Facts) (p : ℕ) → length (f .said) ≡ count → allRead es s p ≡ true → OneEach f (factsFrom es s p)
+        → Whole (readAll es s (at f p))) where
+  goes-by : (i : Item) → Small i → going (λ next. allRead es s next) i ≡ true
+      → OneEach (t .facts) (saying (λ next. factsFrom es s next) i) → Whole (onward es s t i)
+  unfolding onward taken tell goes stays isRead going saying Says
+  goes-by (Skip next) h r c = rest (t .facts) next l r c
+  goes-by (Reads k n from next) h r c =
+      let f = t .facts in
+      let inside : k < length (f .said) = omega (arith, h k n from next refl) in
+      let long : length (noted f k n .said) ≡ count = unfold noted in length-set (f .said) k (suc n) ∙ l in
+      let free : (said f k ≡ 0) ⊎ (said f k ≡ suc n) = one (said f k) refl in
+      let on : (j m : ℕ) → Kept (noted f k n) j m ⊎ Says (factsFrom es s next) j m
+          → Kept f j m ⊎ (((k ≡ j) × (n ≡ m)) ⊎ Says (factsFrom es s next) j m) = λ j m x.
+          ⊎-elim
+          (λ y. ⊎-elim (λ z. inl z) (λ z. inr (inl z)) (kept-noted f k n inside free j m y))
+          (λ y. inr (inr y))
+          x in
+      rw (is-free (said f k) n free) (rest (noted f k n) next long r (λ j a b x y. c j a b (on j a x) (on j b y)))
+    where
+      one : (x : ℕ) → said (t .facts) k ≡ x → (x ≡ 0) ⊎ (x ≡ suc n)
+      one zero e = inl refl
+      one (suc m) e = inr (ap suc (c k m n (inl e) (inr (inl (refl, refl)))))
+
+      is-free : (x m : ℕ) → (x ≡ 0) ⊎ (x ≡ suc m) → (eqb x 0 || eqb x (suc m)) ≡ true
+      is-free x m (inl e) = rw (eq-eqb x 0 e)
+      is-free x m (inr e) =
+          let d : (x ≡ 0) → ⊥ = λ z. omega arith in
+          rw (ne-eqb x 0 d) (eq-eqb x (suc m) e)
+  goes-by (NoMatch p) h r c = absurd (false≢true r)
+  goes-by (OutOfRange p) h r c = absurd (false≢true r)
+
+module _ (small : (e : ℕ) (s : List ℕ) (p : ℕ) → Small (readElement e s p)) where
+  pub went : (es s : List ℕ) (t : State) → length (t .facts .said) ≡ count → Whole (readAll es s t) → Went es s t
+  unfolding readAll stepOn onward allRead factsFrom stays Says
+  went [] s t l w =
+      record { reads = refl; keeps = λ k n. (λ x. inl x, λ x. ⊎-elim (λ y. y) (λ y. absurd y) x) }
+  went (e ∷ es) s t l w =
+      let r = went-by es s t l (λ f p. went es s (at f p)) (readElement e s (t .at)) (small e s (t .at)) w in
+      record { reads = r .reads; keeps = r .keeps }
+
+  pub goes-through : (es s : List ℕ) (t : State) → length (t .facts .said) ≡ count → allRead es s (t .at) ≡ true
+      → OneEach (t .facts) (factsFrom es s (t .at)) → Whole (readAll es s t)
+  unfolding readAll stepOn onward allRead factsFrom stays isRead
+  goes-through [] s t l r c = refl
+  goes-through (e ∷ es) s t l r c =
+      goes-by es s t l (λ f p. goes-through es s (at f p)) (readElement e s (t .at)) (small e s (t .at)) r c

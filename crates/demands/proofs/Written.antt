@@ -1,0 +1,227 @@
+-- The writer would write a fact for a day or an hour exactly if its value there is the fact's number: what is written reads back.
+-- Assumes nothing.
+use Prim.Native.Char.{code}
+use Prim.Native.Nat.{ℕ, zero, suc, _+_, _-_, _^_, _≤_, _<_}
+use mathlib.Core.Bool.{Bool, true, false, cond, _&&_, and-eq-true-iff}
+use mathlib.Core.List.{List, [], _∷_, _++_, map, append-nil}
+use mathlib.Core.Logic.{_⊎_, _↔_, inl, inr, ⊎-elim}
+use mathlib.Core.Path.{_≡_, refl, sym, ap, _∙_}
+use native.Mathlib.Nat.{eq-or-lt-of-le}
+use native.Mathlib.Omega.{arith}
+use borrow.Author.Tests.{le-leb, lt-leb, le-ltb, ltb-true, leb-true}
+use lib.Dec.{eqb, leb, ltb, lit<, lit≤}
+use lib.ListN.{length, getD, take, drop, replicate}
+use lib.Seq.{sets, sets-eq, take-append-seam}
+use Rattle.kinds.specs.Kinds.{halfOfDay}
+use Rattle.calendar.specs.Calendar.{dateFault, dateOf, days, computes}
+use Rattle.calendar.proofs.Dates.{valid-no-fault, number-of-date}
+use Rattle.calendar.specs.declared.Date.{Date}
+use Rattle.format.specs.Conversions as conversions
+use Rattle.format.specs.Conversions.{conversionOf}
+use Rattle.format.specs.Opening as opening
+use Rattle.format.specs.Opening.{Opening, Whole, opening, longest, conversionAt, letterOf, isByte}
+use Rattle.format.specs.declared.conversions.Conversion.{Conversion}
+use Rattle.format.specs.declared.conversions.Form.{Form}
+use Rattle.format.specs.declared.conversions.Form.the-variants.{Zeros, Full}
+use Rattle.text.specs.declared.names.Names.the-variants.{Halves}
+use Rattle.laws.specs.Bytes.{bytes}
+use Rattle.laws.proofs.Cases.{clash}
+use Rattle.text.specs.Case.{fold}
+use Rattle.text.specs.Digits.{filled, decimal}
+use Rattle.text.specs.Names as names
+use Rattle.text.specs.Naming as naming
+use Rattle.text.specs.Naming.{nameFor}
+use Rattle.text.proofs.ReadBack.{filled-length, filled-digits, filled-back}
+use Rattle.values.specs.Moments.{momentOf, momentFault}
+use Rattle.values.specs.Values.{value, dateValue, hourValue}
+use Rattle.values.specs.declared.Moment.{Moment}
+use Rattle.values.specs.declared.MomentFields.the-variants.{Valid}
+use Rattle.values.proofs.Ranges.{lowest, highest, Ranged, date-ranged, hour-ranged}
+use Rattle.strftime.specs.Writing.{numbered, formed, converted, element, text, put, byFormat, forMoment, forFields, writing}
+use Rattle.strftime.specs.declared.Fields.{Fields}
+use Rattle.demands.specs.Writes.{letters, letterFor, wrote, written, IsNumber, IsHalf, WouldWrite, onDay, atHour, halves}
+
+-- ---- one conversion, written
+
+abbrev fields : Moment → Fields
+fields m =
+    record {
+      year = m .date .year;
+      month = m .date .month;
+      day = m .date .day;
+      hour = m .hour;
+      minute = m .minute;
+      second = m .second;
+    }
+
+abbrev IsMoment : Moment → Type 0
+IsMoment m = momentOf (m .date .year) (m .date .month) (m .date .day) (m .hour) (m .minute) (m .second) ≡ Valid m
+
+-- the conversion of kind k, as an element
+abbrev elementFor : ℕ → ℕ
+elementFor k = conversionAt 0 (letterFor k)
+
+abbrev alone : ℕ → Opening
+alone e = record { elements = e ∷ []; ended = Whole }
+
+module _ (k : ℕ) (m : Moment) (v : IsMoment m) (o : opening (code "%" ∷ letterFor k ∷ []) ≡ alone (elementFor k))
+    {x : List ℕ} (e : element m (elementFor k) ≡ x) (short : length x ≤ 9) where
+  wrote-is : wrote k (fields m) ≡ record { answer = numbered 0 (length x); buffer = sets (replicate 9 0) 0 x }
+  unfolding wrote writing forFields forMoment byFormat put text
+  wrote-is = rw (v, o, o, e, append-nil x, le-leb (length x) 9 short)
+
+  written-is : written k (fields m) ≡ x
+  unfolding written
+  written-is = rw (wrote-is, sets-eq x (replicate 9 0) 0 (omega arith)) (take-append-seam x _)
+
+-- ---- the rows of the conversions for kinds 1 to 15, each by one computed test
+
+abbrev range : ℕ → ℕ → List ℕ
+range k zero = []
+range k (suc n) = k ∷ range (suc k) n
+
+-- what holds of every kind of a list holds of each
+same-at : {A : Type 0} (f g : ℕ → A) (n from : ℕ) → map f (range from n) ≡ map g (range from n)
+    → (k : ℕ) → from ≤ k → k < from + n → f k ≡ g k
+same-at f g zero from e k p q = absurd (omega arith)
+same-at f g (suc n) from e k p q =
+    let here : f from ≡ g from = cc in
+    let more : map f (range (suc from) n) ≡ map g (range (suc from) n) = cc in
+    ⊎-elim
+    (λ (s : from ≡ k). rw s at here)
+    (λ (l : from < k). same-at f g n (suc from) more k l (omega arith))
+    (eq-or-lt-of-le p)
+
+-- each is a conversion of its own
+opens : (k : ℕ) → 1 ≤ k → k ≤ 15 → opening (code "%" ∷ letterFor k ∷ []) ≡ alone (elementFor k)
+opens k p q = same-at (λ j. opening (code "%" ∷ letterFor j ∷ [])) (λ j. alone (elementFor j)) 15 1 computed k p (omega arith)
+  where
+    computed : map (λ j. opening (code "%" ∷ letterFor j ∷ [])) (range 1 15) ≡ map (λ j. alone (elementFor j)) (range 1 15)
+    computed = unfold opening.computes conversions.computes letterFor letters in refl
+
+-- its row
+abbrev rowFor : ℕ → Conversion
+rowFor k = conversionOf (letterOf (elementFor k))
+
+-- kinds 1 to 14 are numbers, filled with zeros
+forms : (k : ℕ) → 1 ≤ k → k ≤ 14 → (rowFor k .kind ≡ k) × (rowFor k .form ≡ Zeros)
+forms k p q =
+    let e = same-at (λ j. rowFor j .kind) (λ j. j) 14 1 kinds k p (omega arith) in
+    let f = same-at (λ j. rowFor j .form) (λ j. Zeros) 14 1 zeros k p (omega arith) in
+    (e, f)
+  where
+    kinds : map (λ j. rowFor j .kind) (range 1 14) ≡ map (λ j. j) (range 1 14)
+    kinds = unfold conversions.computes letterFor letters in refl
+
+    zeros : map (λ j. rowFor j .form) (range 1 14) ≡ map (λ j. Zeros) (range 1 14)
+    zeros = unfold conversions.computes letterFor letters in refl
+
+-- the highest value of a kind fits the width of its conversion
+fits : (k : ℕ) → 1 ≤ k → k ≤ 14 → (getD highest k 0 < 10 ^ (rowFor k .width)) × (rowFor k .width ≤ 9)
+fits k p q =
+    let t = and-eq-true-iff (ltb (getD highest k 0) (10 ^ (rowFor k .width))) (leb (rowFor k .width) 9) .0
+        (same-at (λ j. ltb (getD highest j 0) (10 ^ (rowFor j .width)) && leb (rowFor j .width) 9) (λ j. true) 14 1 computed k p (omega arith)) in
+    (ltb-true _ _ (t .0), leb-true _ _ (t .1))
+  where
+    computed : map (λ j. ltb (getD highest j 0) (10 ^ (rowFor j .width)) && leb (rowFor j .width) 9) (range 1 14) ≡ map (λ j. true) (range 1 14)
+    computed = unfold conversions.computes letterFor letters highest in refl
+
+-- ---- kinds 1 to 14
+
+module _ (k : ℕ) (p : 1 ≤ k) (q : k ≤ 14) (m : Moment) (v : IsMoment m) (r : value k m ≤ getD highest k 0) where
+  number-written : element m (elementFor k) ≡ filled 48 (rowFor k .width) (value k m)
+  unfolding element converted formed
+  number-written =
+      let no : 256 ≤ elementFor k = omega arith in
+      rw (le-ltb (elementFor k) 256 no, forms k p q .1, forms k p q .0)
+
+  number-would : (n : ℕ) → WouldWrite k n (fields m) ↔ (value k m ≡ n)
+  number-would n =
+      let w = rowFor k .width in
+      let x = filled 48 w (value k m) in
+      let f = fits k p q in
+      let short : length x ≤ 9 = omega (arith, filled-length 48 w (value k m), f .1) in
+      let back : decimal 0 x ≡ value k m = filled-back w (value k m) (omega (arith, f .0)) in
+      let o = opens k p (omega arith) in
+      let is = written-is k m v o number-written short in (
+        λ y. ⊎-elim (λ z. sym back ∙ rw is at (z .1 .1)) (λ z. absurd (omega (arith, z .0))) (y .shows),
+        λ e. record {
+          done = rw (wrote-is k m v o number-written short);
+          shows = inl (λ z. omega arith, rw is (filled-digits w (value k m), back ∙ e));
+        },
+      )
+
+-- ---- kind 15
+
+-- "am" and "pm" are told apart
+half-is : (v n : ℕ) → v ≤ 1 → (map fold (nameFor Halves v) ≡ getD halves n (0 ∷ [])) ↔ (v ≡ n)
+unfolding names.computes naming.computes fold halves
+half-is zero zero h = (λ e. refl, λ e. refl)
+half-is zero (suc zero) h = (λ e. absurd (omega (arith, ap (λ (s : List ℕ). getD s 0 0) e)), λ e. absurd (omega arith))
+half-is zero (suc (suc n)) h = (λ e. clash (cc), λ e. absurd (omega arith))
+half-is (suc zero) zero h = (λ e. absurd (omega (arith, ap (λ (s : List ℕ). getD s 0 0) e)), λ e. absurd (omega arith))
+half-is (suc zero) (suc zero) h = (λ e. refl, λ e. refl)
+half-is (suc zero) (suc (suc n)) h = (λ e. clash (cc), λ e. absurd (omega arith))
+half-is (suc (suc v)) n h = absurd (omega arith)
+
+half-short : (v : ℕ) → v ≤ 1 → length (nameFor Halves v) ≤ 9
+unfolding names.computes naming.computes
+half-short zero h = lit≤ tt
+half-short (suc zero) h = lit≤ tt
+half-short (suc (suc v)) h = absurd (omega arith)
+
+module _ (m : Moment) (v : IsMoment m) (r : value halfOfDay m ≤ 1) where
+  half-written : element m (elementFor halfOfDay) ≡ nameFor Halves (value halfOfDay m)
+  unfolding element converted formed conversions.computes letterFor letters
+  half-written = refl
+
+  half-would : (n : ℕ) → WouldWrite halfOfDay n (fields m) ↔ (value halfOfDay m ≡ n)
+  half-would n =
+      let short = half-short (value halfOfDay m) r in
+      let o = opens halfOfDay (lit≤ tt) (lit≤ tt) in
+      let is = written-is halfOfDay m v o half-written short in
+      let same = half-is (value halfOfDay m) n r in (
+        λ y. ⊎-elim (λ z. absurd (z .0 refl)) (λ z. same .0 (rw is at (z .1))) (y .shows),
+        λ e. record { done = rw (wrote-is halfOfDay m v o half-written short); shows = inr (refl, rw is (same .1 e)) },
+      )
+
+-- ---- a day, and an hour
+
+-- a day of the calendar
+module _ (d : ℕ) (l : 1 ≤ d) (h : d ≤ days) where
+  midnight : Moment
+  midnight = record { date = dateOf d; hour = 0; minute = 0; second = 0 }
+
+  is-midnight : IsMoment midnight
+  unfolding midnight momentOf momentFault
+  is-midnight = rw (valid-no-fault _ _ _ (number-of-date d l h .valid))
+
+  pub day-would : (k n : ℕ) → 1 ≤ k → k ≤ 12 → WouldWrite k n (onDay d) ↔ (dateValue k (dateOf d) ≡ n)
+  unfolding onDay midnight value
+  day-would k n p q =
+      let e : value k midnight ≡ dateValue k (dateOf d) = rw (le-leb k 12 q) in
+      let r = date-ranged (dateOf d) (number-of-date d l h .valid) k q in
+      rw e at (number-would k p (omega arith) midnight is-midnight (rw e (r .1)) n)
+
+-- an hour of the day, on the first day
+module _ (h : ℕ) (l : h ≤ 23) where
+  moment : Moment
+  moment = record { date = record { year = 1; month = 1; day = 1 }; hour = h; minute = 0; second = 0 }
+
+  is-moment : IsMoment moment
+  unfolding moment momentOf momentFault computes
+  is-moment = rw (le-leb h 23 l)
+
+  half-at : (n : ℕ) → WouldWrite halfOfDay n (atHour h) ↔ (hourValue halfOfDay h ≡ n)
+  unfolding atHour moment value highest
+  half-at n = half-would moment is-moment (hour-ranged h l halfOfDay (lit≤ tt) (lit≤ tt) .1) n
+
+  pub hour-would : (k n : ℕ) → 13 ≤ k → k ≤ 15 → WouldWrite k n (atHour h) ↔ (hourValue k h ≡ n)
+  unfolding atHour moment value
+  hour-would k n p q =
+      let e : value k moment ≡ hourValue k h = rw (lt-leb k 12 (omega arith), le-leb k 15 q) in
+      let r = hour-ranged h l k p q in
+      ⊎-elim
+      (λ (s : k ≡ 15). rw s (half-at n))
+      (λ (s : k < 15). rw e at (number-would k (omega arith) (omega arith) moment is-moment (rw e (r .1)) n))
+      (eq-or-lt-of-le q)

@@ -1,0 +1,64 @@
+-- What a text says by a format (paper 01, "The words of demand 3"): "The facts are all that the elements read, from the first to the last."
+-- Nothing here looks at what the reader keeps: only at what each element reads.
+use Prim.Native.Nat.{ℕ, _≤_}
+use mathlib.Core.Bool.{Bool, true, false}
+use mathlib.Core.List.{List, [], _∷_}
+use mathlib.Core.Logic.{_⊎_}
+use mathlib.Core.Path.{_≡_}
+use lib.ListN.{length}
+use Rattle.format.specs.Opening.{Whole, opening, longest}
+use Rattle.strptime.specs.Elements.{readElement}
+use Rattle.strptime.specs.declared.elements.Item.{Item}
+use Rattle.strptime.specs.declared.elements.Item.the-variants.{Skip, Fact as Reads, NoMatch, OutOfRange}
+
+-- "A fact is its kind and a number, or for kind 15 its kind and AM or PM", which are 0 and 1; it stands in the text from its first digit or
+-- letter up to `next`.
+pub record Fact : Type 0 where
+  pub kind : ℕ
+  pub number : ℕ
+  pub from : ℕ
+  pub next : ℕ
+
+-- what an item says, before what `on` says from the offset after it on; after a refusal nothing is read
+unfoldable pub saying : (ℕ → List Fact) → Item → List Fact
+saying on (Skip next) = on next
+saying on (Reads k n from next) = record { kind = k; number = n; from = from; next = next } ∷ on next
+saying on (NoMatch p) = []
+saying on (OutOfRange p) = []
+
+-- what elements say, one after the other, from an offset of the text on
+unfoldable pub factsFrom : List ℕ → List ℕ → ℕ → List Fact
+factsFrom [] s at = []
+factsFrom (e ∷ es) s at = saying (λ next. factsFrom es s next) (readElement e s at)
+
+-- the facts that a text says by a format
+unfoldable pub facts : List ℕ → List ℕ → List Fact
+facts f s = factsFrom (opening f .elements) s 0
+
+-- a fact of kind k with number n is among some facts
+unfoldable pub Says : List Fact → ℕ → ℕ → Type 0
+Says [] k n = ⊥
+Says (x ∷ xs) k n = ((x .kind ≡ k) × (x .number ≡ n)) ⊎ Says xs k n
+
+-- every element finds what it wants: none is refused by 6 or 7
+unfoldable pub going : (ℕ → Bool) → Item → Bool
+going on (Skip next) = on next
+going on (Reads k n from next) = on next
+going on (NoMatch p) = false
+going on (OutOfRange p) = false
+
+unfoldable pub allRead : List ℕ → List ℕ → ℕ → Bool
+allRead [] s at = true
+allRead (e ∷ es) s at = going (λ next. allRead es s next) (readElement e s at)
+
+-- no kind of fact is said again, differently
+abbrev pub Consistent : List Fact → Type 0
+Consistent xs = (k m n : ℕ) → Says xs k m → Says xs k n → m ≡ n
+
+-- "A text is matched to its format exactly if these rules call for none of the numbers that the reader's order puts before 9": 1, 5, 3, 6, 7, 8
+pub record Matched (f s : List ℕ) : Type 0 where
+  pub format-short : length f ≤ longest
+  pub text-short : length s ≤ longest
+  pub format-whole : opening f .ended ≡ Whole
+  pub all-read : allRead (opening f .elements) s 0 ≡ true
+  pub consistent : Consistent (facts f s)

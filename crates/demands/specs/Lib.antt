@@ -1,0 +1,5 @@
+-- The demands as statements about the writer and the reader together, and the starred cases of paper 01.
+pub mod Demand
+pub mod Facts
+pub mod Starred
+pub mod Writes

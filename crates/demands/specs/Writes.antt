@@ -1,0 +1,55 @@
+-- "The writer would write a fact for a day or an hour exactly if the conversion of its kind has that number, or that half, for it by the rules
+-- under 'What is written'; filling and case do not count." What is written is what the writer leaves in a buffer.
+use Prim.Native.Char.{code}
+use Prim.Native.Nat.{ℕ, _-_}
+use mathlib.Core.Bool.{true}
+use mathlib.Core.List.{List, [], _∷_, map}
+use mathlib.Core.Logic.{_⊎_}
+use mathlib.Core.Path.{_≡_}
+use lib.ListN.{getD, take, replicate}
+use Rattle.laws.specs.Bytes.{bytes}
+use Rattle.laws.specs.Lists.{every}
+use Rattle.kinds.specs.Kinds.{halfOfDay}
+use Rattle.calendar.specs.Calendar.{dateOf}
+use Rattle.text.specs.Case.{fold}
+use Rattle.text.specs.Digits.{isDigit, decimal}
+use Rattle.strftime.specs.Writing.{Result, writing}
+use Rattle.strftime.specs.declared.Fields.{Fields}
+
+-- "The conversions for kinds 1 to 15, in order"
+unfoldable pub letters : List ℕ
+letters = bytes "YCymdjuUWGgVHIp"
+
+unfoldable pub letterFor : ℕ → ℕ
+letterFor k = getD letters (k - 1) 0
+
+-- the conversion of kind k is written, into nine bytes, as many as a conversion writes at the most
+unfoldable pub wrote : ℕ → Fields → Result
+wrote k t = writing (code "%" ∷ letterFor k ∷ []) t (replicate 9 0)
+
+-- what stands there: "done", and the bytes that are counted
+unfoldable pub written : ℕ → Fields → List ℕ
+written k t = take (wrote k t .answer .place) (wrote k t .buffer)
+
+-- bytes are a number, filled with zeros or not; and a half of the day, in capitals or not
+abbrev pub IsNumber : ℕ → List ℕ → Type 0
+IsNumber n s = (every isDigit s ≡ true) × (decimal 0 s ≡ n)
+
+unfoldable pub halves : List (List ℕ)
+halves = bytes "am" ∷ bytes "pm" ∷ []
+
+abbrev pub IsHalf : ℕ → List ℕ → Type 0
+IsHalf n s = map fold s ≡ getD halves n (0 ∷ [])
+
+-- the writer would write the fact of kind k and number n for these fields
+pub record WouldWrite (k n : ℕ) (t : Fields) : Type 0 where
+  pub done : wrote k t .answer .number ≡ 0
+  pub shows : ((k ≡ halfOfDay → ⊥) × IsNumber n (written k t)) ⊎ ((k ≡ halfOfDay) × IsHalf n (written k t))
+
+-- the fields of a day, by its day number, at midnight; and of an hour, on the first day
+unfoldable pub onDay : ℕ → Fields
+onDay d =
+    record { year = dateOf d .year; month = dateOf d .month; day = dateOf d .day; hour = 0; minute = 0; second = 0 }
+
+unfoldable pub atHour : ℕ → Fields
+atHour h = record { year = 1; month = 1; day = 1; hour = h; minute = 0; second = 0 }

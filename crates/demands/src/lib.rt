@@ -1,0 +1,1 @@
+// Theorems about the writer and the reader together; no code.
