@@ -2,6 +2,7 @@
 pub mod Decimals
 pub mod Distinct
 pub mod OnePass
+pub mod ReadBack
 pub mod Rows
 pub mod Spaces
 pub mod Table
