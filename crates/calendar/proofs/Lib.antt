@@ -3,3 +3,4 @@ pub mod Sum
 pub mod Years
 pub mod Months
 pub mod Weeks
+pub mod Ranges
