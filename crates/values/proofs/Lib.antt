@@ -1,0 +1,2 @@
+-- Laws that callers may cite.
+pub mod Ranges
