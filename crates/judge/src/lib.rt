@@ -11,19 +11,19 @@ pub use search::search_hours;
 
 // What was said of each kind of fact, at the kind's number: 0 where nothing was, else one more than the number.
 pub struct Facts {
-    pub said: [u32; 18],
+    pub said: [u32; kinds::KINDS],
 }
 
 // The first two that were found, earliest first.
 pub enum Found {
     Nothing,
     One(u32),
-    Two(u32, u32),
+    Two { first: u32, second: u32 },
 }
 
 pub enum Verdict {
     Unsaid,
     Impossible,
-    Open(u32, u32),
+    Open { first: u32, second: u32 },
     Agreed(u32),
 }
