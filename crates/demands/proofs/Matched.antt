@@ -10,7 +10,7 @@ use borrow.Author.Tests.{le-leb, leb-true}
 use lib.Dec.{leb}
 use lib.ListN.{length, getD, replicate}
 use Rattle.laws.proofs.Cases.{clash}
-use Rattle.kinds.specs.Kinds.{count}
+use Rattle.kinds.specs.Kinds.{kinds}
 use Rattle.format.specs.Conversions.{among}
 use Rattle.format.specs.Opening.{Ended, Whole, BadAt, opening, longest}
 use Rattle.judge.specs.Agreement.{said}

@@ -12,7 +12,7 @@ use borrow.Author.Tests.{eq-eqb, ne-eqb, eqb-true}
 use lib.Dec.{eqb}
 use lib.ListN.{length, set, length-set}
 use lib.Seq.{getD-set-same, getD-set-other}
-use Rattle.kinds.specs.Kinds.{count}
+use Rattle.kinds.specs.Kinds.{kinds}
 use Rattle.judge.specs.Agreement.{said}
 use Rattle.judge.specs.declared.Facts.{Facts}
 use Rattle.strptime.specs.Elements.{readElement}
@@ -90,7 +90,7 @@ record WentBy (es s : List ℕ) (t : State) (i : Item) : Type 0 where
 
 -- an item's kind has a place among what is kept
 abbrev pub Small : Item → Type 0
-Small i = (k n from next : ℕ) → i ≡ Reads k n from next → k < count
+Small i = (k n from next : ℕ) → i ≡ Reads k n from next → k < kinds
 
 free-of : (x n : ℕ) → (eqb x 0 || eqb x (suc n)) ≡ true → (x ≡ 0) ⊎ (x ≡ suc n)
 free-of x n e = go (eqb x 0) refl e
@@ -99,17 +99,17 @@ free-of x n e = go (eqb x 0) refl e
     go true f g = inl (eqb-true x 0 f)
     go false f g = inr (eqb-true x (suc n) g)
 
-module _ (es s : List ℕ) (t : State) (l : length (t .facts .said) ≡ count)
-    (rest : (f : Facts) (p : ℕ) → length (f .said) ≡ count → Whole (readAll es s (at f p)) → Went es s (at f p)) where
+module _ (es s : List ℕ) (t : State) (l : length (t .facts .said) ≡ kinds)
+    (rest : (f : Facts) (p : ℕ) → length (f .said) ≡ kinds → Whole (readAll es s (at f p)) → Went es s (at f p)) where
   -- a fact, by whether it is free to be kept
-  kept-by : (k n from next : ℕ) → k < count → (b : Bool) → (eqb (said (t .facts) k) 0 || eqb (said (t .facts) k) (suc n)) ≡ b
+  kept-by : (k n from next : ℕ) → k < kinds → (b : Bool) → (eqb (said (t .facts) k) 0 || eqb (said (t .facts) k) (suc n)) ≡ b
       → Whole (onward es s t (Reads k n from next)) → WentBy es s t (Reads k n from next)
   unfolding onward taken tell goes stays isRead going saying Says
   kept-by k n from next h true e w =
       let f = t .facts in
       let free = free-of (said f k) n e in
       let inside : k < length (f .said) = omega arith in
-      let long : length (noted f k n .said) ≡ count = unfold noted in length-set (f .said) k (suc n) ∙ l in
+      let long : length (noted f k n .said) ≡ kinds = unfold noted in length-set (f .said) k (suc n) ∙ l in
       let r = rest (noted f k n) next long (rw e at w) in
       record {
         reads = r .reads;
@@ -138,8 +138,8 @@ module _ (es s : List ℕ) (t : State) (l : length (t .facts .said) ≡ count)
   went-by (OutOfRange p) h w = absurd (false≢true w)
 
 -- the other way: elements that all find what they want, with one number for each kind, are read through
-module _ (es s : List ℕ) (t : State) (l : length (t .facts .said) ≡ count)
-    (rest : (f : Facts) (p : ℕ) → length (f .said) ≡ count → allRead es s p ≡ true → OneEach f (factsFrom es s p)
+module _ (es s : List ℕ) (t : State) (l : length (t .facts .said) ≡ kinds)
+    (rest : (f : Facts) (p : ℕ) → length (f .said) ≡ kinds → allRead es s p ≡ true → OneEach f (factsFrom es s p)
         → Whole (readAll es s (at f p))) where
   goes-by : (i : Item) → Small i → going (λ next. allRead es s next) i ≡ true
       → OneEach (t .facts) (saying (λ next. factsFrom es s next) i) → Whole (onward es s t i)
@@ -148,7 +148,7 @@ module _ (es s : List ℕ) (t : State) (l : length (t .facts .said) ≡ count)
   goes-by (Reads k n from next) h r c =
       let f = t .facts in
       let inside : k < length (f .said) = omega (arith, h k n from next refl) in
-      let long : length (noted f k n .said) ≡ count = unfold noted in length-set (f .said) k (suc n) ∙ l in
+      let long : length (noted f k n .said) ≡ kinds = unfold noted in length-set (f .said) k (suc n) ∙ l in
       let free : (said f k ≡ 0) ⊎ (said f k ≡ suc n) = one (said f k) refl in
       let on : (j m : ℕ) → Kept (noted f k n) j m ⊎ Says (factsFrom es s next) j m
           → Kept f j m ⊎ (((k ≡ j) × (n ≡ m)) ⊎ Says (factsFrom es s next) j m) = λ j m x.
@@ -171,7 +171,7 @@ module _ (es s : List ℕ) (t : State) (l : length (t .facts .said) ≡ count)
   goes-by (OutOfRange p) h r c = absurd (false≢true r)
 
 module _ (small : (e : ℕ) (s : List ℕ) (p : ℕ) → Small (readElement e s p)) where
-  pub went : (es s : List ℕ) (t : State) → length (t .facts .said) ≡ count → Whole (readAll es s t) → Went es s t
+  pub went : (es s : List ℕ) (t : State) → length (t .facts .said) ≡ kinds → Whole (readAll es s t) → Went es s t
   unfolding readAll stepOn onward allRead factsFrom stays Says
   went [] s t l w =
       record { reads = refl; keeps = λ k n. (λ x. inl x, λ x. ⊎-elim (λ y. y) (λ y. absurd y) x) }
@@ -179,7 +179,7 @@ module _ (small : (e : ℕ) (s : List ℕ) (p : ℕ) → Small (readElement e s 
       let r = went-by es s t l (λ f p. went es s (at f p)) (readElement e s (t .at)) (small e s (t .at)) w in
       record { reads = r .reads; keeps = r .keeps }
 
-  pub goes-through : (es s : List ℕ) (t : State) → length (t .facts .said) ≡ count → allRead es s (t .at) ≡ true
+  pub goes-through : (es s : List ℕ) (t : State) → length (t .facts .said) ≡ kinds → allRead es s (t .at) ≡ true
       → OneEach (t .facts) (factsFrom es s (t .at)) → Whole (readAll es s t)
   unfolding readAll stepOn onward allRead factsFrom stays isRead
   goes-through [] s t l r c = refl

@@ -17,7 +17,7 @@ use Rattle.calendar.proofs.Dates.{Valid, no-fault-valid, number-within}
 use Rattle.calendar.proofs.Months.{month-most}
 use Rattle.calendar.proofs.Ranges.{day-of-year-range, weekday-range, week-most, iso-year-range, iso-week-range}
 use Rattle.values.specs.Moments.{momentFault}
-use Rattle.values.specs.Values.{numberOf, dateValue, dateValues, hourOfTwelve, halfOfDay, hourValue, value}
+use Rattle.values.specs.Values.{dayNumberOf, dateValue, dateValues, hourOfTwelve, halfOfDay, hourValue, value}
 use Rattle.values.specs.declared.Moment.{Moment}
 
 -- the lowest value of each kind, by its number: Y C y m d j u U W G g V, H I p, M S; there is no kind 0
@@ -64,12 +64,12 @@ date-ranged t v k h =
     ▸ (v .month-low, v .month-high)
     ▸ (v .day-low, omega (arith, v .day-high, month-most y m))
     ▸ day-of-year-range y m d v
-    ▸ weekday-range (numberOf t)
+    ▸ weekday-range (dayNumberOf t)
     ▸ (omega arith, week-most 7 y m d (lit< tt) (lit≤ tt) v)
     ▸ (omega arith, week-most 1 y m d (lit< tt) (lit≤ tt) v)
-    ▸ iso-year-range (numberOf t) (n .0) (n .1)
+    ▸ iso-year-range (dayNumberOf t) (n .0) (n .1)
     ▸ (omega arith, omega arith)
-    ▸ iso-week-range (numberOf t) (n .0) (n .1)
+    ▸ iso-week-range (dayNumberOf t) (n .0) (n .1)
     ▸ end)
     k (omega arith) (omega arith)
 

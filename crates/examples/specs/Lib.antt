@@ -1,2 +1,0 @@
--- The starred cases of paper 01.
-pub mod Starred
