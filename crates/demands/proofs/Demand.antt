@@ -1,27 +1,28 @@
 -- Demand 3: how a matched text is answered, by all the facts that it says and by what the writer would write.
 -- Assumes nothing.
-use Prim.Native.Nat.{ℕ, zero, suc, _-_, _≤_, _<_}
-use mathlib.Core.Bool.{Bool, true, false, cond}
-use mathlib.Core.List.{List, [], _∷_}
+use Prim.Native.Nat.{ℕ, zero, suc, _-_, _≤_}
+use mathlib.Core.Bool.{Bool, true, false, cond, _&&_, and-eq-true-iff}
+use mathlib.Core.List.{List, [], _∷_, List·Memᴰ as Member, List·Memᴰ·head, List·Memᴰ·tail, List·Memᴰ·not-nil, List·Memᴰ·cases-cons}
 use mathlib.Core.Logic.{_⊎_, _↔_, inl, inr, ⊎-elim}
 use mathlib.Core.Path.{_≡_, refl, sym, ap, _∙_}
-use native.Mathlib.Decide.{decLe}
+use native.Mathlib.Decide.{ℕ-discrete}
 use native.Mathlib.Omega.{arith}
-use borrow.Author.Tests.{ne-eqb}
-use lib.Dec.{eqb}
+use borrow.Author.Tests.{ne-eqb, leb-true}
+use lib.Dec.{eqb, leb}
 use Rattle.laws.proofs.Cases.{clash}
-use Rattle.kinds.specs.Kinds as kinds
+use Rattle.kinds.specs.Kinds.{dayKinds, hourKinds, minute, second, computes}
+use Rattle.laws.specs.Lists.{every}
 use Rattle.calendar.specs.Calendar.{dateOf, dayNumber}
 use Rattle.calendar.specs.declared.Date.{Date}
 use Rattle.calendar.proofs.Dates.{number-of-date}
 use Rattle.judge.specs.Agreement.{said}
-use Rattle.judge.specs.Demand as judge
-use Rattle.judge.specs.Demand.{NoneBears, IsDay, IsHour, Only, Earliest, Judged}
+use Rattle.judge.specs.Demand.{NoneSaid as NoneKept, IsDay, IsHour, Only, Earliest, Judged}
 use Rattle.judge.specs.Verdicts.{dayVerdict, hourVerdict}
 use Rattle.judge.specs.declared.Facts.{Facts}
 use Rattle.judge.specs.declared.Verdict.{Verdict}
 use Rattle.judge.specs.declared.Verdict.the-variants.{Unsaid as NotSaid, Impossible, Open, Agreed}
 use Rattle.judge.proofs.Demand.{day-judged, hour-judged}
+use Rattle.judge.proofs.Every.{every-member}
 use Rattle.strptime.specs.Answers.{saidOf, withDay, judged, reading}
 use Rattle.strptime.specs.Elements.{readElement}
 use Rattle.strptime.specs.declared.Day.{Day}
@@ -32,9 +33,9 @@ use Rattle.strptime.specs.declared.Shown.the-variants.{Days, Hours}
 use Rattle.strptime.specs.declared.State.{State}
 use Rattle.demands.specs.Facts.{Fact, Says, facts, Matched}
 use Rattle.demands.specs.Writes.{WouldWrite, onDay, atHour}
-use Rattle.demands.specs.Demand.{OnDay, OnHour, SomeSaid, NoneSaid, DayAgrees, HourAgrees, DayIs, HourIs, NumberIs, DayStands, Answered}
+use Rattle.demands.specs.Demand.{SomeSaid, NoneSaid, DayAgrees, HourAgrees, DayIs, HourIs, NumberIs, DayStands, Answered}
 use Rattle.demands.proofs.Matched.{read, matched-is, handed}
-use Rattle.demands.proofs.Verdicts.{Leaves, LeavesHour, minute, second, day-none, day-two, then-none, then-two, then-done}
+use Rattle.demands.proofs.Verdicts.{Leaves, LeavesHour, day-none, day-two, then-none, then-two, then-done}
 use Rattle.demands.proofs.Walk.{Kept, Small}
 use Rattle.demands.proofs.Written.{day-would, hour-would}
 
@@ -77,26 +78,40 @@ module _ {None None' : Type 0} {Is A A' : ℕ → Type 0} (to : None → None') 
         );
       }
 
--- ---- kinds from a to b: a fact of them is said, or none is
+-- ---- a fact of some kinds is said, or none is
 
-abbrev Within : ℕ → ℕ → ℕ → Type 0
-Within a b k = (a ≤ k) × (k ≤ b)
-
-some-or-none : (a b : ℕ) (xs : List Fact)
-    → ((k : ℕ) × (n : ℕ) × Within a b k × Says xs k n) ⊎ ((k n : ℕ) → Within a b k → Says xs k n → ⊥)
-unfolding Says
-some-or-none a b [] = inr (λ k n w x. x)
-some-or-none a b (x ∷ xs) =
-    ⊎-elim
-    (λ r. inl (r .0, r .1, r .2, inr (r .3)))
-    (λ none. go (decLe a (x .kind)) (decLe (x .kind) b) none)
-    (some-or-none a b xs)
+member? : (k : ℕ) (ks : List ℕ) → Dec (Member k ks)
+member? k [] = no (λ m. List·Memᴰ·not-nil m)
+member? k (x ∷ ks) = go (ℕ-discrete k x) (member? k ks)
   where
-    go : Dec (a ≤ x .kind) → Dec (x .kind ≤ b) → ((k n : ℕ) → Within a b k → Says xs k n → ⊥)
-        → ((k : ℕ) × (n : ℕ) × Within a b k × Says (x ∷ xs) k n) ⊎ ((k n : ℕ) → Within a b k → Says (x ∷ xs) k n → ⊥)
-    go (yes p) (yes q) none = inl (x .kind, x .number, (p, q), inl (refl, refl))
-    go (no p) q none = inr (λ k n w y. ⊎-elim (λ z. p (rw (z .0) (w .0))) (λ z. none k n w z) y)
-    go (yes p) (no q) none = inr (λ k n w y. ⊎-elim (λ z. q (rw (z .0) (w .1))) (λ z. none k n w z) y)
+    go : Dec (k ≡ x) → Dec (Member k ks) → Dec (Member k (x ∷ ks))
+    go (yes e) m = yes (List·Memᴰ·head e)
+    go (no e) (yes m) = yes (List·Memᴰ·tail m)
+    go (no e) (no m) = no (λ n. ⊎-elim e m (List·Memᴰ·cases-cons n))
+
+some-or-none : (ks : List ℕ) (xs : List Fact)
+    → ((k : ℕ) × (n : ℕ) × Member k ks × Says xs k n) ⊎ ((k n : ℕ) → Member k ks → Says xs k n → ⊥)
+unfolding Says
+some-or-none ks [] = inr (λ k n m x. x)
+some-or-none ks (x ∷ xs) =
+    ⊎-elim (λ r. inl (r .0, r .1, r .2, inr (r .3))) (λ none. go (member? (x .kind) ks) none) (some-or-none ks xs)
+  where
+    go : Dec (Member (x .kind) ks) → ((k n : ℕ) → Member k ks → Says xs k n → ⊥)
+        → ((k : ℕ) × (n : ℕ) × Member k ks × Says (x ∷ xs) k n) ⊎ ((k n : ℕ) → Member k ks → Says (x ∷ xs) k n → ⊥)
+    go (yes m) none = inl (x .kind, x .number, m, inl (refl, refl))
+    go (no d) none = inr (λ k n m y. ⊎-elim (λ z. d (rw (z .0) m)) (λ z. none k n m z) y)
+
+-- kinds that bear on the day are 1 to 12, those on the hour 13 to 15
+within : (a b : ℕ) (ks : List ℕ) → every (λ k. leb a k && leb k b) ks ≡ true → (k : ℕ) → Member k ks → (a ≤ k) × (k ≤ b)
+within a b ks e k m =
+    let t = and-eq-true-iff (leb a k) (leb k b) .0 (every-member (λ k. leb a k && leb k b) ks e k m) in
+    (leb-true a k (t .0), leb-true k b (t .1))
+
+day-kind : (k : ℕ) → Member k dayKinds → (1 ≤ k) × (k ≤ 12)
+day-kind = within 1 12 dayKinds (unfold computes every in refl)
+
+hour-kind : (k : ℕ) → Member k hourKinds → (13 ≤ k) × (k ≤ 15)
+hour-kind = within 13 15 hourKinds (unfold computes every in refl)
 
 -- ---- a matched text
 
@@ -104,63 +119,63 @@ module _ (small : (e : ℕ) (s : List ℕ) (p : ℕ) → Small (readElement e s 
   abbrev kept : Facts
   kept = read f s .state .facts
 
-  -- no number is kept for kinds from a to b exactly if no fact of them is said
-  none-said : (a b : ℕ) → NoneBears kept a b → NoneSaid f s (Within a b)
-  none-said a b z k n w x = omega (arith, z k (w .0) (w .1), handed small f s m k n .1 x)
+  -- no number is kept for some kinds exactly if no fact of them is said
+  none-said : (ks : List ℕ) → NoneKept kept ks → NoneSaid f s ks
+  none-said ks z k n i x = omega (arith, z k i, handed small f s m k n .1 x)
 
-  none-kept : (a b : ℕ) → NoneSaid f s (Within a b) → NoneBears kept a b
-  none-kept a b z k p q = go (said kept k) refl
+  none-kept : (ks : List ℕ) → NoneSaid f s ks → NoneKept kept ks
+  none-kept ks z k i = go (said kept k) refl
     where
       go : (x : ℕ) → said kept k ≡ x → x ≡ 0
       go zero e = refl
-      go (suc n) e = absurd (z k n (p, q) (handed small f s m k n .0 e))
+      go (suc n) e = absurd (z k n i (handed small f s m k n .0 e))
 
-  some-said : (a b : ℕ) → (NoneSaid f s (Within a b) → ⊥) → SomeSaid f s (Within a b)
-  some-said a b z = ⊎-elim (λ r. r) (λ none. absurd (z none)) (some-or-none a b (facts f s))
+  some-said : (ks : List ℕ) → (NoneSaid f s ks → ⊥) → SomeSaid f s ks
+  some-said ks z = ⊎-elim (λ r. r) (λ none. absurd (z none)) (some-or-none ks (facts f s))
 
-  not-none : (a b : ℕ) → SomeSaid f s (Within a b) → NoneSaid f s (Within a b) → ⊥
-  not-none a b r z = z (r .0) (r .1) (r .2) (r .3)
+  not-none : (ks : List ℕ) → SomeSaid f s ks → NoneSaid f s ks → ⊥
+  not-none ks r z = z (r .0) (r .1) (r .2) (r .3)
 
   -- demand 3 in the paper's words, of each verdict
-  day-by : Judged (NoneSaid f s OnDay) IsDay (DayAgrees f s) (dayVerdict kept)
+  day-by : Judged (NoneSaid f s dayKinds) IsDay (DayAgrees f s) (dayVerdict kept)
   day-by =
-      judged-over (none-said 1 12) (none-kept 1 12)
-      (λ d i g k n w x. day-would d (i .0) (i .1) k n (w .0) (w .1) .1 (g k n (w .0) (w .1) (handed small f s m k n .1 x)))
-      (λ d i g k n p q x. day-would d (i .0) (i .1) k n p q .0 (g k n (p, q) (handed small f s m k n .0 x)))
+      judged-over (none-said dayKinds) (none-kept dayKinds)
+      (λ d i g k n b x. let w = day-kind k b in day-would d (i .0) (i .1) k n (w .0) (w .1) .1 (g k n b (handed small f s m k n .1 x)))
+      (λ d i g k n b x. let w = day-kind k b in day-would d (i .0) (i .1) k n (w .0) (w .1) .0 (g k n b (handed small f s m k n .0 x)))
       (dayVerdict kept) (day-judged kept)
 
-  hour-by : Judged (NoneSaid f s OnHour) IsHour (HourAgrees f s) (hourVerdict kept)
+  hour-by : Judged (NoneSaid f s hourKinds) IsHour (HourAgrees f s) (hourVerdict kept)
   hour-by =
-      judged-over (none-said 13 15) (none-kept 13 15)
-      (λ h i g k n w x. hour-would h i k n (w .0) (w .1) .1 (g k n (w .0) (w .1) (handed small f s m k n .1 x)))
-      (λ h i g k n p q x. hour-would h i k n p q .0 (g k n (p, q) (handed small f s m k n .0 x)))
+      judged-over (none-said hourKinds) (none-kept hourKinds)
+      (λ h i g k n b x. let w = hour-kind k b in hour-would h i k n (w .0) (w .1) .1 (g k n b (handed small f s m k n .1 x)))
+      (λ h i g k n b x. let w = hour-kind k b in hour-would h i k n (w .0) (w .1) .0 (g k n b (handed small f s m k n .0 x)))
       (hourVerdict kept) (hour-judged kept)
 
   -- the day, the hour, the minute and the second that the facts give
-  day-left : (v : Verdict) → Judged (NoneSaid f s OnDay) IsDay (DayAgrees f s) v → (x : Day) → Leaves v x ↔ DayIs f s x
+  day-left : (v : Verdict) → Judged (NoneSaid f s dayKinds) IsDay (DayAgrees f s) v → (x : Day) → Leaves v x ↔ DayIs f s x
   day-left NotSaid j NoDate = (λ e. j .unsaid .0 refl, λ z. refl)
-  day-left NotSaid j (On x) = (λ e. clash (cc), λ z. absurd (not-none 1 12 (z .0) (j .unsaid .0 refl)))
+  day-left NotSaid j (On x) = (λ e. clash (cc), λ z. absurd (not-none dayKinds (z .0) (j .unsaid .0 refl)))
   day-left Impossible j NoDate = (λ e. absurd e, λ z. clash (cc (j .unsaid .1 z)))
   day-left Impossible j (On x) = (λ e. absurd e, λ z. absurd (j .impossible .0 refl (z .1 .0) (z .1 .2 .is) (z .1 .2 .agrees)))
   day-left (Open a b) j NoDate = (λ e. absurd e, λ z. clash (cc (j .unsaid .1 z)))
-  day-left (Open a b) j (On x) = (λ e. absurd e, λ z. clash (cc (j .agreed (z .1 .0) .1 (not-none 1 12 (z .0), z .1 .2))))
+  day-left (Open a b) j (On x) = (λ e. absurd e, λ z. clash (cc (j .agreed (z .1 .0) .1 (not-none dayKinds (z .0), z .1 .2))))
   day-left (Agreed k) j NoDate = (λ e. clash (cc), λ z. clash (cc (j .unsaid .1 z)))
   day-left (Agreed k) j (On x) = (
-    λ e. let r = j .agreed k .0 refl in (some-said 1 12 (r .0), (k, (cc), r .1)),
-    λ z. let q = j .agreed (z .1 .0) .1 (not-none 1 12 (z .0), z .1 .2) in let d : k ≡ z .1 .0 = cc in ap On (z .1 .1 ∙ ap dateOf (sym d)),
+    λ e. let r = j .agreed k .0 refl in (some-said dayKinds (r .0), (k, (cc), r .1)),
+    λ z. let q = j .agreed (z .1 .0) .1 (not-none dayKinds (z .0), z .1 .2) in let d : k ≡ z .1 .0 = cc in ap On (z .1 .1 ∙ ap dateOf (sym d)),
   )
 
-  hour-left : (w : Verdict) → Judged (NoneSaid f s OnHour) IsHour (HourAgrees f s) w → (h : Said) → LeavesHour w h ↔ HourIs f s h
+  hour-left : (w : Verdict) → Judged (NoneSaid f s hourKinds) IsHour (HourAgrees f s) w → (h : Said) → LeavesHour w h ↔ HourIs f s h
   hour-left NotSaid j Unsaid = (λ e. j .unsaid .0 refl, λ z. refl)
-  hour-left NotSaid j (Is h) = (λ e. clash (cc), λ z. absurd (not-none 13 15 (z .0) (j .unsaid .0 refl)))
+  hour-left NotSaid j (Is h) = (λ e. clash (cc), λ z. absurd (not-none hourKinds (z .0) (j .unsaid .0 refl)))
   hour-left Impossible j Unsaid = (λ e. absurd e, λ z. clash (cc (j .unsaid .1 z)))
   hour-left Impossible j (Is h) = (λ e. absurd e, λ z. absurd (j .impossible .0 refl h (z .1 .is) (z .1 .agrees)))
   hour-left (Open a b) j Unsaid = (λ e. absurd e, λ z. clash (cc (j .unsaid .1 z)))
-  hour-left (Open a b) j (Is h) = (λ e. absurd e, λ z. clash (cc (j .agreed h .1 (not-none 13 15 (z .0), z .1))))
+  hour-left (Open a b) j (Is h) = (λ e. absurd e, λ z. clash (cc (j .agreed h .1 (not-none hourKinds (z .0), z .1))))
   hour-left (Agreed k) j Unsaid = (λ e. clash (cc), λ z. clash (cc (j .unsaid .1 z)))
   hour-left (Agreed k) j (Is h) = (
-    λ e. let d : h ≡ k = cc in let r = j .agreed k .0 refl in (some-said 13 15 (r .0), rw d (r .1)),
-    λ z. let q = j .agreed h .1 (not-none 13 15 (z .0), z .1) in cc,
+    λ e. let d : h ≡ k = cc in let r = j .agreed k .0 refl in (some-said hourKinds (r .0), rw d (r .1)),
+    λ z. let q = j .agreed h .1 (not-none hourKinds (z .0), z .1) in cc,
   )
 
   number-left : (k : ℕ) (x : Said) → (saidOf (said kept k) ≡ x) ↔ NumberIs f s k x
@@ -189,13 +204,13 @@ module _ (small : (e : ℕ) (s : List ℕ) (p : ℕ) → Small (readElement e s 
       ∙ number-of-date b (q .0) (q .1) .number
 
   -- the answer, by the two verdicts
-  module _ (v w : Verdict) (j : Judged (NoneSaid f s OnDay) IsDay (DayAgrees f s) v)
-      (i : Judged (NoneSaid f s OnHour) IsHour (HourAgrees f s) w) (e : reading f s ≡ withDay (read f s .state) v w) where
+  module _ (v w : Verdict) (j : Judged (NoneSaid f s dayKinds) IsDay (DayAgrees f s) v)
+      (i : Judged (NoneSaid f s hourKinds) IsHour (HourAgrees f s) w) (e : reading f s ≡ withDay (read f s .state) v w) where
     -- where none agrees a fact bears: of itself every day agrees with no fact
-    day-borne : ((d : ℕ) → IsDay d → DayAgrees f s d → ⊥) → NoneSaid f s OnDay → ⊥
+    day-borne : ((d : ℕ) → IsDay d → DayAgrees f s d → ⊥) → NoneSaid f s dayKinds → ⊥
     day-borne g z = clash (cc (j .impossible .1 g, j .unsaid .1 z))
 
-    hour-borne : ((h : ℕ) → IsHour h → HourAgrees f s h → ⊥) → NoneSaid f s OnHour → ⊥
+    hour-borne : ((h : ℕ) → IsHour h → HourAgrees f s h → ⊥) → NoneSaid f s hourKinds → ⊥
     hour-borne g z = clash (cc (i .impossible .1 g, i .unsaid .1 z))
 
     stands : ((x : Day) × Leaves v x) ↔ DayStands f s
@@ -208,7 +223,7 @@ module _ (small : (e : ℕ) (s : List ℕ) (p : ℕ) → Small (readElement e s 
           no-day = (
             λ q.
                 let g = j .impossible .0 (day-none t v w .0 (rw e at q)) in
-                (some-said 1 12 (day-borne g), g),
+                (some-said dayKinds (day-borne g), g),
             λ r. rw e (day-none t v w .1 (j .impossible .1 (r .1))),
           );
           two-days = λ a b p q. (
@@ -217,31 +232,31 @@ module _ (small : (e : ℕ) (s : List ℕ) (p : ℕ) → Small (readElement e s 
                 let u = j .«open» (r .0) (r .1) .0 (r .2) in
                 let k = same-day (r .0) a (u .1 .is-first) p (r .3) in
                 let l = same-day (r .1) b (u .1 .is-second) q (r .4) in
-                (some-said 1 12 (u .0), rw (k, l) at (u .1)),
-            λ r. rw e (day-two t v w (dateOf a) (dateOf b) .1 (a, b, j .«open» a b .1 (not-none 1 12 (r .0), r .1), refl, refl)),
+                (some-said dayKinds (u .0), rw (k, l) at (u .1)),
+            λ r. rw e (day-two t v w (dateOf a) (dateOf b) .1 (a, b, j .«open» a b .1 (not-none dayKinds (r .0), r .1), refl, refl)),
           );
           no-hour = (
             λ q.
                 let r = then-none t v w .0 (rw e at q) in
                 let g = i .impossible .0 (r .1) in
-                (stands .0 (r .0), some-said 13 15 (hour-borne g), g),
+                (stands .0 (r .0), some-said hourKinds (hour-borne g), g),
             λ r. rw e (then-none t v w .1 (stands .1 (r .0), i .impossible .1 (r .2))),
           );
           two-hours = λ a b. (
             λ q.
                 let r = then-two t v w a b .0 (rw e at q) in
                 let u = i .«open» a b .0 (r .1) in
-                (stands .0 (r .0), some-said 13 15 (u .0), u .1),
-            λ r. rw e (then-two t v w a b .1 (stands .1 (r .0), i .«open» a b .1 (not-none 13 15 (r .1), r .2))),
+                (stands .0 (r .0), some-said hourKinds (u .0), u .1),
+            λ r. rw e (then-two t v w a b .1 (stands .1 (r .0), i .«open» a b .1 (not-none hourKinds (r .1), r .2))),
           );
           done = λ x h n c. (
             λ q.
                 let r = then-done t v w x h n c .0 (rw e at q) in
-                (day-left v j x .0 (r .0), hour-left w i h .0 (r .1), number-left 16 n .0 (r .2), number-left 17 c .0 (r .3)),
+                (day-left v j x .0 (r .0), hour-left w i h .0 (r .1), number-left minute n .0 (r .2), number-left second c .0 (r .3)),
             λ r.
                 rw e
                 (then-done t v w x h n c .1
-                (day-left v j x .1 (r .0), hour-left w i h .1 (r .1), number-left 16 n .1 (r .2), number-left 17 c .1 (r .3))),
+                (day-left v j x .1 (r .0), hour-left w i h .1 (r .1), number-left minute n .1 (r .2), number-left second c .1 (r .3))),
           );
         }
 

@@ -24,7 +24,7 @@ use Rattle.format.specs.declared.conversions.Conversion.{Conversion}
 use Rattle.format.specs.declared.conversions.Form.{Form}
 use Rattle.format.specs.declared.conversions.Form.the-variants.{Zeros, Full}
 use Rattle.text.specs.declared.names.Names.the-variants.{Halves}
-use Rattle.laws.specs.Bytes.{bytes}
+use Rattle.laws.specs.Lists.{range}
 use Rattle.laws.proofs.Cases.{clash}
 use Rattle.text.specs.Case.{fold}
 use Rattle.text.specs.Digits.{filled, decimal}
@@ -76,13 +76,10 @@ module _ (k : ℕ) (m : Moment) (v : IsMoment m) (o : opening (code "%" ∷ lett
 
 -- ---- the rows of the conversions for kinds 1 to 15, each by one computed test
 
-abbrev range : ℕ → ℕ → List ℕ
-range k zero = []
-range k (suc n) = k ∷ range (suc k) n
-
 -- what holds of every kind of a list holds of each
 same-at : {A : Type 0} (f g : ℕ → A) (n from : ℕ) → map f (range from n) ≡ map g (range from n)
     → (k : ℕ) → from ≤ k → k < from + n → f k ≡ g k
+unfolding range
 same-at f g zero from e k p q = absurd (omega arith)
 same-at f g (suc n) from e k p q =
     let here : f from ≡ g from = cc in
@@ -97,7 +94,7 @@ opens : (k : ℕ) → 1 ≤ k → k ≤ 15 → opening (code "%" ∷ letterFor k
 opens k p q = same-at (λ j. opening (code "%" ∷ letterFor j ∷ [])) (λ j. alone (elementFor j)) 15 1 computed k p (omega arith)
   where
     computed : map (λ j. opening (code "%" ∷ letterFor j ∷ [])) (range 1 15) ≡ map (λ j. alone (elementFor j)) (range 1 15)
-    computed = unfold opening.computes conversions.computes letterFor letters in refl
+    computed = unfold opening.computes conversions.computes letterFor letters range in refl
 
 -- its row
 abbrev rowFor : ℕ → Conversion
@@ -111,10 +108,10 @@ forms k p q =
     (e, f)
   where
     kinds : map (λ j. rowFor j .kind) (range 1 14) ≡ map (λ j. j) (range 1 14)
-    kinds = unfold conversions.computes letterFor letters in refl
+    kinds = unfold conversions.computes letterFor letters range in refl
 
     zeros : map (λ j. rowFor j .form) (range 1 14) ≡ map (λ j. Zeros) (range 1 14)
-    zeros = unfold conversions.computes letterFor letters in refl
+    zeros = unfold conversions.computes letterFor letters range in refl
 
 -- the highest value of a kind fits the width of its conversion
 fits : (k : ℕ) → 1 ≤ k → k ≤ 14 → (getD highest k 0 < 10 ^ (rowFor k .width)) × (rowFor k .width ≤ 9)
@@ -124,7 +121,7 @@ fits k p q =
     (ltb-true _ _ (t .0), leb-true _ _ (t .1))
   where
     computed : map (λ j. ltb (getD highest j 0) (10 ^ (rowFor j .width)) && leb (rowFor j .width) 9) (range 1 14) ≡ map (λ j. true) (range 1 14)
-    computed = unfold conversions.computes letterFor letters highest in refl
+    computed = unfold conversions.computes letterFor letters range highest in refl
 
 -- ---- kinds 1 to 14
 

@@ -1,13 +1,11 @@
 -- Demand 3 in the paper's numbers: the day, then the hour, judged by all facts that bear on it: unsaid, impossible, open with the two earliest
 -- shown, or the one that agrees. Days go by their day numbers.
-use Prim.Native.Nat.{ℕ, _≤_}
-use mathlib.Core.Bool.{false}
-use mathlib.Core.List.{List, [], _∷_}
+use Prim.Native.Nat.{ℕ}
+use mathlib.Core.List.{List, [], _∷_, List·Memᴰ as Member}
 use mathlib.Core.Logic.{_↔_}
 use mathlib.Core.Path.{_≡_}
-use Rattle.kinds.specs.Kinds.{year, isoWeek, hour, halfOfDay, minute, second}
+use Rattle.kinds.specs.Kinds.{dayKinds, hourKinds, minute, second}
 use Rattle.calendar.specs.Calendar.{dateOf}
-use Rattle.format.specs.Conversions.{among}
 use Rattle.judge.specs.Demand.{IsDay, IsHour, Only, Earliest}
 use Rattle.strptime.specs.Answers.{reading}
 use Rattle.strptime.specs.declared.Day.{Day}
@@ -22,37 +20,30 @@ use Rattle.demands.specs.Writes.{WouldWrite, onDay, atHour}
 abbrev pub beforeNine : List ℕ
 beforeNine = 1 ∷ 5 ∷ 3 ∷ 6 ∷ 7 ∷ 8 ∷ []
 
--- "Kinds 1 to 12, the date facts, bear on the day, 13 to 15 on the hour"
-abbrev pub OnDay : ℕ → Type 0
-OnDay k = (year ≤ k) × (k ≤ isoWeek)
-
-abbrev pub OnHour : ℕ → Type 0
-OnHour k = (hour ≤ k) × (k ≤ halfOfDay)
-
 module _ (f s : List ℕ) where
-  -- a fact that bears is said, and none is
-  abbrev pub SomeSaid : (ℕ → Type 0) → Type 0
-  SomeSaid Bears = (k : ℕ) × (n : ℕ) × Bears k × Says (facts f s) k n
+  -- a fact of some kinds is said, and none is
+  abbrev pub SomeSaid : List ℕ → Type 0
+  SomeSaid ks = (k : ℕ) × (n : ℕ) × Member k ks × Says (facts f s) k n
 
-  abbrev pub NoneSaid : (ℕ → Type 0) → Type 0
-  NoneSaid Bears = (k n : ℕ) → Bears k → Says (facts f s) k n → ⊥
+  abbrev pub NoneSaid : List ℕ → Type 0
+  NoneSaid ks = (k n : ℕ) → Member k ks → Says (facts f s) k n → ⊥
 
   -- a day, and an hour, agree with every fact that bears on them: the writer would write it
   abbrev pub DayAgrees : ℕ → Type 0
-  DayAgrees d = (k n : ℕ) → OnDay k → Says (facts f s) k n → WouldWrite k n (onDay d)
+  DayAgrees d = (k n : ℕ) → Member k dayKinds → Says (facts f s) k n → WouldWrite k n (onDay d)
 
   abbrev pub HourAgrees : ℕ → Type 0
-  HourAgrees h = (k n : ℕ) → OnHour k → Says (facts f s) k n → WouldWrite k n (atHour h)
+  HourAgrees h = (k n : ℕ) → Member k hourKinds → Says (facts f s) k n → WouldWrite k n (atHour h)
 
   -- the day that the facts give: unsaid where none bears on it, or the only one that agrees
   abbrev pub DayIs : Day → Type 0
-  DayIs NoDate = NoneSaid OnDay
-  DayIs (On x) = SomeSaid OnDay × ((d : ℕ) × (x ≡ dateOf d) × Only IsDay DayAgrees d)
+  DayIs NoDate = NoneSaid dayKinds
+  DayIs (On x) = SomeSaid dayKinds × ((d : ℕ) × (x ≡ dateOf d) × Only IsDay DayAgrees d)
 
   -- the hour likewise
   abbrev pub HourIs : Said → Type 0
-  HourIs Unsaid = NoneSaid OnHour
-  HourIs (Is h) = SomeSaid OnHour × Only IsHour HourAgrees h
+  HourIs Unsaid = NoneSaid hourKinds
+  HourIs (Is h) = SomeSaid hourKinds × Only IsHour HourAgrees h
 
   -- the minute or second: "the number said, or unsaid where none was"
   abbrev pub NumberIs : ℕ → Said → Type 0
@@ -67,17 +58,17 @@ module _ (f s : List ℕ) where
   pub record Answered : Type 0 where
     -- "Impossible is number 9"
     pub no-day : ((reading f s .number ≡ 9) × (reading f s .place ≡ 1))
-        ↔ (SomeSaid OnDay × ((d : ℕ) → IsDay d → DayAgrees d → ⊥))
+        ↔ (SomeSaid dayKinds × ((d : ℕ) → IsDay d → DayAgrees d → ⊥))
     -- "open is 10": "the first two, earliest first"
     pub two-days : (a b : ℕ) → IsDay a → IsDay b
         → ((reading f s .number ≡ 10) × (reading f s .place ≡ 1) × (reading f s .shown ≡ Days (dateOf a) (dateOf b)))
-        ↔ (SomeSaid OnDay × Earliest IsDay DayAgrees a b)
+        ↔ (SomeSaid dayKinds × Earliest IsDay DayAgrees a b)
     -- the same for the hour, where the day is not refused
     pub no-hour : ((reading f s .number ≡ 9) × (reading f s .place ≡ 2))
-        ↔ (DayStands × SomeSaid OnHour × ((h : ℕ) → IsHour h → HourAgrees h → ⊥))
+        ↔ (DayStands × SomeSaid hourKinds × ((h : ℕ) → IsHour h → HourAgrees h → ⊥))
     pub two-hours : (a b : ℕ)
         → ((reading f s .number ≡ 10) × (reading f s .place ≡ 2) × (reading f s .shown ≡ Hours a b))
-        ↔ (DayStands × SomeSaid OnHour × Earliest IsHour HourAgrees a b)
+        ↔ (DayStands × SomeSaid hourKinds × Earliest IsHour HourAgrees a b)
     -- "done is 0": exactly the day, hour, minute and second that the facts give, each said or unsaid
     pub done : (x : Day) (h m c : Said)
         → ((reading f s .number ≡ 0) × (reading f s .day ≡ x) × (reading f s .hour ≡ h) × (reading f s .minute ≡ m)
