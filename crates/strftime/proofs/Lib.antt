@@ -1,5 +1,4 @@
--- Laws that the proofs of several functions cite.
+-- Laws that the proofs of several functions cite, and that callers may cite.
 pub mod Lengths
-pub mod Order
-pub mod Over
-pub mod Putting
+pub mod Loops
+pub mod Parts

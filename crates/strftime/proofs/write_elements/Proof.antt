@@ -1,55 +1,58 @@
--- `strftime::write_elements` meets its contract: where nine bytes for each element have room, or the bytes measured have, all is put.
-use Prim.Native.Nat.{_≤_}
-use mathlib.Core.Logic.{⊎-elim}
-use native.Mathlib.Omega.{arith}
-use lib.ListN.{length}
-use Rattle.strftime.specs.Writing.{text}
-use Rattle.strftime.proofs.Lengths.{text-most}
-use Rattle.strftime.proofs.Order.{too-many, too-small, all-written}
 use borrow.Author.Needs.{needs}
 use Rattle.strftime.proofs.write_elements.Statement.{statement}
 use Rattle.strftime.proofs.write_elements.Tie as tie
+use Rattle.strftime.proofs.write_elements.Reads as reads
+use Rattle.strftime.proofs.write_elements.Lts as lts
+use Rattle.format.proofs.elements_in.Reads as elements-in-reads
+use Rattle.strftime.proofs.moment_of.Reads as moment-of-reads
+use Rattle.strftime.proofs.write_opened.Reads as write-opened-reads
 
--- the function's entry
-abbrev start : tie.Joined2 → tie.Start
-start c = c .before .before .before .before
+-- src/lib.rt:112:11
+moment-of-requires : tie.Need-moment-of-requires
+moment-of-requires c κs = search needs
 
-fits : (c : tie.Joined2) → length (text (start c .args .moment) (start c .args .elements .now)) ≤ length (start c .args .out .now)
-fits c =
-    ⊎-elim
-    (λ w. omega arith)
-    (λ w. omega (arith, text-most (start c .args .moment) (start c .args .elements .now)))
-    (c .if2 .came)
+-- src/lib.rt:113:27
+enum-known-field : tie.Need-enum-known-field
+enum-known-field c = search needs
 
+-- src/lib.rt:114:29
+enum-known-moment : tie.Need-enum-known-moment
+enum-known-moment c = search needs
+
+-- src/lib.rt:115:17
+elements-in-requires : tie.Need-elements-in-requires
+elements-in-requires c κs = search needs
+
+-- src/lib.rt:117:17
 returns : tie.Need-returns
-returns c = too-many _ _ _ (omega arith)
+returns c = ?
 
-mul-if2 : tie.Need-mul-if2
-mul-if2 c = search needs
+-- src/lib.rt:119:13
+write-opened-requires : tie.Need-write-opened-requires
+write-opened-requires c κs = ?
 
-measure-requires : tie.Need-measure-requires
-measure-requires c κs = search needs
-
+-- src/lib.rt:108:1
 returns-2 : tie.Need-returns-2
-returns-2 c = too-small _ _ _ (omega arith) (c .before .measure .ensures) (omega arith)
+returns-2 c = ?
 
-put-elements-requires : tie.Need-put-elements-requires
-put-elements-requires c κs = fits (c .before)
-
+-- src/lib.rt:108:1
 same-length : tie.Need-same-length
 same-length c = search needs
 
+-- src/lib.rt:108:1
 returns-3 : tie.Need-returns-3
-returns-3 c = all-written _ _ _ (omega arith) (c .before .before .put-elements .ensures .0) (omega (arith, fits (c .before .before .before .before), c .before .before .put-elements .ensures .0)) (c .before .before .put-elements .ensures .1)
+returns-3 c = ?
 
 pub write-elements-spec : {M : Type 1} → statement M
 write-elements-spec =
     tie.close
     (tie.spec
+    moment-of-requires
+    enum-known-field
+    enum-known-moment
+    elements-in-requires
     returns
-    mul-if2
-    measure-requires
+    write-opened-requires
     returns-2
-    put-elements-requires
     same-length
     returns-3)
