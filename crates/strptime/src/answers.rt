@@ -60,7 +60,10 @@ fn with_hour(state: State, day: Day) -> Answer
     match judge_hour(state.facts) {
         Verdict::Unsaid => done(state, day, Said::Unsaid),
         Verdict::Impossible => Answer::NoHour,
-        Verdict::Open(a, b) => Answer::OpenHour(a, b),
+        Verdict::Open {
+            first: a,
+            second: b,
+        } => Answer::OpenHour(a, b),
         Verdict::Agreed(hour) => done(state, day, Said::Is(hour)),
     }
 }
@@ -71,7 +74,10 @@ fn judged(state: State) -> Answer
     match judge_day(state.facts) {
         Verdict::Unsaid => with_hour(state, Day::NoDate),
         Verdict::Impossible => Answer::NoDay,
-        Verdict::Open(a, b) => Answer::OpenDay(date_of(a), date_of(b)),
+        Verdict::Open {
+            first: a,
+            second: b,
+        } => Answer::OpenDay(date_of(a), date_of(b)),
         Verdict::Agreed(day) => with_hour(state, Day::On(date_of(day))),
     }
 }
