@@ -20,7 +20,7 @@ use Rattle.format.specs.Opening.{isByte, letterOf}
 use Rattle.format.specs.declared.conversions.Conversion.{Conversion}
 use Rattle.format.specs.declared.conversions.Form.{Form}
 use Rattle.format.specs.declared.conversions.Form.the-variants.{Zeros, Blanks, FromSunday, Short, Full, Lower, Unknown}
-use Rattle.format.proofs.Small.{conversion-small}
+use Rattle.strftime.proofs.Opens.{conversion-narrow}
 use Rattle.values.specs.Values.{value}
 use Rattle.values.specs.declared.Moment.{Moment}
 use Rattle.strftime.specs.Writing.{formed, converted, element, text}
@@ -80,7 +80,7 @@ unfolding element converted
 element-most m e =
     let c = conversionOf (letterOf e) in
     picked (λ (s : List ℕ). length s ≤ 9) (isByte e) (omega arith)
-    (formed-most (c .form) (c .width) (value (c .kind) m) (conversion-small (letterOf e) .width))
+    (formed-most (c .form) (c .width) (value (c .kind) m) (conversion-narrow (letterOf e)))
 
 pub text-most : (m : Moment) (es : List ℕ) → length (text m es) ≤ 9 * length es
 unfolding text

@@ -1,4 +1,6 @@
 -- Laws that the proofs of several functions cite, and that callers may cite.
 pub mod Lengths
 pub mod Loops
+pub mod Opens
+pub mod Order
 pub mod Parts

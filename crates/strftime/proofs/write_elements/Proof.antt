@@ -1,47 +1,43 @@
+-- `strftime::write_elements` meets its contract: 2 and 3 are answered here.
+use native.Mathlib.Omega.{arith}
+use Rattle.format.specs.Opening.{mostElements}
+use Rattle.strftime.proofs.Opens.{entries-most}
+use Rattle.strftime.proofs.Order.{bad-fields, bad-entry, all-elements}
 use borrow.Author.Needs.{needs}
 use Rattle.strftime.proofs.write_elements.Statement.{statement}
 use Rattle.strftime.proofs.write_elements.Tie as tie
-use Rattle.strftime.proofs.write_elements.Reads as reads
-use Rattle.strftime.proofs.write_elements.Lts as lts
-use Rattle.format.proofs.elements_in.Reads as elements-in-reads
-use Rattle.strftime.proofs.moment_of.Reads as moment-of-reads
-use Rattle.strftime.proofs.write_opened.Reads as write-opened-reads
 
--- src/lib.rt:112:11
 moment-of-requires : tie.Need-moment-of-requires
 moment-of-requires c κs = search needs
 
--- src/lib.rt:113:27
 enum-known-field : tie.Need-enum-known-field
 enum-known-field c = search needs
 
--- src/lib.rt:114:29
 enum-known-moment : tie.Need-enum-known-moment
 enum-known-moment c = search needs
 
--- src/lib.rt:115:17
 elements-in-requires : tie.Need-elements-in-requires
 elements-in-requires c κs = search needs
 
--- src/lib.rt:117:17
 returns : tie.Need-returns
-returns c = ?
+returns c = bad-entry _ (c .before .before .before .before .before .moment-of .ensures) _ _ (c .before .before .before .moment .given .1) (c .before .elements-in .ensures) (c .if1 .taken)
 
--- src/lib.rt:119:13
 write-opened-requires : tie.Need-write-opened-requires
-write-opened-requires c κs = ?
+write-opened-requires c κs =
+    let e = c .before .before in
+    omega (arith, entries-most mostElements (e .before .before .before .before .before .before .before .args .elements .now), e .elements-in .ensures)
 
--- src/lib.rt:108:1
 returns-2 : tie.Need-returns-2
-returns-2 c = ?
+returns-2 c = bad-fields _ (c .before .before .before .moment-of .ensures) _ _ (c .before .field .given .1)
 
--- src/lib.rt:108:1
 same-length : tie.Need-same-length
 same-length c = search needs
 
--- src/lib.rt:108:1
 returns-3 : tie.Need-returns-3
-returns-3 c = ?
+returns-3 c =
+    let e = c .before .before .before .before .before in
+    all-elements _ (e .before .before .before .before .moment-of .ensures) _ _ (e .before .before .moment .given .1) (e .elements-in .ensures)
+    (c .before .before .before .before .if1 .left) (c .before .before .write-opened .ensures)
 
 pub write-elements-spec : {M : Type 1} → statement M
 write-elements-spec =

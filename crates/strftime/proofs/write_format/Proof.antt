@@ -1,66 +1,77 @@
+-- `strftime::write_format` meets its contract: the array has room for all elements of a format that is not too long.
+use mathlib.Core.Path.{sym}
+use native.Mathlib.Omega.{arith}
+use lib.ListN.{length}
+use lib.Seq.{length-take-le}
+use Rattle.format.proofs.Bound.{bound}
+use Rattle.strftime.proofs.Opens.{Holds, opened-done, opened-bad, opened-long}
+use Rattle.strftime.proofs.Order.{long-format, bad-format, whole-format}
 use borrow.Author.Needs.{needs}
 use Rattle.strftime.proofs.write_format.Statement.{statement}
 use Rattle.strftime.proofs.write_format.Tie as tie
-use Rattle.strftime.proofs.write_format.Reads as reads
-use Rattle.strftime.proofs.write_format.Lts as lts
-use Rattle.format.proofs.open.Reads as open-reads
-use Rattle.strftime.proofs.write_opened.Reads as write-opened-reads
 
--- src/lib.rt:136:11
+-- the function's entry, where the elements are all stored, and that they are
+abbrev start : tie.After-count → tie.Start
+start c = c .before .before .before .before .before .before .before .before .before
+
+holds : (c : tie.After-count) → Holds (start c .args .format .now) (c .count .given .0 .0) (c .before .before .before .before .«open» .last .1 .0)
+holds c =
+    let o = c .before .before .before .before .«open» in
+    let f = start c .args .format .now in
+    opened-done f (o .ensures .0) _ (λ l. omega (arith, bound f, start c .pre)) (o .ensures .1) (c .count .given .1)
+
 open-requires : tie.Need-open-requires
 open-requires c κs = search needs
 
--- src/lib.rt:137:24
 enum-known-count : tie.Need-enum-known-count
 enum-known-count c = search needs
 
--- src/lib.rt:137:48
 slice-reshare-prefix-write-opened : tie.Need-slice-reshare-prefix-write-opened
-slice-reshare-prefix-write-opened c = ?
+slice-reshare-prefix-write-opened c = holds (c .before) .room
 
--- src/lib.rt:137:48
 slice-aggregate-write-opened : tie.Need-slice-aggregate-write-opened
-slice-aggregate-write-opened c = ?
+slice-aggregate-write-opened c = sym (length-take-le _ _ (holds (c .before .before) .room))
 
--- src/lib.rt:137:35
 write-opened-requires : tie.Need-write-opened-requires
-write-opened-requires c κs = ?
+write-opened-requires c κs =
+    let l = c .before .before .before in
+    let h = holds l in
+    rw (h .first) (omega (arith, h .short, bound (start l .args .format .now)))
 
--- src/lib.rt:138:28
 enum-told : tie.Need-enum-told
 enum-told c = search needs
 
--- src/lib.rt:139:23
 enum-known-at : tie.Need-enum-known-at
 enum-known-at c = search needs
 
--- src/lib.rt:131:1
 same-length : tie.Need-same-length
 same-length c = search needs
 
--- src/lib.rt:131:1
 same-length-2 : tie.Need-same-length-2
 same-length-2 c = search needs
 
--- src/lib.rt:131:1
 returns : tie.Need-returns
-returns c = ?
+returns c =
+    let l = c .before .before .before .before .before .before in
+    let h = holds l in
+    whole-format _ _ _ (h .short) (h .whole) (h .first) (c .before .before .write-opened .ensures)
 
--- src/lib.rt:131:1
 same-length-3 : tie.Need-same-length-3
 same-length-3 c = search needs
 
--- src/lib.rt:131:1
 returns-2 : tie.Need-returns-2
-returns-2 c = ?
+returns-2 c =
+    let o = c .before .before .before .before in
+    long-format _ _ _ (opened-long _ (o .«open» .ensures .0) (c .enum-told .given .1))
 
--- src/lib.rt:131:1
 same-length-4 : tie.Need-same-length-4
 same-length-4 c = search needs
 
--- src/lib.rt:131:1
 returns-3 : tie.Need-returns-3
-returns-3 c = ?
+returns-3 c =
+    let o = c .before .before .before .before .before in
+    let b = opened-bad _ (o .«open» .ensures .0) (c .before .at .given .1) in
+    bad-format _ _ _ (b .0) (b .1)
 
 pub write-format-spec : {M : Type 1} → statement M
 write-format-spec =

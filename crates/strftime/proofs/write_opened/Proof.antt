@@ -1,34 +1,43 @@
+-- `strftime::write_opened` meets its contract: where nine bytes for each element have room, or the bytes measured have, all is put.
+use Prim.Native.Nat.{_≤_}
+use mathlib.Core.Logic.{⊎-elim}
+use native.Mathlib.Omega.{arith}
+use lib.ListN.{length}
+use Rattle.strftime.specs.Writing.{text}
+use Rattle.strftime.proofs.Lengths.{text-most}
+use Rattle.strftime.proofs.Order.{too-small, fits}
 use borrow.Author.Needs.{needs}
 use Rattle.strftime.proofs.write_opened.Statement.{statement}
 use Rattle.strftime.proofs.write_opened.Tie as tie
-use Rattle.strftime.proofs.write_opened.Reads as reads
-use Rattle.strftime.proofs.write_opened.Lts as lts
-use Rattle.strftime.proofs.measuring.measure.Reads as measure-reads
-use Rattle.strftime.proofs.putting.put_elements.Reads as put-elements-reads
 
--- src/lib.rt:150:20
+-- the function's entry
+abbrev start : tie.Joined1 → tie.Start
+start c = c .before .before .before
+
+room : (c : tie.Joined1) → length (text (start c .args .moment) (start c .args .elements .now)) ≤ length (start c .args .out .now)
+room c =
+    ⊎-elim
+    (λ w. omega arith)
+    (λ w. omega (arith, text-most (start c .args .moment) (start c .args .elements .now)))
+    (c .if1 .came)
+
 mul-if1 : tie.Need-mul-if1
 mul-if1 c = search needs
 
--- src/lib.rt:151:13
 measure-requires : tie.Need-measure-requires
 measure-requires c κs = search needs
 
--- src/lib.rt:153:13
 returns : tie.Need-returns
-returns c = ?
+returns c = too-small _ _ (c .before .measure .ensures) (omega arith)
 
--- src/lib.rt:157:16
 put-elements-requires : tie.Need-put-elements-requires
-put-elements-requires c κs = ?
+put-elements-requires c κs = room (c .before)
 
--- src/lib.rt:145:1
 same-length : tie.Need-same-length
 same-length c = search needs
 
--- src/lib.rt:145:1
 returns-2 : tie.Need-returns-2
-returns-2 c = ?
+returns-2 c = fits _ _ (room (c .before .before .before .before)) (c .before .before .put-elements .ensures)
 
 pub write-opened-spec : {M : Type 1} → statement M
 write-opened-spec =

@@ -1,0 +1,89 @@
+-- The writer's order, 1, 2, 3, 4, and then 0: what each way out answers and leaves in the buffer.
+-- Assumes nothing.
+use Prim.Native.Nat.{ℕ, _≤_, _<_}
+use mathlib.Core.List.{List}
+use mathlib.Core.Path.{_≡_, refl, sym, _∙_}
+use native.Mathlib.Nat.{zero-add}
+use borrow.Author.Tests.{le-leb, lt-leb, eq-eqb, ne-eqb}
+use lib.ListN.{length}
+use Rattle.laws.specs.Stores.{Puts}
+use Rattle.format.specs.Opening.{opening, longest, mostElements, elementsIn}
+use Rattle.format.specs.Opening.Ended.{Whole, BadAt}
+use Rattle.values.specs.Moments.{momentOf}
+use Rattle.values.specs.declared.Moment.{Moment}
+use Rattle.values.specs.declared.MomentFields.{MomentFields}
+use Rattle.values.specs.declared.MomentFields.the-variants.{Valid, Bad}
+use Rattle.strftime.specs.Private.{momentWriting}
+use Rattle.strftime.specs.Writing.{Result, text, writingOf, refused, put, byFormat, byElements}
+use Rattle.strftime.specs.Writing.{forMoment, forFields, writing, elementsWriting}
+use Rattle.strftime.specs.declared.Fields.{Fields}
+use Rattle.strftime.specs.declared.Writing.{Writing}
+use Rattle.strftime.specs.declared.Written.the-variants.{Done, FormatTooLong, BadMoment, BadConversion, BufferTooSmall}
+
+-- the answer is a, and the buffer is left as c
+abbrev pub Gives : Writing → List ℕ → Result → Type 0
+Gives a c w = (a ≡ w .answer) × (c ≡ w .buffer)
+
+-- ---- the bytes to put: 4 and 0
+
+module _ (s b : List ℕ) where
+  pub too-small : {n : ℕ} → n ≡ length s → length b < n → Gives (writingOf (BufferTooSmall n)) b (put s b)
+  unfolding put refused writingOf
+  too-small e h = rw (← e, lt-leb _ (length b) h) (refl, refl)
+
+  pub fits : {n : ℕ} {c : List ℕ} → length s ≤ length b → Puts s b 0 c n → Gives (writingOf (Done n)) c (put s b)
+  unfolding put writingOf
+  fits h p = rw (le-leb (length s) (length b) h, p .ends, zero-add (length s)) (refl, p .stores)
+
+-- ---- a format: 1 and 3
+
+module _ (f : List ℕ) (m : Moment) (b : List ℕ) where
+  pub long-format : longest < length f → Gives (writingOf FormatTooLong) b (momentWriting f m b)
+  unfolding momentWriting refused writingOf
+  long-format h = rw (lt-leb (length f) longest h) (refl, refl)
+
+  pub bad-format : {p : ℕ} → length f ≤ longest → opening f .ended ≡ BadAt p → Gives (writingOf (BadConversion p)) b (momentWriting f m b)
+  unfolding momentWriting byFormat refused writingOf
+  bad-format h e = rw (le-leb (length f) longest h, e) (refl, refl)
+
+  pub whole-format : {a : Writing} {c es : List ℕ} → length f ≤ longest → opening f .ended ≡ Whole → es ≡ opening f .elements
+      → Gives a c (put (text m es) b) → Gives a c (momentWriting f m b)
+  unfolding momentWriting byFormat
+  whole-format h e q g = rw (le-leb (length f) longest h, e) (rw q at g)
+
+-- ---- the fields: 2
+
+module _ (t : Fields) {r : MomentFields} (e : r ≡ momentOf (t .year) (t .month) (t .day) (t .hour) (t .minute) (t .second)) where
+  with-fields : (rest : Moment → Result) (b : List ℕ) {s : MomentFields} → r ≡ s → forFields rest b t ≡ forMoment rest b s
+  unfolding forFields
+  with-fields rest b q = rw (← e, q)
+
+  module _ (f b : List ℕ) where
+    pub too-long : longest < length f → Gives (writingOf FormatTooLong) b (writing f t b)
+    unfolding writing refused writingOf
+    too-long h = rw (lt-leb (length f) longest h) (refl, refl)
+
+    pub bad-moment : {n : ℕ} → length f ≤ longest → r ≡ Bad n → Gives (writingOf (BadMoment n)) b (writing f t b)
+    unfolding writing forMoment refused writingOf
+    bad-moment h q = rw (le-leb (length f) longest h, with-fields (byFormat f b) b q) (refl, refl)
+
+    pub good-moment : {m : Moment} {a : Writing} {c : List ℕ} → r ≡ Valid m → Gives a c (momentWriting f m b) → Gives a c (writing f t b)
+    unfolding writing forMoment momentWriting
+    good-moment q g = rw (with-fields (byFormat f b) b q) g
+
+  -- ---- elements: 2 and 3
+
+  module _ (es b : List ℕ) where
+    pub bad-fields : {n : ℕ} → r ≡ Bad n → Gives (writingOf (BadMoment n)) b (elementsWriting es t b)
+    unfolding elementsWriting forMoment refused writingOf
+    bad-fields q = rw (with-fields (byElements es b) b q) (refl, refl)
+
+    module _ {m : Moment} {good : ℕ} (q : r ≡ Valid m) (k : good ≡ elementsIn mostElements es) where
+      pub bad-entry : (good ≡ length es → ⊥) → Gives (writingOf (BadConversion good)) b (elementsWriting es t b)
+      unfolding elementsWriting forMoment byElements refused writingOf
+      bad-entry h = rw (with-fields (byElements es b) b q, ← k, ne-eqb good (length es) h) (refl, refl)
+
+      pub all-elements : {a : Writing} {c : List ℕ} → good ≡ length es → Gives a c (put (text m es) b)
+          → Gives a c (elementsWriting es t b)
+      unfolding elementsWriting forMoment byElements
+      all-elements h g = rw (with-fields (byElements es b) b q, ← k, eq-eqb good (length es) h) g
