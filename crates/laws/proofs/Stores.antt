@@ -1,12 +1,12 @@
 -- Stores of a list over another from some place on, as much of it as fits.
 -- Assumes nothing.
-use Prim.Native.Nat.{ℕ, suc, _+_, _≤_}
-use mathlib.Core.List.{List, [], _∷_, _++_}
+use Prim.Native.Nat.{ℕ, zero, suc, _+_, _≤_}
+use mathlib.Core.List.{List, [], _∷_, _++_, append-nil}
 use mathlib.Core.Path.{_≡_, refl, sym, ap, _∙_}
 use native.Mathlib.Nat.{add-zero, add-suc, suc-add}
 use native.Mathlib.Omega.{arith}
-use lib.ListN.{length, take, drop, set}
-use lib.Seq.{sets, drop-nil, set-out}
+use lib.ListN.{length, take, drop, set, take-append-drop, drop-of-length-le}
+use lib.Seq.{sets, take-all, drop-nil, set-out}
 
 -- one list after the other
 pub sets-append : (l : List ℕ) (i : ℕ) (a b : List ℕ) → sets l i (a ++ b) ≡ sets (sets l i a) (i + length a) b
@@ -27,3 +27,25 @@ pub sets-start : (l vs : List ℕ) → sets l 0 vs ≡ take (length l) vs ++ dro
 sets-start [] vs = sets-past [] vs 0 (omega arith) ∙ sym (drop-nil (length vs))
 sets-start (x ∷ l) [] = refl
 sets-start (x ∷ l) (v ∷ vs) = sets-shift v l 0 vs ∙ ap (λ (r : List ℕ). v ∷ r) (sets-start l vs)
+
+-- as many entries as the list has
+pub sets-all : (l vs : List ℕ) → length vs ≡ length l → sets l 0 vs ≡ vs
+sets-all l vs e =
+    rw (sets-start, take-all (length l) vs (omega arith), drop-of-length-le l {i = length vs} (omega arith), append-nil)
+
+-- over the first k entries, the others left
+sets-first : (l : List ℕ) (k : ℕ) (vs : List ℕ) → sets (take k l) 0 vs ++ drop k l ≡ sets l 0 (take k vs)
+sets-first l zero vs = rw (sets-past [] vs 0 (omega arith))
+sets-first [] (suc k) vs = rw (sets-past [] vs 0 (omega arith), sets-past [] (take (suc k) vs) 0 (omega arith))
+sets-first (x ∷ l) (suc k) [] = take-append-drop (suc k) (x ∷ l)
+sets-first (x ∷ l) (suc k) (v ∷ vs) =
+    ap (λ (r : List ℕ). r ++ drop k l) (sets-shift v (take k l) 0 vs)
+    ∙ ap (λ (r : List ℕ). v ∷ r) (sets-first l k vs)
+    ∙ sym (sets-shift v l 0 (take k vs))
+
+-- over the k entries from a place on, the others left
+pub sets-part : (l : List ℕ) (i k : ℕ) (vs : List ℕ)
+    → take i l ++ (sets (take k (drop i l)) 0 vs ++ drop k (drop i l)) ≡ sets l i (take k vs)
+sets-part l zero k vs = sets-first l k vs
+sets-part [] (suc i) k vs = rw (sets-past [] (take k vs) (suc i) (omega arith)) (sets-first [] k vs ∙ sets-past [] (take k vs) 0 (omega arith))
+sets-part (x ∷ l) (suc i) k vs = rw sets-shift (ap (λ (r : List ℕ). x ∷ r) (sets-part l i k vs))

@@ -1,5 +1,8 @@
--- Laws that the proofs of several functions cite.
+-- Laws that the proofs of several functions cite, and that callers may cite.
+pub mod Complete
 pub mod Lengths
+pub mod Loops
+pub mod Opens
 pub mod Order
-pub mod Over
-pub mod Putting
+pub mod Parts
+pub mod Places

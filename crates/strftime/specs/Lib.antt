@@ -1,2 +1,3 @@
 -- What the writer means.
+pub mod Private
 pub mod Writing

@@ -1,18 +1,18 @@
 -- `strftime::strftime` meets its contract: 1 and 2 are answered here, what follows is that of the opened format.
 use native.Mathlib.Omega.{arith}
-use borrow.Author.Needs.{needs}
 use Rattle.strftime.proofs.Order.{too-long, bad-moment, good-moment}
+use borrow.Author.Needs.{needs}
 use Rattle.strftime.proofs.strftime.Statement.{statement}
 use Rattle.strftime.proofs.strftime.Tie as tie
 
-returns : tie.Need-returns
-returns c = too-long _ _ _ (omega arith)
-
-from-fields-requires : tie.Need-from-fields-requires
-from-fields-requires c κs = search needs
+moment-of-requires : tie.Need-moment-of-requires
+moment-of-requires c κs = search needs
 
 enum-known-field : tie.Need-enum-known-field
 enum-known-field c = search needs
+
+returns : tie.Need-returns
+returns c = too-long _ (c .before .before .before .before .moment-of .ensures) _ _ (omega arith)
 
 enum-known-moment : tie.Need-enum-known-moment
 enum-known-moment c = search needs
@@ -29,7 +29,7 @@ same-length c = search needs
 returns-2 : tie.Need-returns-2
 returns-2 c =
     let m = c .before .before .before .before .before .before .before .before in
-    good-moment _ _ _ (omega arith) (m .before .before .from-fields .ensures) (m .moment .given .1) (c .before .before .before .write-format .ensures)
+    good-moment _ (m .before .before .moment-of .ensures) _ _ (m .moment .given .1) (c .before .before .before .write-format .ensures)
 
 slice-aggregate-write-format-2 : tie.Need-slice-aggregate-write-format-2
 slice-aggregate-write-format-2 c = search needs
@@ -43,7 +43,7 @@ same-length-2 c = search needs
 returns-3 : tie.Need-returns-3
 returns-3 c =
     let m = c .before .before .before .before .before .before .before .before .before in
-    good-moment _ _ _ (omega arith) (m .before .before .from-fields .ensures) (m .moment .given .1) (c .before .before .before .write-format2 .ensures)
+    good-moment _ (m .before .before .moment-of .ensures) _ _ (m .moment .given .1) (c .before .before .before .write-format2 .ensures)
 
 slice-aggregate-write-format-3 : tie.Need-slice-aggregate-write-format-3
 slice-aggregate-write-format-3 c = search needs
@@ -52,7 +52,7 @@ write-format-requires-3 : tie.Need-write-format-requires-3
 write-format-requires-3 c κs = search needs
 
 returns-4 : tie.Need-returns-4
-returns-4 c = bad-moment _ _ _ (omega arith) (c .before .before .before .from-fields .ensures) (c .before .field .given .1)
+returns-4 c = bad-moment _ (c .before .before .before .before .moment-of .ensures) _ _ (omega arith) (c .before .before .field .given .1)
 
 same-length-3 : tie.Need-same-length-3
 same-length-3 c = search needs
@@ -60,15 +60,15 @@ same-length-3 c = search needs
 returns-5 : tie.Need-returns-5
 returns-5 c =
     let m = c .before .before .before .before .before .before .before .before .before in
-    good-moment _ _ _ (omega arith) (m .before .before .from-fields .ensures) (m .moment .given .1) (c .before .before .before .write-format3 .ensures)
+    good-moment _ (m .before .before .moment-of .ensures) _ _ (m .moment .given .1) (c .before .before .before .write-format3 .ensures)
 
 pub strftime-spec : {M : Type 1} → statement M
 strftime-spec =
     tie.close
     (tie.spec
-    returns
-    from-fields-requires
+    moment-of-requires
     enum-known-field
+    returns
     enum-known-moment
     slice-aggregate-write-format
     write-format-requires

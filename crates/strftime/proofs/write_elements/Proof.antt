@@ -1,55 +1,54 @@
--- `strftime::write_elements` meets its contract: where nine bytes for each element have room, or the bytes measured have, all is put.
-use Prim.Native.Nat.{_≤_}
-use mathlib.Core.Logic.{⊎-elim}
+-- `strftime::write_elements` meets its contract: 2 and 3 are answered here.
 use native.Mathlib.Omega.{arith}
-use lib.ListN.{length}
-use Rattle.strftime.specs.Writing.{text}
-use Rattle.strftime.proofs.Lengths.{text-most}
-use Rattle.strftime.proofs.Order.{too-many, too-small, all-written}
+use Rattle.format.specs.Opening.{mostElements}
+use Rattle.strftime.proofs.Opens.{entries-most}
+use Rattle.strftime.proofs.Order.{bad-fields, bad-entry, all-elements}
 use borrow.Author.Needs.{needs}
 use Rattle.strftime.proofs.write_elements.Statement.{statement}
 use Rattle.strftime.proofs.write_elements.Tie as tie
 
--- the function's entry
-abbrev start : tie.Joined2 → tie.Start
-start c = c .before .before .before .before
+moment-of-requires : tie.Need-moment-of-requires
+moment-of-requires c κs = search needs
 
-fits : (c : tie.Joined2) → length (text (start c .args .moment) (start c .args .elements .now)) ≤ length (start c .args .out .now)
-fits c =
-    ⊎-elim
-    (λ w. omega arith)
-    (λ w. omega (arith, text-most (start c .args .moment) (start c .args .elements .now)))
-    (c .if2 .came)
+enum-known-field : tie.Need-enum-known-field
+enum-known-field c = search needs
+
+enum-known-moment : tie.Need-enum-known-moment
+enum-known-moment c = search needs
+
+elements-in-requires : tie.Need-elements-in-requires
+elements-in-requires c κs = search needs
 
 returns : tie.Need-returns
-returns c = too-many _ _ _ (omega arith)
+returns c = bad-entry _ (c .before .before .before .before .before .moment-of .ensures) _ _ (c .before .before .before .moment .given .1) (c .before .elements-in .ensures) (c .if1 .taken)
 
-mul-if2 : tie.Need-mul-if2
-mul-if2 c = search needs
-
-measure-requires : tie.Need-measure-requires
-measure-requires c κs = search needs
+write-opened-requires : tie.Need-write-opened-requires
+write-opened-requires c κs =
+    let e = c .before .before in
+    omega (arith, entries-most mostElements (e .before .before .before .before .before .before .before .args .elements .now), e .elements-in .ensures)
 
 returns-2 : tie.Need-returns-2
-returns-2 c = too-small _ _ _ (omega arith) (c .before .measure .ensures) (omega arith)
-
-put-elements-requires : tie.Need-put-elements-requires
-put-elements-requires c κs = fits (c .before)
+returns-2 c = bad-fields _ (c .before .before .before .moment-of .ensures) _ _ (c .before .field .given .1)
 
 same-length : tie.Need-same-length
 same-length c = search needs
 
 returns-3 : tie.Need-returns-3
-returns-3 c = all-written _ _ _ (omega arith) (c .before .before .put-elements .ensures .0) (omega (arith, fits (c .before .before .before .before), c .before .before .put-elements .ensures .0)) (c .before .before .put-elements .ensures .1)
+returns-3 c =
+    let e = c .before .before .before .before .before in
+    all-elements _ (e .before .before .before .before .moment-of .ensures) _ _ (e .before .before .moment .given .1) (e .elements-in .ensures)
+    (c .before .before .before .before .if1 .left) (c .before .before .write-opened .ensures)
 
 pub write-elements-spec : {M : Type 1} → statement M
 write-elements-spec =
     tie.close
     (tie.spec
+    moment-of-requires
+    enum-known-field
+    enum-known-moment
+    elements-in-requires
     returns
-    mul-if2
-    measure-requires
+    write-opened-requires
     returns-2
-    put-elements-requires
     same-length
     returns-3)

@@ -1,0 +1,99 @@
+-- `strftime::measuring::converted_length` meets its contract: one return for each form.
+use lib.ListN.{length-map}
+use Rattle.strftime.specs.Writing.{converted, formed}
+use Rattle.strftime.proofs.Lengths.{filled-length, by-form}
+use borrow.Author.Needs.{needs}
+use Rattle.strftime.proofs.measuring.converted_length.Statement.{statement}
+use Rattle.strftime.proofs.measuring.converted_length.Tie as tie
+
+enum-told : tie.Need-enum-told
+enum-told c = search needs
+
+enum-told-2 : tie.Need-enum-told-2
+enum-told-2 c = search needs
+
+enum-told-3 : tie.Need-enum-told-3
+enum-told-3 c = search needs
+
+enum-known-form : tie.Need-enum-known-form
+enum-known-form c = search needs
+
+value-requires : tie.Need-value-requires
+value-requires c κs = search needs
+
+short-length-requires : tie.Need-short-length-requires
+short-length-requires c κs = search needs
+
+enum-known-form-2 : tie.Need-enum-known-form-2
+enum-known-form-2 c = search needs
+
+value-requires-2 : tie.Need-value-requires-2
+value-requires-2 c κs = search needs
+
+full-length-requires : tie.Need-full-length-requires
+full-length-requires c κs = search needs
+
+enum-known-form-3 : tie.Need-enum-known-form-3
+enum-known-form-3 c = search needs
+
+value-requires-3 : tie.Need-value-requires-3
+value-requires-3 c κs = search needs
+
+full-length-requires-2 : tie.Need-full-length-requires-2
+full-length-requires-2 c κs = search needs
+
+enum-told-4 : tie.Need-enum-told-4
+enum-told-4 c = search needs
+
+returns : tie.Need-returns
+unfolding converted formed
+returns c = rw (c .enum-told .given .1, filled-length)
+
+returns-2 : tie.Need-returns-2
+unfolding converted formed
+returns-2 c = rw (c .enum-told2 .given .1, filled-length)
+
+returns-3 : tie.Need-returns-3
+unfolding converted formed
+returns-3 c = rw (c .enum-told3 .given .1, filled-length)
+
+returns-4 : tie.Need-returns-4
+unfolding formed
+returns-4 c = rw (by-form (c .before .before .before .before .before .args .c) (c .before .before .before .before .before .args .moment) (c .before .before .before .form .given .1) (c .before .value .ensures)) (c .short-length .ensures)
+
+returns-5 : tie.Need-returns-5
+unfolding formed
+returns-5 c = rw (by-form (c .before .before .before .before .before .args .c) (c .before .before .before .before .before .args .moment) (c .before .before .before .form2 .given .1) (c .before .value2 .ensures)) (c .full-length .ensures)
+
+returns-6 : tie.Need-returns-6
+unfolding formed
+returns-6 c = rw (by-form (c .before .before .before .before .before .args .c) (c .before .before .before .before .before .args .moment) (c .before .before .before .form3 .given .1) (c .before .value3 .ensures), length-map) (c .full-length2 .ensures)
+
+returns-7 : tie.Need-returns-7
+unfolding converted formed
+returns-7 c = rw (c .enum-told4 .given .1)
+
+pub converted-length-spec : {M : Type 1} → statement M
+converted-length-spec =
+    tie.close
+    (tie.spec
+    enum-told
+    enum-told-2
+    enum-told-3
+    enum-known-form
+    value-requires
+    short-length-requires
+    enum-known-form-2
+    value-requires-2
+    full-length-requires
+    enum-known-form-3
+    value-requires-3
+    full-length-requires-2
+    enum-told-4
+    returns
+    returns-2
+    returns-3
+    returns-4
+    returns-5
+    returns-6
+    returns-7)

@@ -1,0 +1,148 @@
+-- `strftime::putting::put_converted` meets its contract: each form puts what it writes.
+use Prim.Native.Nat.{_+_, _≤_}
+use mathlib.Core.Path.{_≡_, refl, sym}
+use native.Mathlib.Nat.{add-zero}
+use lib.ListN.{length}
+use Rattle.format.specs.declared.conversions.Form.{Form}
+use Rattle.strftime.specs.Writing.{formed, converted}
+use Rattle.strftime.proofs.Lengths.{filled-length, by-form}
+use borrow.Author.Needs.{needs}
+use Rattle.strftime.proofs.putting.put_converted.Statement.{statement}
+use Rattle.strftime.proofs.putting.put_converted.Tie as tie
+
+-- the function's entry; what the conversion writes, by its form, and that there is room for it
+abbrev start : tie.After-value → tie.Start
+start c = c .before .before
+
+module _ (c : tie.After-value) {f : Form} (e : start c .args .c .form ≡ f) where
+  written : converted (start c .args .c) (start c .args .moment) ≡ formed f (start c .args .c .width) (c .value .result)
+  written = by-form (start c .args .c) (start c .args .moment) e (c .value .ensures)
+
+  room : start c .args .at + length (formed f (start c .args .c .width) (c .value .result)) ≤ length (start c .args .out .now)
+  room = rw written at (start c .pre)
+
+value-requires : tie.Need-value-requires
+value-requires c κs = search needs
+
+enum-told : tie.Need-enum-told
+enum-told c = search needs
+
+put-number-requires : tie.Need-put-number-requires
+unfolding formed
+put-number-requires c κs = rw filled-length at (room (c .before .before .before) (c .before .enum-told .given .1))
+
+enum-told-2 : tie.Need-enum-told-2
+enum-told-2 c = search needs
+
+put-number-requires-2 : tie.Need-put-number-requires-2
+unfolding formed
+put-number-requires-2 c κs = rw filled-length at (room (c .before .before .before) (c .before .enum-told2 .given .1))
+
+enum-told-3 : tie.Need-enum-told-3
+enum-told-3 c = search needs
+
+put-number-requires-3 : tie.Need-put-number-requires-3
+unfolding formed
+put-number-requires-3 c κs = rw filled-length at (room (c .before .before .before) (c .before .enum-told3 .given .1))
+
+enum-known-form : tie.Need-enum-known-form
+enum-known-form c = search needs
+
+put-short-requires : tie.Need-put-short-requires
+unfolding formed
+put-short-requires c κs = room (c .before .before .before .before) (c .before .before .form .given .1)
+
+enum-known-form-2 : tie.Need-enum-known-form-2
+enum-known-form-2 c = search needs
+
+put-full-requires : tie.Need-put-full-requires
+unfolding formed
+put-full-requires c κs = room (c .before .before .before .before) (c .before .before .form2 .given .1)
+
+enum-known-form-3 : tie.Need-enum-known-form-3
+enum-known-form-3 c = search needs
+
+put-lower-requires : tie.Need-put-lower-requires
+unfolding formed
+put-lower-requires c κs = room (c .before .before .before .before) (c .before .before .form3 .given .1)
+
+enum-told-4 : tie.Need-enum-told-4
+enum-told-4 c = search needs
+
+same-length : tie.Need-same-length
+same-length c = search needs
+
+returns : tie.Need-returns
+unfolding formed
+returns c = rw (written (c .before .before .before .before .before .before) (c .before .before .before .before .enum-told .given .1)) (c .before .before .put-number .ensures)
+
+same-length-2 : tie.Need-same-length-2
+same-length-2 c = search needs
+
+returns-2 : tie.Need-returns-2
+unfolding formed
+returns-2 c = rw (written (c .before .before .before .before .before .before) (c .before .before .before .before .enum-told2 .given .1)) (c .before .before .put-number2 .ensures)
+
+same-length-3 : tie.Need-same-length-3
+same-length-3 c = search needs
+
+returns-3 : tie.Need-returns-3
+unfolding formed
+returns-3 c = rw (written (c .before .before .before .before .before .before) (c .before .before .before .before .enum-told3 .given .1)) (c .before .before .put-number3 .ensures)
+
+same-length-4 : tie.Need-same-length-4
+same-length-4 c = search needs
+
+returns-4 : tie.Need-returns-4
+unfolding formed
+returns-4 c = rw (written (c .before .before .before .before .before .before .before) (c .before .before .before .before .before .form .given .1)) (c .before .before .put-short .ensures)
+
+same-length-5 : tie.Need-same-length-5
+same-length-5 c = search needs
+
+returns-5 : tie.Need-returns-5
+unfolding formed
+returns-5 c = rw (written (c .before .before .before .before .before .before .before) (c .before .before .before .before .before .form2 .given .1)) (c .before .before .put-full .ensures)
+
+same-length-6 : tie.Need-same-length-6
+same-length-6 c = search needs
+
+returns-6 : tie.Need-returns-6
+unfolding formed
+returns-6 c = rw (written (c .before .before .before .before .before .before .before) (c .before .before .before .before .before .form3 .given .1)) (c .before .before .put-lower .ensures)
+
+returns-7 : tie.Need-returns-7
+unfolding formed
+returns-7 c = rw (written (c .before .before) (c .enum-told4 .given .1)) record { ends = sym (add-zero _); stores = refl }
+
+pub put-converted-spec : {M : Type 1} → statement M
+put-converted-spec =
+    tie.close
+    (tie.spec
+    value-requires
+    enum-told
+    put-number-requires
+    enum-told-2
+    put-number-requires-2
+    enum-told-3
+    put-number-requires-3
+    enum-known-form
+    put-short-requires
+    enum-known-form-2
+    put-full-requires
+    enum-known-form-3
+    put-lower-requires
+    enum-told-4
+    same-length
+    returns
+    same-length-2
+    returns-2
+    same-length-3
+    returns-3
+    same-length-4
+    returns-4
+    same-length-5
+    returns-5
+    same-length-6
+    returns-6
+    returns-7)

@@ -1,0 +1,51 @@
+-- `strftime::putting::put_full` meets its contract.
+use mathlib.Core.Path.{ap}
+use native.Mathlib.Omega.{arith}
+use lib.ListN.{length}
+use Rattle.strftime.proofs.Lengths.{named}
+use Rattle.strftime.proofs.Parts.{puts-rest}
+use borrow.Author.Needs.{needs}
+use Rattle.strftime.proofs.putting.put_full.Statement.{statement}
+use Rattle.strftime.proofs.putting.put_full.Tie as tie
+
+sub-write-name : tie.Need-sub-write-name
+sub-write-name c = search needs
+
+part-write-name-start : tie.Need-part-write-name-start
+part-write-name-start c = search needs
+
+part-write-name-end : tie.Need-part-write-name-end
+part-write-name-end c = search needs
+
+place-for-requires : tie.Need-place-for-requires
+place-for-requires c κs = search needs
+
+write-name-requires : tie.Need-write-name-requires
+write-name-requires c κs = search needs
+
+add-result : tie.Need-add-result
+add-result c =
+    let s = c .before .before .before .before .before .before in
+    omega (arith, s .pre, c .before .before .write-name .ensures .0, ap length (named (s .args .t) (s .args .value) (c .before .before .before .place-for .ensures)))
+
+same-length : tie.Need-same-length
+same-length c = search needs
+
+returns : tie.Need-returns
+returns c =
+    let s = c .before .before .before .before .before .before in
+    let w = rw (named (s .args .t) (s .args .value) (c .before .before .before .place-for .ensures)) at (c .before .before .write-name .ensures) in
+    puts-rest _ _ _ (s .pre) (w .0) (w .1)
+
+pub put-full-spec : {M : Type 1} → statement M
+put-full-spec =
+    tie.close
+    (tie.spec
+    sub-write-name
+    part-write-name-start
+    part-write-name-end
+    place-for-requires
+    write-name-requires
+    add-result
+    same-length
+    returns)

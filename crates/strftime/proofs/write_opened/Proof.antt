@@ -1,0 +1,45 @@
+-- `strftime::write_opened` meets its contract: where nine bytes for each element have room, or the bytes measured have, all is put.
+use Prim.Native.Nat.{_≤_}
+use mathlib.Core.Logic.{⊎-elim}
+use native.Mathlib.Omega.{arith}
+use lib.ListN.{length}
+use Rattle.strftime.specs.Writing.{text}
+use Rattle.strftime.proofs.Lengths.{text-most}
+use Rattle.strftime.proofs.Order.{too-small, fits}
+use borrow.Author.Needs.{needs}
+use Rattle.strftime.proofs.write_opened.Statement.{statement}
+use Rattle.strftime.proofs.write_opened.Tie as tie
+
+-- the function's entry
+abbrev start : tie.Joined1 → tie.Start
+start c = c .before .before .before
+
+room : (c : tie.Joined1) → length (text (start c .args .moment) (start c .args .elements .now)) ≤ length (start c .args .out .now)
+room c =
+    ⊎-elim
+    (λ w. omega arith)
+    (λ w. omega (arith, text-most (start c .args .moment) (start c .args .elements .now)))
+    (c .if1 .came)
+
+mul-if1 : tie.Need-mul-if1
+mul-if1 c = search needs
+
+measure-requires : tie.Need-measure-requires
+measure-requires c κs = search needs
+
+returns : tie.Need-returns
+returns c = too-small _ _ (c .before .measure .ensures) (omega arith)
+
+put-elements-requires : tie.Need-put-elements-requires
+put-elements-requires c κs = room (c .before)
+
+same-length : tie.Need-same-length
+same-length c = search needs
+
+returns-2 : tie.Need-returns-2
+returns-2 c = fits _ _ (room (c .before .before .before .before)) (c .before .before .put-elements .ensures)
+
+pub write-opened-spec : {M : Type 1} → statement M
+write-opened-spec =
+    tie.close
+    (tie.spec mul-if1 measure-requires returns put-elements-requires same-length returns-2)
