@@ -2,20 +2,16 @@
 -- 0 number, 1 place, 2 to 4 year, month and day, 5 and 6 whether the hour is said and which, 7 and 8 the minute, 9 and 10 the second,
 -- 11 to 13 the second of two days, or 11 the second of two hours. "Whatever a row does not name comes back zero or unsaid."
 use Prim.Native.Nat.{ℕ}
-use mathlib.Core.Bool.{cond}
 use mathlib.Core.List.{List, [], _∷_, _++_}
-use lib.Dec.{leb}
-use lib.ListN.{length, drop, replicate}
 use Rattle.calendar.specs.Calendar.{date}
 use Rattle.calendar.specs.declared.Date.{Date}
-use Rattle.strptime.specs.Answers.{numberOf, placeOf}
-use Rattle.strptime.specs.declared.Answer.{Answer}
-use Rattle.strptime.specs.declared.Answer.the-variants.{Done, FormatTooLong, TextTooLong, BadConversion, NoMatch, OutOfRange, Contradiction, NoDay, NoHour, OpenDay, OpenHour}
 use Rattle.strptime.specs.declared.Day.{Day}
 use Rattle.strptime.specs.declared.Day.the-variants.{NoDate, On}
+use Rattle.strptime.specs.declared.Reading.{Reading}
 use Rattle.strptime.specs.declared.Said.{Said}
 use Rattle.strptime.specs.declared.Said.the-variants.{Unsaid, Is}
-use Rattle.larusqem.specs.Packed.{noRoom}
+use Rattle.strptime.specs.declared.Shown.{Shown}
+use Rattle.strptime.specs.declared.Shown.the-variants.{Nothing, Days, Hours}
 
 -- an unsaid day is 0 0 0
 abbrev pub dayOrZero : Day → Date
@@ -31,31 +27,17 @@ abbrev pub numberOr0 : Said → ℕ
 numberOr0 Unsaid = 0
 numberOr0 (Is n) = n
 
--- words 2 to 13
-unfoldable pub more : Answer → List ℕ
-more (Done n d h m s) =
-    let x = dayOrZero d in
-    x .year ∷ x .month ∷ x .day ∷ flag h ∷ numberOr0 h ∷ flag m ∷ numberOr0 m ∷ flag s ∷ numberOr0 s ∷ 0 ∷ 0 ∷ 0 ∷ []
-more (OpenDay a b) = a .year ∷ a .month ∷ a .day ∷ 0 ∷ 0 ∷ 0 ∷ 0 ∷ 0 ∷ 0 ∷ b .year ∷ b .month ∷ b .day ∷ []
-more (OpenHour a b) = 0 ∷ 0 ∷ 0 ∷ 0 ∷ a ∷ 0 ∷ 0 ∷ 0 ∷ 0 ∷ b ∷ 0 ∷ 0 ∷ []
-more FormatTooLong = replicate 12 0
-more TextTooLong = replicate 12 0
-more (BadConversion p) = replicate 12 0
-more (NoMatch p) = replicate 12 0
-more (OutOfRange p) = replicate 12 0
-more (Contradiction p) = replicate 12 0
-more NoDay = replicate 12 0
-more NoHour = replicate 12 0
+-- words 2 to 13, by what is shown: nothing, two days, or two hours
+unfoldable pub more : Reading → Shown → List ℕ
+more r Nothing =
+    let x = dayOrZero (r .day) in
+    x .year ∷ x .month ∷ x .day
+    ∷ flag (r .hour) ∷ numberOr0 (r .hour)
+    ∷ flag (r .minute) ∷ numberOr0 (r .minute)
+    ∷ flag (r .second) ∷ numberOr0 (r .second)
+    ∷ 0 ∷ 0 ∷ 0 ∷ []
+more r (Days a b) = a .year ∷ a .month ∷ a .day ∷ 0 ∷ 0 ∷ 0 ∷ 0 ∷ 0 ∷ 0 ∷ b .year ∷ b .month ∷ b .day ∷ []
+more r (Hours a b) = 0 ∷ 0 ∷ 0 ∷ 0 ∷ a ∷ 0 ∷ 0 ∷ 0 ∷ 0 ∷ b ∷ 0 ∷ 0 ∷ []
 
-unfoldable pub wordsOf : Answer → List ℕ
-wordsOf a = numberOf a ∷ placeOf a ∷ more a
-
--- what is returned, and the slice afterwards: fourteen words over its front, or nothing where it has fewer entries
-pub record Told : Type 0 where
-  pub result : ℕ
-  pub words : List ℕ
-
-unfoldable pub told : Answer → List ℕ → Told
-told a w =
-    cond (leb 14 (length w)) (record { result = numberOf a; words = wordsOf a ++ drop 14 w })
-    (record { result = noRoom; words = w })
+unfoldable pub wordsOf : Reading → List ℕ
+wordsOf r = r .number ∷ r .place ∷ more r (r .shown)
