@@ -2,7 +2,7 @@
 """Checks that every name that docs/CLAIMS.md cites exists: python3 tests/claims.py
 
 A citation is a code span: `calendar/specs/Calendar.antt#leap` is the definition, theorem or function `leap` of that file under crates/,
-`calendar/must-fail/years_by_julian_rule` an edit, `tests/paper01.py` or any other path with a slash a file of the repository.
+`calendar/must-fail/years_by_julian_rule` an edit, `tests/every_day.py` or any other path with a slash a file of the repository.
 """
 import os
 import re

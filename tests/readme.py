@@ -25,4 +25,6 @@ def main(program):
 
 
 if __name__ == "__main__":
+    if len(sys.argv) != 2:
+        sys.exit("usage: python3 tests/readme.py PROGRAM")
     sys.exit(main(sys.argv[1]))

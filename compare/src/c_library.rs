@@ -1,11 +1,7 @@
-//! The writer against the C library's strftime in the C locale, where the two have the same rules: years of four digits, and every
-//! conversion of paper 01.
-use crate::library;
-use crate::paper01::Calendar;
-use crate::random::Random;
+//! The C library's strftime, in the C locale.
+use crate::paper01::{Calendar, Moment};
 
 #[repr(C)]
-#[derive(Debug)]
 struct Tm {
     sec: i32,
     min: i32,
@@ -20,50 +16,40 @@ struct Tm {
     zone: *const u8,
 }
 
-extern "C" {
-    fn strftime(out: *mut u8, room: usize, format: *const u8, tm: *const Tm) -> usize;
+mod c {
+    extern "C" {
+        pub fn strftime(out: *mut u8, room: usize, format: *const u8, tm: *const super::Tm) -> usize;
+    }
 }
 
-/// The date conversions, on every day.
-const DATES: &[u8] = b"%a %A %b %B %C %d %e %g %G %h %j %m %u %U %V %w %W %y %Y\0";
-/// All that is left, on every eighth day.
-const REST: &[u8] = b"%c|%D|%F|%H %I %k %l %M %n %p %P|%r|%R %S %t %T|%x|%X %% %Ec|%EC %Ex %EX %Ey %EY %Od %Oe %OH %OI %Om %OM %OS %Ou %OU %OV %Ow %OW %Oy\0";
+/// The longest text that is asked for.
+const ROOM: usize = 512;
 
-/// Returns how many days were compared.
-pub fn compare(random: &mut Random, cal: &Calendar, mut differs: impl FnMut(&dyn std::fmt::Debug)) -> usize {
-    let mut days = 0;
-    for (i, d) in cal.days.iter().enumerate() {
-        if d.year < 1000 {
-            continue;
-        }
-        days += 1;
-        let time = random.next();
-        let (hour, minute, second) = (time % 24, time / 24 % 60, time / 1440 % 61);
-        let tm = Tm {
-            sec: second as i32,
-            min: minute as i32,
-            hour: hour as i32,
-            mday: d.day as i32,
-            mon: d.month as i32 - 1,
-            year: d.year as i32 - 1900,
-            wday: d.weekday as i32 % 7,
-            yday: d.day_of_year as i32 - 1,
-            isdst: 0,
-            gmtoff: 0,
-            zone: std::ptr::null(),
-        };
-        let m = [d.year as u32, d.month as u32, d.day as u32, hour as u32, minute as u32, second as u32];
-        for format in [DATES, REST] {
-            if format.len() == REST.len() && i % 8 != 0 {
-                continue;
-            }
-            let (mut theirs, mut ours) = ([0u8; 512], [0u8; 512]);
-            let n = unsafe { strftime(theirs.as_mut_ptr(), theirs.len(), format.as_ptr(), &tm) };
-            let found = library::strftime(&format[..format.len() - 1], &m, &mut ours);
-            if found != (0, n as u32) || ours[..n] != theirs[..n] {
-                differs(&(m, found, String::from_utf8_lossy(&ours[..n]).into_owned(), String::from_utf8_lossy(&theirs[..n]).into_owned()));
-            }
-        }
-    }
-    days
+/// Whether the C library has the same rules: it does not fill years and centuries, and a zero byte ends its format.
+pub fn alike(format: &[u8], m: &Moment) -> bool {
+    !format.contains(&0) && (m[0] >= 1000 || !format.iter().any(|b| b"YGCFc".contains(b)))
+}
+
+/// What the C library writes for a valid moment, which the format's text must show to be less than `ROOM` bytes.
+pub fn strftime(cal: &Calendar, format: &[u8], m: &Moment) -> Vec<u8> {
+    let day = cal.find(m[0], m[1], m[2]);
+    let tm = Tm {
+        sec: m[5] as i32,
+        min: m[4] as i32,
+        hour: m[3] as i32,
+        mday: m[2] as i32,
+        mon: m[1] as i32 - 1,
+        year: m[0] as i32 - 1900,
+        wday: day.weekday as i32 % 7,
+        yday: day.day_of_year as i32 - 1,
+        isdst: 0,
+        gmtoff: 0,
+        zone: std::ptr::null(),
+    };
+    let mut ended = format.to_vec();
+    ended.push(0);
+    let mut out = vec![0; ROOM];
+    let length = unsafe { c::strftime(out.as_mut_ptr(), ROOM, ended.as_ptr(), &tm) };
+    out.truncate(length);
+    out
 }

@@ -1,13 +1,19 @@
-//! Paper 01 once more, in plain Rust: written from the paper's text alone, to be compared with the proved library.
+//! Paper 01 once more, in plain Rust: written from the paper's text alone, to be compared with the proved library and to make vectors.
 //! It shares no code and no table with the library or its bindings, and takes the slow, literal way wherever the
 //! paper names one: weeks are counted by walking the calendar day by day, and a reading is judged against every day.
+//! Python's datetime module judges its calendar (`vectors days` and tests/every_day.py), the paper's own cases its rules (`margins.rs`).
 
 /// The last day of the calendar, 9999-12-31.
 pub const DAYS: usize = 3_652_059;
 
-const WEEKDAYS: [&str; 7] = ["Monday", "Tuesday", "Wednesday", "Thursday", "Friday", "Saturday", "Sunday"];
-const MONTHS: [&str; 12] =
+pub const WEEKDAYS: [&str; 7] = ["Monday", "Tuesday", "Wednesday", "Thursday", "Friday", "Saturday", "Sunday"];
+pub const MONTHS: [&str; 12] =
     ["January", "February", "March", "April", "May", "June", "July", "August", "September", "October", "November", "December"];
+pub const HALVES: [&str; 2] = ["AM", "PM"];
+
+/// The pairs in which E and O are taken.
+pub const PAIRS: [&str; 19] =
+    ["Ec", "EC", "Ex", "EX", "Ey", "EY", "Od", "Oe", "OH", "OI", "Om", "OM", "OS", "Ou", "OU", "OV", "Ow", "OW", "Oy"];
 
 fn leap(year: u32) -> bool {
     year % 4 == 0 && (year % 100 != 0 || year % 400 == 0)
@@ -201,26 +207,19 @@ pub fn items(format: &[u8]) -> Result<Vec<Item>, usize> {
             continue;
         }
         let start = i;
-        let letter = match format.get(i + 1) {
-            Some(b'E') => match format.get(i + 2) {
-                Some(&l) if b"cCxXyY".contains(&l) => {
-                    i += 3;
-                    l
+        let letter = match *format.get(i + 1).ok_or(start)? {
+            b'E' | b'O' => {
+                let pair = format.get(i + 1..i + 3).ok_or(start)?;
+                if !PAIRS.iter().any(|p| p.as_bytes() == pair) {
+                    return Err(start);
                 }
-                _ => return Err(start),
-            },
-            Some(b'O') => match format.get(i + 2) {
-                Some(&l) if b"deHImMSuUVwWy".contains(&l) => {
-                    i += 3;
-                    l
-                }
-                _ => return Err(start),
-            },
-            Some(&l) => {
-                i += 2;
-                l
+                i += 3;
+                pair[1]
             }
-            None => return Err(start),
+            letter => {
+                i += 2;
+                letter
+            }
         };
         match letter {
             b'n' => out.push(Item::Space(10)),
@@ -313,8 +312,8 @@ pub fn written(cal: &Calendar, items: &[Item], m: &Moment) -> Vec<u8> {
             b'A' => WEEKDAYS[d.weekday as usize - 1].to_string(),
             b'b' | b'h' => MONTHS[d.month as usize - 1][..3].to_string(),
             b'B' => MONTHS[d.month as usize - 1].to_string(),
-            b'p' => if m[3] < 12 { "AM" } else { "PM" }.to_string(),
-            b'P' => if m[3] < 12 { "am" } else { "pm" }.to_string(),
+            b'p' => HALVES[m[3] as usize / 12].to_string(),
+            b'P' => HALVES[m[3] as usize / 12].to_lowercase(),
             _ => unreachable!(),
         };
         out.extend_from_slice(shown.as_bytes());
@@ -381,7 +380,7 @@ pub fn read(cal: &Calendar, format: &[u8], text: &[u8]) -> Reading {
 }
 
 /// Kind, width, least and greatest number of a numeric conversion.
-fn numeric(letter: u8) -> Option<(usize, usize, u32, u32)> {
+pub fn numeric(letter: u8) -> Option<(usize, usize, u32, u32)> {
     Some(match letter {
         b'Y' => (1, 4, 1, 9999),
         b'C' => (2, 2, 0, 99),
@@ -461,7 +460,7 @@ pub fn read_items(cal: &Calendar, items: &[Item], text: &[u8]) -> Reading {
                 b'a' | b'A' => (7, name_at(&text[at..], &WEEKDAYS), 1),
                 b'b' | b'B' | b'h' => (4, name_at(&text[at..], &MONTHS), 1),
                 _ => {
-                    let half = ["am", "pm"].iter().position(|h| goes_on(&text[at..], h));
+                    let half = HALVES.iter().position(|h| goes_on(&text[at..], h));
                     (15, half.map(|h| (h as u32, 2)), 0)
                 }
             };

@@ -28,4 +28,14 @@ impl Random {
     pub fn pick<'a, T>(&mut self, all: &'a [T]) -> &'a T {
         &all[self.below(all.len())]
     }
+    /// So many of them, each place at most once.
+    pub fn sample<T: Clone>(&mut self, all: &[T], count: usize) -> Vec<T> {
+        let mut all = all.to_vec();
+        for i in 0..count {
+            let other = i + self.below(all.len() - i);
+            all.swap(i, other);
+        }
+        all.truncate(count);
+        all
+    }
 }

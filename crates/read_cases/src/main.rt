@@ -1,5 +1,5 @@
-// Runs the reader on the cases that tests/read_cases.py makes. The input is pairs of lines: a format, and a text. A line of the output is
-// `number place date hour minute second | shown`: what is unsaid is -, and shown has the first two days or hours of number 10.
+// Runs the reader on the cases that compare/src/bin/vectors/read.rs makes. The input is pairs of lines: a format, and a text. A line of the
+// output is `number place date hour minute second | shown`: what is unsaid is -, and shown has the first two days or hours of number 10.
 use calendar::Date;
 use libc::STDOUT_FILENO;
 use report::line_end;

@@ -1,5 +1,6 @@
-// Runs the writer on the cases that tests/write_cases.py makes. A line of the input is `Y m d H M S B FORMAT`: a moment's six fields, the length of
-// the buffer, at most 200, and the format. A line of the output is `number place [BUFFER]`: the answer, and the buffer, which held # before.
+// Runs the writer on the cases that compare/src/bin/vectors/write.rs makes. A line of the input is `Y m d H M S B FORMAT`: a moment's six
+// fields, the length of the buffer, at most 200, and the format. A line of the output is `number place [BUFFER]`: the answer, and the
+// buffer, which held # before.
 use libc::STDOUT_FILENO;
 use strftime::Fields;
 ghost use Prim.Native.Nat.{_≤_};

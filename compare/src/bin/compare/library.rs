@@ -1,12 +1,13 @@
 //! The proved library, called as C calls it. Every lent array stands between guard entries, which must be as they were.
-use crate::paper01::Moment;
-use crate::random::Random;
+use compare::paper01::Moment;
+use compare::random::Random;
 
 pub const WORDS: usize = 14;
 pub const NO_ROOM: u32 = u32::MAX;
 const GUARD: usize = 24;
 
 mod raw {
+    #[link(name = "larusqem", kind = "static")]
     extern "C" {
         pub fn larusqem_strftime(
             format: *const u8,

@@ -1,15 +1,13 @@
 //! Compares the proved library with an independent implementation of paper 01 (`paper01.rs`) on random cases, and its writer with the
 //! C library's strftime on every day of the years 1000 to 9999. Usage: compare SECONDS [SEED]
-mod c_library;
+mod c_days;
 mod cases;
 mod library;
-mod paper01;
-mod random;
 mod speed;
 
+use compare::paper01::{self, Calendar, Item, Moment, Reading};
+use compare::random::Random;
 use library::{Lent, NO_ROOM, WORDS};
-use paper01::{Calendar, Item, Moment, Reading};
-use random::Random;
 use std::collections::BTreeMap;
 use std::time::{Duration, Instant};
 
@@ -308,9 +306,15 @@ fn search_check(random: &mut Random, cal: &Calendar, tally: &mut Tally) {
 }
 
 fn main() {
-    let mut arguments = std::env::args().skip(1).map(|a| a.parse::<u64>().expect("usage: compare SECONDS [SEED]"));
-    let seconds = arguments.next().unwrap_or(20);
-    let seed = arguments.next().unwrap_or(19_340_305);
+    let arguments: Result<Vec<u64>, _> = std::env::args().skip(1).map(|a| a.parse()).collect();
+    let (seconds, seed) = match arguments.as_deref() {
+        Ok([seconds]) => (*seconds, 19_340_305),
+        Ok([seconds, seed]) => (*seconds, *seed),
+        _ => {
+            eprintln!("usage: compare SECONDS [SEED]");
+            std::process::exit(2)
+        }
+    };
     let mut random = Random(seed);
     let mut tally = Tally::default();
     println!("seed {seed}, {seconds} s of random cases");
@@ -321,7 +325,7 @@ fn main() {
     compare_days(&mut random, &cal, &mut tally);
     println!("{:6.1} s  the calendar, day by day", began.elapsed().as_secs_f64());
 
-    let days = c_library::compare(&mut random, &cal, |case| tally.differs("larusqem_strftime against the C library", case));
+    let days = c_days::compare(&mut random, &cal, |case| tally.differs("larusqem_strftime against the C library", case));
     println!("{:6.1} s  the C library's strftime: {days} days of the years 1000 to 9999, every conversion", began.elapsed().as_secs_f64());
 
     let cases_began = Instant::now();

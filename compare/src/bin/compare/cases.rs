@@ -1,12 +1,10 @@
 //! Random formats, moments and texts: well formed, damaged, contradictory, and nonsense.
-use crate::paper01::{month_length, written, Calendar, Item, Moment};
-use crate::random::Random;
+use compare::paper01::{month_length, written, Calendar, Item, Moment, PAIRS};
+use compare::random::Random;
 
 const DATES: &[u8] = b"YCymdejuwaAbBhUWGgV";
 const TIMES: &[u8] = b"HkIlpPMS";
 const COMPOSITES: &[u8] = b"cxXDFRTr";
-const PAIRS: [&str; 19] =
-    ["Ec", "EC", "Ex", "EX", "Ey", "EY", "Od", "Oe", "OH", "OI", "Om", "OM", "OS", "Ou", "OU", "OV", "Ow", "OW", "Oy"];
 const TYPICAL: [&str; 24] = [
     "%Y-%m-%d %H:%M:%S",
     "%FT%T",

@@ -1,0 +1,123 @@
+//! Inputs for the program date_lines, and what it must write: paper 01's paragraph "Program", each sentence at least once.
+//! For the paper's example, case `paper`, the output is the paper's own.
+use crate::{cat, Counts};
+use compare::paper01::{read, Calendar};
+use std::fs;
+use std::path::Path;
+
+/// The bytes of an input, at most.
+const MOST: usize = 32768;
+
+const PAPER_INPUT: &str = "%d %b %Y %H:%M
+5 Mar 1934 07:08
+29 Feb 1900 07:08
+";
+const PAPER_OUTPUT: &str = "number place date time
+0 16 1934-03-05 07:08:--
+9 1 - --:--:--
+";
+
+const CLOCK: &[u8] = b"%H:%M:%S\n";
+const FULL: &[u8] = &[b'x'; 1024];
+const MARGINS: &[u8] = b"%d %b %Y %H:%M\n5 Mar 1934 07:08\n29 Feb 1900 07:08\n1 jan 1 0:0\n31 December 9999 23:59\n5 Mar 1934 7\n";
+
+/// An hour, minute or second in two digits, or unsaid.
+fn two(said: Option<u32>) -> String {
+    said.map_or("--".to_string(), |n| format!("{n:02}"))
+}
+
+/// What the program writes for an input.
+fn report(cal: &Calendar, input: &[u8]) -> String {
+    if input.len() > MOST {
+        return "too long\n".to_string();
+    }
+    let mut lines: Vec<&[u8]> = input.split(|b| *b == b'\n').collect();
+    if lines[lines.len() - 1].is_empty() {
+        lines.pop(); // what follows the last newline is no line
+    }
+    let mut out = "number place date time\n".to_string();
+    for text in lines.iter().skip(1) {
+        let r = read(cal, lines[0], text);
+        let day = r.day.map_or("-".to_string(), |(y, m, d)| format!("{y:04}-{m:02}-{d:02}"));
+        out += &format!("{} {} {day} {}:{}:{}\n", r.number, r.place, two(r.hour), two(r.minute), two(r.second));
+    }
+    out
+}
+
+/// A format and texts of just so many bytes: the lines again and again, cut at the end.
+fn filled(lines: &[u8], size: usize) -> Vec<u8> {
+    let texts = 1 + lines.iter().position(|b| *b == b'\n').unwrap();
+    lines.iter().chain(lines[texts..].iter().cycle()).take(size).copied().collect()
+}
+
+fn cases() -> Vec<(&'static str, Vec<u8>)> {
+    let any: Vec<u8> = (0..=255).filter(|b| *b != b'\n').collect();
+    let any_ordinary: Vec<u8> = any.iter().flat_map(|b| if *b == b'%' { vec![b'%', b'%'] } else { vec![*b] }).collect();
+    let paper = PAPER_INPUT.as_bytes();
+    vec![
+        // lines
+        ("paper", paper.to_vec()),
+        ("no_last_newline", paper[..paper.len() - 1].to_vec()),
+        ("empty", b"".to_vec()),
+        ("format_only", b"%Y\n".to_vec()),
+        ("format_only_no_newline", b"%Y".to_vec()),
+        ("newline_only", b"\n".to_vec()),
+        ("empty_format", b"\n5 Mar 1934\n\nx".to_vec()),
+        ("empty_texts", b"%n\n\n\n7\n\n".to_vec()),
+        ("empty_text_at_end", b"%H\n7\n\n".to_vec()),
+        // what is said and unsaid
+        ("nothing_said", b"margin\nmargin\nmargins\nMargin\n".to_vec()),
+        ("day_only", b"%F\n1934-03-05\n0001-01-01\n9999-12-31\n0000-01-01\n1-1-1 and more\n".to_vec()),
+        ("clock", cat(&[CLOCK, b"07:08:09\n0:0:0\n23:59:60\n24:0:0\n7:60:0\n7:8:61\n7:8\n 7: 8: 9\n"])),
+        ("hour_only", b"%I %p\n12 AM\n12 PM\n1 am\n11 pm\n0 am\n13 am\n".to_vec()),
+        ("minute_only", b"%M\n7\n59\n60\n".to_vec()),
+        ("second_only", b"%S\n0\n60\n61\n".to_vec()),
+        ("all", b"%c\nMon Mar  5 07:08:09 1934\nTue Mar  5 07:08:09 1934\ntue feb 29 12:00:60 2000\nSun Feb 29 12:00:60 2000\n".to_vec()),
+        // every number that a line can have: the other fields are then unsaid
+        ("number_1", cat(&[&b"%H".repeat(512), b"x\n7\n", &b"7".repeat(1025), b"\n\n"])),
+        ("number_3", b"at %Q\n7\nat \n\n".to_vec()),
+        ("number_3_place_last", cat(&[&FULL[1..], b"%\n7\n"])),
+        ("number_5", cat(&[b"%H%n%%\n7", FULL, b"\n", &FULL[1..], b"\n7%", &FULL[2..], b"\n7 %", &FULL[2..], b"\n"])),
+        ("number_5_before_3", cat(&[b"%Q\n", FULL, b"x\n", FULL, b"\n"])),
+        ("format_of_1024", cat(&[&b"%H".repeat(512), b"\n", &b"07".repeat(512), b"\n", &b"07".repeat(511), b"08\n7\n"])),
+        ("numbers_6_7_8", b"%d %e %b\n5 5 x\n5 32 mar\n5 6 mar\nx\n0 0 mar\n5\n".to_vec()),
+        ("numbers_9_10_day", b"%d %b %I\n30 feb 7\n5 mar 7\n31 Apr 12\n29 feb 12\n".to_vec()),
+        ("numbers_9_10_hour", b"%F %H %p\n2000-02-29 7 PM\n2000-02-29 7 AM\n2000-02-30 7 PM\n2000-02-29 12 pm\n".to_vec()),
+        ("number_10_hour", b"%I:%M\n07:08\n12:00\n00:00\n".to_vec()),
+        // bytes of any value
+        ("bytes_in_texts", cat(&[b"%M", &any[..5], b"\n7", &any, b"\n", &any, b"7\n7\0\n\0\n\xff\n"])),
+        ("bytes_in_format", cat(&[&any_ordinary, b"\n", &any, b"\n", &any[..40], b"\n"])),
+        ("zero_bytes", b"\0%H\0\n\x007\0\n\n\0\0\n".to_vec()),
+        ("carriage_returns", b"%H:%M\r\n7:8\r\n7:8\n".to_vec()),
+        ("tabs", b"%d\t%b%t%Y\n5 \t mar\t1934\n\t5mar1934\n5\tmar\t1934\t\n".to_vec()),
+        // the input's length
+        ("longest", filled(MARGINS, MOST)),
+        ("longest_one_short", filled(MARGINS, MOST - 1)),
+        ("longest_with_newline", cat(&[&filled(MARGINS, MOST - 1), b"\n"])),
+        ("longest_newlines", vec![b'\n'; MOST]),
+        ("longest_format", vec![b'x'; MOST]),
+        ("longest_text", cat(&[CLOCK, &vec![b'7'; MOST - CLOCK.len()]])),
+        ("too_long", filled(MARGINS, MOST + 1)),
+        ("too_long_newlines", vec![b'\n'; MOST + 1]),
+        ("too_long_by_a_newline", cat(&[&filled(MARGINS, MOST), b"\n"])),
+        ("much_too_long", filled(MARGINS, 10 * MOST)),
+    ]
+}
+
+pub fn make(cal: &Calendar, directory: &Path) -> std::io::Result<()> {
+    assert_eq!(report(cal, PAPER_INPUT.as_bytes()), PAPER_OUTPUT);
+    let cases = cases();
+    let mut counts = Counts::default();
+    fs::create_dir_all(directory)?;
+    for (name, input) in &cases {
+        let output = report(cal, input);
+        for line in output.lines().skip(1) {
+            counts.count(format!("number {:>2}", line.split(' ').next().unwrap()));
+        }
+        fs::write(directory.join(name).with_extension("in"), input)?;
+        fs::write(directory.join(name).with_extension("out"), output)?;
+    }
+    println!("date_lines: {} inputs; their lines:", cases.len());
+    counts.print();
+    Ok(())
+}

@@ -1,0 +1,221 @@
+//! Vectors for the writer: the input of the program write_cases, and what it must write.
+//!
+//! A line of the input is `Y m d H M S B FORMAT`: a moment's six fields, in decimal and not always valid, the length of the buffer, and
+//! the format's own bytes up to the newline. A line of the output is `number place [BUFFER]`: the answer, and the whole buffer after the
+//! call, which was filled with # before. A newline that %n wrote stands in the buffer as it is.
+//!
+//! Where the C library's strftime has the same rules, what is written is compared with it too.
+use crate::{cat, Counts};
+use compare::c_library;
+use compare::paper01::{month_length, write, Calendar, Moment, PAIRS};
+use compare::random::Random;
+use std::fs;
+use std::path::Path;
+
+/// The plain conversions but %n, which would break the line.
+const PLAIN: &[u8] = b"YGCygmdHMSeklIjuwUWVaAbBhpPt%DFRTcxXr";
+/// The bytes of a buffer, at most.
+const MOST: usize = 200;
+const MORNING: Moment = [1934, 3, 5, 7, 8, 9];
+
+struct Case {
+    moment: Moment,
+    room: usize,
+    format: Vec<u8>,
+}
+
+struct Cases<'a> {
+    cal: &'a Calendar,
+    all: Vec<Case>,
+}
+
+/// A moment of a day, its time drawn.
+fn timed(random: &mut Random, year: u32, month: u32, day: u32) -> Moment {
+    [year, month, day, random.from(0, 23), random.from(0, 59), *random.pick(&[0, 1, 9, 10, 30, 58, 59, 60])]
+}
+
+/// Valid moments: edges of years, of leap days, of ISO years and of hours, and a few hundred others.
+fn moments(cal: &Calendar) -> Vec<Moment> {
+    let mut random = Random(1);
+    let mut all: Vec<Moment> = Vec::new();
+    for year in [
+        1, 2, 4, 9, 10, 99, 100, 101, 400, 999, 1000, 1001, 1582, 1600, 1700, 1752, 1899, 1900, 1901, 1934, 1969, 1970, 1999, 2000, 2001,
+        2009, 2010, 2016, 2017, 2024, 2038, 2100, 2400, 9996, 9998, 9999,
+    ] {
+        all.push([year, 1, 1, 0, 0, 0]);
+        all.push(timed(&mut random, year, 2, month_length(year, 2)));
+        all.push(timed(&mut random, year, 3, 1));
+        all.push([year, 12, 31, 23, 59, 60]);
+    }
+    // 28 years have every weekday of 1 January, before and after leap years and others
+    for year in 1995..2023 {
+        for (month, day) in [(12, 28), (12, 29), (12, 30), (12, 31), (1, 1), (1, 2), (1, 3), (1, 4)] {
+            all.push(timed(&mut random, year, month, day));
+        }
+    }
+    for hour in 0..24 {
+        all.push([1934, 3, 5, hour, 59 - hour, hour + 37]);
+    }
+    for month in 1..=12 {
+        all.push(timed(&mut random, 2023, month, month + 8));
+    }
+    for _ in 0..200 {
+        let (year, month, day) = random.pick(&cal.days).date();
+        all.push(timed(&mut random, year, month, day));
+    }
+    all
+}
+
+impl Cases<'_> {
+    fn add(&mut self, moment: Moment, room: usize, format: impl AsRef<[u8]>) {
+        self.all.push(Case { moment, room, format: format.as_ref().to_vec() });
+    }
+
+    /// How many bytes a writing takes: what the writer answers where there is no room at all.
+    fn needed(&self, moment: &Moment, format: &[u8]) -> usize {
+        write(self.cal, format, moment, 0).1 as usize
+    }
+
+    fn written(&mut self) {
+        let every = moments(self.cal);
+        let plain: Vec<String> = PLAIN.iter().map(|l| format!("%{}", *l as char)).collect();
+        let pairs: Vec<String> = PAIRS.iter().map(|p| format!("%{p}")).collect();
+        // every conversion on every moment, several in a line
+        let lines = [plain[..30].join("|"), plain[30..].join("|"), pairs.join(" ")];
+        for m in &every {
+            for format in &lines {
+                self.add(*m, self.needed(m, format.as_bytes()) + 5, format);
+            }
+        }
+        // every conversion alone, in a buffer that is longer, just long enough, one byte short, and empty
+        for (place, format) in plain.iter().chain(&pairs).chain([&"%n".to_string()]).enumerate() {
+            for m in every[place % 7..].iter().step_by(83) {
+                let just = self.needed(m, format.as_bytes());
+                self.add(*m, just, format);
+                self.add(*m, just - 1, format);
+            }
+            self.add(MORNING, MOST, format);
+            self.add(MORNING, 0, format);
+        }
+        // texts that fit just, or just not
+        for format in ["", "x", "%%", "margin", "%A, %e %B %Y", "%c", "%c %c", "%r%n%t%x", "at %H:%M%% of %F"] {
+            for m in [MORNING, [1, 1, 1, 0, 0, 0], [2022, 9, 28, 12, 0, 60], [9999, 12, 31, 23, 59, 60]] {
+                let just = self.needed(&m, format.as_bytes());
+                let mut rooms = vec![0, just.saturating_sub(1), just, just + 1, MOST];
+                rooms.dedup();
+                for room in rooms {
+                    self.add(m, room, format);
+                }
+            }
+        }
+        // bytes of every value copy themselves
+        for some in [0..=127, 128..=255] {
+            let format: Vec<u8> = some.filter(|b| !b"%\n".contains(b)).collect();
+            self.add(MORNING, MOST, format);
+        }
+    }
+
+    /// Every refusal, each at several places and before those that come after it.
+    fn refused(&mut self) {
+        let xs = |n: usize| vec![b'x'; n];
+        // 1: also where the moment is not valid, the format unknown and the buffer empty
+        for format in [xs(1025), vec![b'%'; 1025], b"%Y".repeat(600), cat(&[b"%Q", &xs(1023)]), cat(&[b"%", &[0; 2000]])] {
+            self.add(MORNING, MOST, &format);
+            self.add([0, 0, 0, 24, 60, 61], 0, &format);
+        }
+        // and formats of just 1,024 bytes: 4 with what they need, or 3
+        for format in [
+            xs(1024),
+            vec![b'%'; 1024],
+            b"%c".repeat(512),
+            cat(&[&b"%Ec".repeat(341), b"x"]),
+            b"%n".repeat(512),
+            b"%S".repeat(512),
+            cat(&[&xs(1023), b"%"]),
+            cat(&[&xs(1022), b"%E"]),
+            cat(&[&xs(1021), b"%Ed"]),
+            cat(&[&b"%Y".repeat(511), b"%Q"]),
+        ] {
+            self.add(MORNING, MOST, &format);
+            self.add(MORNING, 0, &format);
+            self.add([1934, 3, 5, 7, 8, 61], MOST, &format);
+        }
+        self.bad_moments();
+        // 3: each byte after %, after %E and after %O, which shows too that all the known ones are taken
+        for head in ["%", "%E", "%O"] {
+            for byte in (0..=255).filter(|b| *b != b'\n') {
+                self.add(MORNING, 30, cat(&[head.as_bytes(), &[byte]]));
+            }
+        }
+        for bad in ["%", "%E", "%O", "%Ed", "%Oc", "%Q", "%5m", "%-d", "%_d", "%EE", "%OO", "%E%", "%s", "%z", "%Z", "%+", "%N", "%EQy"] {
+            for before in ["", "x", "%%", "%d", "%Od%Ey", "margin %c ", &"%".repeat(40)] {
+                self.add(MORNING, MOST, format!("{before}{bad}"));
+                self.add(MORNING, 0, format!("{before}{bad} %Y"));
+            }
+        }
+        for format in [&b"%Q%Q"[..], b"%Q%", b"%d%E %Q", b"%%%", b"%%%%%", b"%%Q", b"% d", b"%\0", b"\0%\xff"] {
+            self.add(MORNING, 10, format);
+        }
+    }
+
+    /// 2: each field too low and too high, also where its lowest 8 or 16 bits are not; then the first of several bad ones, before 3 and 4.
+    fn bad_moments(&mut self) {
+        let bad: [&[u32]; 6] = [&[0, 10000], &[0, 13], &[0, 32], &[24], &[60], &[61]];
+        for field in 0..6 {
+            let wide = [(1 << 8) + MORNING[field], (1 << 16) + MORNING[field], 1 << 31, u32::MAX];
+            for value in bad[field].iter().chain(&wide) {
+                let mut m = MORNING;
+                m[field] = *value;
+                self.add(m, MOST, "%c");
+                self.add(m, 3, "%c");
+                self.add(m, MOST, "");
+                self.add(m, 0, "%");
+                for later in field + 1..6 {
+                    let mut m = m;
+                    m[later] = u32::MAX;
+                    self.add(m, MOST, "%F %T");
+                }
+            }
+        }
+        for year in [1, 4, 100, 400, 1582, 1900, 1934, 1996, 2000, 2100, 2400, 9996, 9999] {
+            for (month, day) in
+                [(2, 28), (2, 29), (2, 30), (4, 30), (4, 31), (6, 31), (9, 31), (11, 31), (1, 31), (1, 32), (12, 31), (12, 32)]
+            {
+                self.add([year, month, day, 0, 0, 0], 20, "%F %j");
+            }
+        }
+        for second in [59, 60, 61] {
+            for minute in [0, 59, 60] {
+                for hour in [0, 12, 23, 24] {
+                    self.add([2000, 2, 29, hour, minute, second], 20, "%T %r");
+                }
+            }
+        }
+    }
+}
+
+pub fn make(cal: &Calendar, input_path: &Path, output_path: &Path) -> std::io::Result<()> {
+    let mut cases = Cases { cal, all: Vec::new() };
+    cases.written();
+    cases.refused();
+    let (mut input, mut output) = (Vec::new(), Vec::new());
+    let mut counts = Counts::default();
+    for Case { moment: m, room, format } in &cases.all {
+        assert!(!format.contains(&b'\n') && *room <= MOST);
+        let (number, place, mut buffer) = write(cal, format, m, *room);
+        if number == 0 && c_library::alike(format, m) {
+            assert_eq!(buffer, c_library::strftime(cal, format, m), "the C library, {m:?} {format:?}");
+            counts.count("as the C library writes".to_string());
+        }
+        counts.count(format!("number {number}"));
+        buffer.resize(*room, b'#');
+        let fields: Vec<String> = m.iter().map(|field| field.to_string()).collect();
+        input.extend(cat(&[fields.join(" ").as_bytes(), format!(" {room} ").as_bytes(), format, b"\n"]));
+        output.extend(cat(&[format!("{number} {place} [").as_bytes(), &buffer, b"]\n"]));
+    }
+    fs::write(input_path, &input)?;
+    fs::write(output_path, &output)?;
+    println!("write_cases: {} cases, {} and {} bytes", cases.all.len(), input.len(), output.len());
+    counts.print();
+    Ok(())
+}
