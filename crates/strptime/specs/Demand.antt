@@ -6,7 +6,7 @@ use lib.ListN.{length}
 use Rattle.calendar.specs.Calendar.{dateOf}
 use Rattle.calendar.specs.declared.Date.{Date}
 use Rattle.format.specs.Opening.{Whole, opening, most}
-use Rattle.judge.specs.Demand.{NoneBears, IsDay, DayAgrees, Only, DayJudged, HourJudged}
+use Rattle.judge.specs.Demand.{NoDayFact, IsDay, DayAgrees, Only, DayJudged, HourJudged}
 use Rattle.judge.specs.declared.Verdict.{Verdict}
 use Rattle.strptime.specs.Answers.{withDay, reading}
 use Rattle.strptime.specs.Reading.{start, stays, readAll}
@@ -36,5 +36,5 @@ pub record Answered (f s : List ℕ) (t : State) : Type 0 where
 -- and where a finished reading leaves the day unsaid, no fact bears on it.
 pub record NoneInvented (f s : List ℕ) (t : State) : Type 0 where
   pub handed-out : (n : ℕ) (x : Date) (h m c : Said) → reading f s ≡ Done n (On x) h m c
-      → (NoneBears (t .facts) 1 12 → ⊥) × (k : ℕ) × (x ≡ dateOf k) × Only IsDay (DayAgrees (t .facts)) k
-  pub unsaid : (n : ℕ) (h m c : Said) → reading f s ≡ Done n NoDate h m c → NoneBears (t .facts) 1 12
+      → (NoDayFact (t .facts) → ⊥) × (k : ℕ) × (x ≡ dateOf k) × Only IsDay (DayAgrees (t .facts)) k
+  pub unsaid : (n : ℕ) (h m c : Said) → reading f s ≡ Done n NoDate h m c → NoDayFact (t .facts)
