@@ -9,7 +9,7 @@ use Rattle.laws.proofs.Cases.{clash}
 use Rattle.calendar.specs.Calendar.{dateOf}
 use Rattle.calendar.specs.declared.Date.{Date}
 use Rattle.format.specs.Opening.{most}
-use Rattle.judge.specs.Demand.{NoneBears, IsDay, DayAgrees, Only, DayJudged}
+use Rattle.judge.specs.Demand.{NoDayFact, IsDay, DayAgrees, Only, DayJudged}
 use Rattle.judge.specs.Verdicts.{dayVerdict, hourVerdict}
 use Rattle.judge.specs.declared.Verdict.{Verdict}
 use Rattle.judge.specs.declared.Verdict.the-variants.{Unsaid as NotSaid, Impossible, Open, Agreed}
@@ -51,7 +51,7 @@ done-day t d e (Agreed k) n h m c q = cc
 
 module _ (f s : List ℕ) (t : State) (m : Matched f s t) where
   handed : (v w : Verdict) → DayJudged (t .facts) v → (n : ℕ) (x : Date) (h l c : Said) → withDay t v w ≡ Done n (On x) h l c
-      → (NoneBears (t .facts) 1 12 → ⊥) × (k : ℕ) × (x ≡ dateOf k) × Only IsDay (DayAgrees (t .facts)) k
+      → (NoDayFact (t .facts) → ⊥) × (k : ℕ) × (x ≡ dateOf k) × Only IsDay (DayAgrees (t .facts)) k
   unfolding withDay
   handed NotSaid w j n x h l c q = let e = done-day t NoDate (On x) w n h l c q in clash (cc)
   handed Impossible w j n x h l c q = clash (cc)
@@ -61,7 +61,7 @@ module _ (f s : List ℕ) (t : State) (m : Matched f s t) where
       let r = j .agreed k .0 refl in
       (r .0, k, (cc), r .1)
 
-  left : (v w : Verdict) → DayJudged (t .facts) v → (n : ℕ) (h l c : Said) → withDay t v w ≡ Done n NoDate h l c → NoneBears (t .facts) 1 12
+  left : (v w : Verdict) → DayJudged (t .facts) v → (n : ℕ) (h l c : Said) → withDay t v w ≡ Done n NoDate h l c → NoDayFact (t .facts)
   unfolding withDay
   left NotSaid w j n h l c q = j .unsaid .0 refl
   left Impossible w j n h l c q = clash (cc)
