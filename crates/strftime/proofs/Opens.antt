@@ -75,13 +75,3 @@ module _ (f : List ℕ) {r : Opened} (a : r ≡ opened f) where
   unfolding opened
   opened-long e =
       leb-false (length f) longest (when-long (leb (length f) longest) (opening f .ended) (length elements) (sym a ∙ e))
-
-pub conversion-narrow : (c : ℕ) → conversionOf c .width ≤ 9
-unfolding computes every
-conversion-narrow c = leb→le (conversionOf c .width) 9 (conversion-passes (λ x. leb (x .width) 9) c tt tt)
-
-pub entries-most : (n : ℕ) (es : List ℕ) → elementsIn n es ≤ n
-unfolding elementsIn
-entries-most zero es = omega arith
-entries-most (suc n) [] = omega arith
-entries-most (suc n) (e ∷ es) = picked (λ (k : ℕ). k ≤ suc n) (isElement e) (omega (arith, entries-most n es)) (omega arith)

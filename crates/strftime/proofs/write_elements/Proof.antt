@@ -1,7 +1,7 @@
 -- `strftime::write_elements` meets its contract: 2 and 3 are answered here.
 use native.Mathlib.Omega.{arith}
 use Rattle.format.specs.Opening.{mostElements}
-use Rattle.strftime.proofs.Opens.{entries-most}
+use Rattle.strftime.proofs.Lengths.{few-counted}
 use Rattle.strftime.proofs.Order.{bad-fields, bad-entry, all-elements}
 use borrow.Author.Needs.{needs}
 use Rattle.strftime.proofs.write_elements.Statement.{statement}
@@ -25,7 +25,7 @@ returns c = bad-entry _ (c .before .before .before .before .before .moment-of .e
 write-opened-requires : tie.Need-write-opened-requires
 write-opened-requires c κs =
     let e = c .before .before in
-    omega (arith, entries-most mostElements (e .before .before .before .before .before .before .before .args .elements .now), e .elements-in .ensures)
+    omega (arith, few-counted mostElements (e .before .before .before .before .before .before .before .args .elements .now), e .elements-in .ensures)
 
 returns-2 : tie.Need-returns-2
 returns-2 c = bad-fields _ (c .before .before .before .moment-of .ensures) _ _ (c .before .field .given .1)
