@@ -160,3 +160,7 @@ module _ (s : List ℕ) (at : ℕ) (h : at ≤ length s) where
   sound e =
       let c = conversionOf (e - 256) in
       picked (Sound s) (ltb e 256) (sound-byte e) (sound-form (c .form) c (conversion-small (e - 256)))
+
+pub fact-fits : (e : ℕ) (s : List ℕ) (at : ℕ) → at ≤ length s → {m : Item} {k n from next : ℕ} → m ≡ readElement e s at → m ≡ Fact k n from next → (k < 18) × (n < 100000)
+unfolding Sound
+fact-fits e s at h g f = let r = rw (← g, f) at (sound s at h e) in (r .0, r .1)

@@ -5,103 +5,117 @@ use mathlib.Core.List.{List}
 use lib.Dec.{eqb, leb}
 use lib.ListN.{length}
 use Rattle.calendar.specs.Calendar.{dateOf}
-use Rattle.format.specs.Opening.{Opening, Ended, Whole, BadAt, opening, most}
+use Rattle.format.specs.Opening.{Ended, Whole, BadAt, opening, most as longest}
 use Rattle.judge.specs.Agreement.{said}
 use Rattle.judge.specs.Verdicts.{dayVerdict, hourVerdict}
 use Rattle.judge.specs.declared.Verdict.{Verdict}
 use Rattle.judge.specs.declared.Verdict.the-variants.{Unsaid as NotSaid, Impossible, Open, Agreed}
 use Rattle.strptime.specs.Reading.{start, readAll}
 use Rattle.strptime.specs.declared.Answer.{Answer}
-use Rattle.strptime.specs.declared.Answer.the-variants.{Done, FormatTooLong, TextTooLong, BadConversion, NoMatch, OutOfRange, Contradiction, NoDay, NoHour, OpenDay, OpenHour}
+use Rattle.strptime.specs.declared.Answer.the-variants.{Done, FormatTooLong, TextTooLong, BadConversion}
+use Rattle.strptime.specs.declared.Answer.the-variants.{NoMatch, OutOfRange, Contradiction, NoDay, NoHour, OpenDay, OpenHour}
 use Rattle.strptime.specs.declared.Day.{Day}
 use Rattle.strptime.specs.declared.Day.the-variants.{NoDate, On}
 use Rattle.strptime.specs.declared.Outcome.{Outcome}
 use Rattle.strptime.specs.declared.Outcome.the-variants.{Read, Mismatch, Range, Conflict}
+use Rattle.strptime.specs.declared.Reading.{Reading}
 use Rattle.strptime.specs.declared.Said.{Said}
 use Rattle.strptime.specs.declared.Said.the-variants.{Unsaid, Is}
+use Rattle.strptime.specs.declared.Shown.{Shown}
+use Rattle.strptime.specs.declared.Shown.the-variants.{Nothing, Days, Hours}
 use Rattle.strptime.specs.declared.State.{State}
+
+-- ---- the paper's numbers
+
+-- a number and a place, and what is shown: "Whatever a row does not name comes back zero or unsaid"
+unfoldable pub showing : ℕ → ℕ → Shown → Reading
+showing n p x = record { number = n; place = p; day = NoDate; hour = Unsaid; minute = Unsaid; second = Unsaid; shown = x }
+
+unfoldable pub refused : ℕ → ℕ → Reading
+refused n p = showing n p Nothing
+
+-- 0: "first unread offset of the text", and "day, hour, minute, second, each said or unsaid"
+unfoldable pub finished : ℕ → Day → Said → Said → Said → Reading
+finished p d h m s = record { number = 0; place = p; day = d; hour = h; minute = m; second = s; shown = Nothing }
+
+-- the paper's number, place and values for each answer
+unfoldable pub readingOf : Answer → Reading
+readingOf (Done p d h m s) = finished p d h m s
+readingOf FormatTooLong = refused 1 0
+readingOf TextTooLong = refused 5 0
+readingOf (BadConversion p) = refused 3 p
+readingOf (NoMatch p) = refused 6 p
+readingOf (OutOfRange p) = refused 7 p
+readingOf (Contradiction p) = refused 8 p
+readingOf NoDay = refused 9 1
+readingOf NoHour = refused 9 2
+readingOf (OpenDay a b) = showing 10 1 (Days a b)
+readingOf (OpenHour a b) = showing 10 2 (Hours a b)
+
+-- ---- 9 and 10
 
 -- what was said of a kind, as an answer gives it
 unfoldable pub saidOf : ℕ → Said
 saidOf s = cond (eqb s 0) Unsaid (Is (s - 1))
 
--- a finished reading: "day, hour, minute, second, each said or unsaid"
-unfoldable pub done : State → Day → Said → Answer
-done t d h = Done (t .at) d h (saidOf (said (t .facts) 16)) (saidOf (said (t .facts) 17))
+-- a finished reading "answers the number said, or unsaid where none was"
+unfoldable pub done : State → Day → Said → Reading
+done t d h = finished (t .at) d h (saidOf (said (t .facts) 16)) (saidOf (said (t .facts) 17))
 
 -- then 9 or 10 for the hour: "A reading refused for its hour hands out no day, even where one agreed"
-unfoldable pub withHour : State → Day → Verdict → Answer
+unfoldable pub withHour : State → Day → Verdict → Reading
 withHour t d NotSaid = done t d Unsaid
-withHour t d Impossible = NoHour
-withHour t d (Open a b) = OpenHour a b
+withHour t d Impossible = refused 9 2
+withHour t d (Open a b) = showing 10 2 (Hours a b)
 withHour t d (Agreed h) = done t d (Is h)
 
 -- 9 or 10 for the day first, by the verdicts on the day and on the hour
-unfoldable pub withDay : State → Verdict → Verdict → Answer
+unfoldable pub withDay : State → Verdict → Verdict → Reading
 withDay t NotSaid w = withHour t NoDate w
-withDay t Impossible w = NoDay
-withDay t (Open a b) w = OpenDay (dateOf a) (dateOf b)
+withDay t Impossible w = refused 9 1
+withDay t (Open a b) w = showing 10 1 (Days (dateOf a) (dateOf b))
 withDay t (Agreed k) w = withHour t (On (dateOf k)) w
 
-unfoldable pub judged : State → Answer
+unfoldable pub judged : State → Reading
 judged t = withDay t (dayVerdict (t .facts)) (hourVerdict (t .facts))
 
--- what the elements' reading comes to
-unfoldable pub concluded : State → Outcome → Answer
+-- ---- the whole order
+
+-- 6, 7 or 8 where the reading of the elements met one, else the judging
+unfoldable pub concluded : State → Outcome → Reading
 concluded t Read = judged t
-concluded t (Mismatch p) = NoMatch p
-concluded t (Range p) = OutOfRange p
-concluded t (Conflict p) = Contradiction p
+concluded t (Mismatch p) = refused 6 p
+concluded t (Range p) = refused 7 p
+concluded t (Conflict p) = refused 8 p
 
 -- a text read by elements
-unfoldable pub readBy : List ℕ → List ℕ → Answer
+unfoldable pub readBy : List ℕ → List ℕ → Reading
 readBy es s = let r = readAll es s start in concluded (r .state) (r .outcome)
 
--- a text read by the elements of a format that was opened before
-unfoldable pub readElements : List ℕ → List ℕ → Answer
-readElements es s = let read = readBy es s in cond (leb (length s) most) read TextTooLong
-
-unfoldable pub readOpened : Opening → List ℕ → Answer
-readOpened o s = go (o .ended)
+-- 3, then by the elements of a format
+unfoldable pub byFormat : List ℕ → List ℕ → Reading
+byFormat f s = go (opening f .ended)
   where
-    go : Ended → Answer
-    go Whole = readBy (o .elements) s
-    go (BadAt p) = BadConversion p
+    go : Ended → Reading
+    go Whole = readBy (opening f .elements) s
+    go (BadAt p) = refused 3 p
+
+-- the same by the elements of a format that was opened before: 3 at the first entry that no format opens to
+unfoldable pub byElements : List ℕ → List ℕ → Reading
+byElements es s =
+    readBy es s
 
 -- "Reader's order: 1, 5, 3, then the first of 6, 7, 8 met from left to right, then 9 or 10 for the day, then 9 or 10 for the hour"
-unfoldable pub reading : List ℕ → List ℕ → Answer
+unfoldable pub reading : List ℕ → List ℕ → Reading
 reading f s =
-    let rest = readOpened (opening f) s in
-    cond (leb (length f) most) (cond (leb (length s) most) rest TextTooLong) FormatTooLong
+    let rest = byFormat f s in
+    cond (leb (length f) longest) (cond (leb (length s) longest) rest (refused 5 0)) (refused 1 0)
 
--- the paper's number and place for each answer
-unfoldable pub numberOf : Answer → ℕ
-numberOf (Done n d h m s) = 0
-numberOf FormatTooLong = 1
-numberOf TextTooLong = 5
-numberOf (BadConversion p) = 3
-numberOf (NoMatch p) = 6
-numberOf (OutOfRange p) = 7
-numberOf (Contradiction p) = 8
-numberOf NoDay = 9
-numberOf NoHour = 9
-numberOf (OpenDay a b) = 10
-numberOf (OpenHour a b) = 10
-
-unfoldable pub placeOf : Answer → ℕ
-placeOf (Done n d h m s) = n
-placeOf FormatTooLong = 0
-placeOf TextTooLong = 0
-placeOf (BadConversion p) = p
-placeOf (NoMatch p) = p
-placeOf (OutOfRange p) = p
-placeOf (Contradiction p) = p
-placeOf NoDay = 1
-placeOf NoHour = 2
-placeOf (OpenDay a b) = 1
-placeOf (OpenHour a b) = 2
+-- by elements: 5, 3, and so on
+unfoldable pub elementsReading : List ℕ → List ℕ → Reading
+elementsReading es s = let rest = byElements es s in cond (leb (length s) longest) rest (refused 5 0)
 
 -- everything here, for proofs that compute
 unfoldable pub computes : Unit {0}
-unfolding saidOf done withHour withDay judged concluded readBy readElements readOpened reading numberOf placeOf
+unfolding showing refused finished readingOf saidOf done withHour withDay judged concluded readBy byFormat byElements reading elementsReading
 computes = tt

@@ -21,6 +21,10 @@ unsaid = record { said = replicate 18 0 }
 unfoldable pub start : State
 start = record { facts = unsaid; at = 0 }
 
+-- a reading with what was said so far, at an offset of the text
+abbrev pub here : List ℕ → ℕ → State
+here said at = record { facts = record { said = said }; at = at }
+
 -- a reading that goes on, and one that is refused and stays where it was
 unfoldable pub goes : Facts → ℕ → Stepped
 goes f at = record { state = record { facts = f; at = at }; outcome = Read }
@@ -29,13 +33,14 @@ unfoldable pub stays : State → Outcome → Stepped
 stays t o = record { state = t; outcome = o }
 
 -- the facts with one more
-unfoldable pub told : Facts → ℕ → ℕ → Facts
-told f k n = record { said = set (f .said) k (suc n) }
+unfoldable pub noted : Facts → ℕ → ℕ → Facts
+noted f k n = record { said = set (f .said) k (suc n) }
 
 -- "Saying the same thing twice is allowed", saying it differently is 8
 unfoldable pub tell : State → ℕ → ℕ → ℕ → ℕ → Stepped
 tell t k n from next =
-    cond (eqb (said (t .facts) k) 0 || eqb (said (t .facts) k) (suc n)) (goes (told (t .facts) k n) next) (stays t (Conflict from))
+    cond (eqb (said (t .facts) k) 0 || eqb (said (t .facts) k) (suc n)) (goes (noted (t .facts) k n) next)
+    (stays t (Conflict from))
 
 unfoldable pub taken : State → Item → Stepped
 taken t (Skip next) = goes (t .facts) next
@@ -63,5 +68,5 @@ readAll (e ∷ es) s t =
 
 -- everything here, for proofs that compute
 unfoldable pub computes : Unit {0}
-unfolding unsaid start goes stays told tell taken stepOn isRead readAll
+unfolding unsaid start goes stays noted tell taken stepOn isRead readAll
 computes = tt

@@ -16,10 +16,21 @@ ghost use Rattle.strptime.specs.Elements.{readByte, readNumber, fromSund
 
 // What an element found: nothing to say, a fact with the offset of its first digit or letter, or a refusal with its place.
 pub enum Item {
-    Skip(usize),
-    Fact(u32, u32, usize, usize),
-    NoMatch(usize),
-    OutOfRange(usize),
+    Skip {
+        next: usize,
+    },
+    Fact {
+        kind: u32,
+        number: u32,
+        from: usize,
+        next: usize,
+    },
+    NoMatch {
+        at: usize,
+    },
+    OutOfRange {
+        at: usize,
+    },
 }
 
 fn read_byte(b: u32, s: &[u8], at: usize) -> Item
@@ -27,15 +38,17 @@ fn read_byte(b: u32, s: &[u8], at: usize) -> Item
     ensures { λ r. ⌜ r ≡ readByte b (now (s .entry)) at ⌝ }
 {
     if is_space(b as u8) {
-        return Item::Skip(skip_space(s, at));
+        return Item::Skip {
+            next: skip_space(s, at),
+        };
     }
     if s.len() <= at {
-        return Item::NoMatch(at);
+        return Item::NoMatch { at };
     }
     if s[at] != b as u8 {
-        return Item::NoMatch(at);
+        return Item::NoMatch { at };
     }
-    Item::Skip(at + 1)
+    Item::Skip { next: at + 1 }
 }
 
 fn read_number(c: Conversion, s: &[u8], at: usize) -> Item
@@ -45,30 +58,50 @@ fn read_number(c: Conversion, s: &[u8], at: usize) -> Item
     let from = skip_space(s, at);
     let digits = read_digits(s, from, c.width);
     if digits.count == 0 {
-        return Item::NoMatch(from);
+        return Item::NoMatch { at: from };
     }
     if digits.value < c.low {
-        return Item::OutOfRange(from);
+        return Item::OutOfRange { at: from };
     }
     if c.high < digits.value {
-        return Item::OutOfRange(from);
+        return Item::OutOfRange { at: from };
     }
-    Item::Fact(c.kind, digits.value, from, from + digits.count)
+    Item::Fact {
+        kind: c.kind,
+        number: digits.value,
+        from,
+        next: from + digits.count,
+    }
 }
 
 fn from_sunday(item: Item) -> Item
     ensures { λ r. ⌜ r ≡ fromSunday item ⌝ }
 {
     match item {
-        Item::Fact(kind, number, from, next) => {
+        Item::Fact {
+            kind,
+            number,
+            from,
+            next,
+        } => {
             if number == 0 {
-                return Item::Fact(kind, 7, from, next);
+                return Item::Fact {
+                    kind,
+                    number: 7,
+                    from,
+                    next,
+                };
             }
-            Item::Fact(kind, number, from, next)
+            Item::Fact {
+                kind,
+                number,
+                from,
+                next,
+            }
         }
-        Item::Skip(next) => Item::Skip(next),
-        Item::NoMatch(p) => Item::NoMatch(p),
-        Item::OutOfRange(p) => Item::OutOfRange(p),
+        Item::Skip { next } => Item::Skip { next },
+        Item::NoMatch { at } => Item::NoMatch { at },
+        Item::OutOfRange { at } => Item::OutOfRange { at },
     }
 }
 
@@ -77,13 +110,13 @@ fn read_named(c: Conversion, s: &[u8], at: usize) -> Item
     ensures { λ r. ⌜ r ≡ readNamed c (now (s .entry)) at ⌝ }
 {
     match read_name(names_for(c.kind), s, at) {
-        NameRead::Found { index, length } => Item::Fact(
-            c.kind,
-            value_at(c.kind, index as u8),
-            at,
-            at + length,
-        ),
-        NameRead::Nothing => Item::NoMatch(at),
+        NameRead::Found { index, length } => Item::Fact {
+            kind: c.kind,
+            number: value_at(c.kind, index as u8),
+            from: at,
+            next: at + length,
+        },
+        NameRead::Nothing => Item::NoMatch { at },
     }
 }
 
@@ -99,7 +132,7 @@ fn read_conversion(c: Conversion, s: &[u8], at: usize) -> Item
         Form::Short => read_named(c, s, at),
         Form::Full => read_named(c, s, at),
         Form::Lower => read_named(c, s, at),
-        Form::Unknown => Item::NoMatch(at),
+        Form::Unknown => Item::NoMatch { at },
     }
 }
 
