@@ -3,3 +3,4 @@ pub mod Sound
 pub mod Ways
 pub mod Walk
 pub mod Opens
+pub mod Places
