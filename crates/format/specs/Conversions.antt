@@ -1,56 +1,68 @@
--- The conversions of paper 01: one row for each letter, with its kind of fact ("Kinds of fact"), its form and width ("What is written") and its range ("Ranges").
+-- The conversions of paper 01: one row for each letter, with its kind of fact ("Kinds of fact"), its form and width ("What is written")
+-- and its range ("Ranges"); and the composites, each with its own format.
 use Prim.Native.Char.{Char, code}
 use Prim.Native.Nat.{ℕ}
-use mathlib.Core.Bool.{cond}
-use mathlib.Core.List.{List, [], _∷_}
+use Prim.Native.String.{String}
+use mathlib.Core.Bool.{Bool, true, false, cond}
+use mathlib.Core.List.{List, [], _∷_, map}
 use lib.Dec.{eqb}
+use Rattle.laws.specs.Bytes.{bytes}
+use Rattle.kinds.specs.Kinds as kinds
+use Rattle.text.specs.declared.names.Names.the-variants.{Weekdays, Months, Halves}
 use Rattle.format.specs.declared.conversions.Conversion.{Conversion}
 use Rattle.format.specs.declared.conversions.Form.{Form}
 use Rattle.format.specs.declared.conversions.Form.the-variants.{Zeros, Blanks, FromSunday, Short, Full, Lower, Unknown}
+
+-- a byte is one of these
+unfoldable pub among : ℕ → List ℕ → Bool
+among b [] = false
+among b (a ∷ s) = let more = among b s in cond (eqb b a) true more
+
+-- ---- conversions that are read and written themselves
 
 -- a letter and its row
 pub record Row : Type 0 where
   pub letter : ℕ
   pub row : Conversion
 
--- a number of some width and range
-number : Char → ℕ → Form → ℕ → ℕ → ℕ → Row
-number c k f w l h = record { letter = code c; row = record { kind = k; form = f; width = w; low = l; high = h } }
+-- a number: its form, width and range
+numeric : Char → ℕ → Form → ℕ → ℕ → ℕ → Row
+numeric c k f w l h = record { letter = code c; row = record { kind = k; form = f; width = w; low = l; high = h } }
 
 -- a name
-name : Char → ℕ → Form → Row
-name c k f = number c k f 0 0 0
+named : Char → ℕ → Form → Row
+named c k f = numeric c k f 0 0 0
 
 unfoldable pub rows : List Row
-unfolding number name
+unfolding numeric named
 rows =
-    number "Y" 1 Zeros 4 1 9999
-    ∷ number "C" 2 Zeros 2 0 99
-    ∷ number "y" 3 Zeros 2 0 99
-    ∷ number "m" 4 Zeros 2 1 12
-    ∷ name "b" 4 Short
-    ∷ name "h" 4 Short
-    ∷ name "B" 4 Full
-    ∷ number "d" 5 Zeros 2 1 31
-    ∷ number "e" 5 Blanks 2 1 31
-    ∷ number "j" 6 Zeros 3 1 366
-    ∷ number "u" 7 Zeros 1 1 7
-    ∷ number "w" 7 FromSunday 1 0 6
-    ∷ name "a" 7 Short
-    ∷ name "A" 7 Full
-    ∷ number "U" 8 Zeros 2 0 53
-    ∷ number "W" 9 Zeros 2 0 53
-    ∷ number "G" 10 Zeros 4 1 9999
-    ∷ number "g" 11 Zeros 2 0 99
-    ∷ number "V" 12 Zeros 2 1 53
-    ∷ number "H" 13 Zeros 2 0 23
-    ∷ number "k" 13 Blanks 2 0 23
-    ∷ number "I" 14 Zeros 2 1 12
-    ∷ number "l" 14 Blanks 2 1 12
-    ∷ name "p" 15 Full
-    ∷ name "P" 15 Lower
-    ∷ number "M" 16 Zeros 2 0 59
-    ∷ number "S" 17 Zeros 2 0 60
+    numeric "Y" kinds.year Zeros 4 1 9999
+    ∷ numeric "C" kinds.century Zeros 2 0 99
+    ∷ numeric "y" kinds.yearInCentury Zeros 2 0 99
+    ∷ numeric "m" kinds.month Zeros 2 1 12
+    ∷ named "b" kinds.month (Short Months)
+    ∷ named "h" kinds.month (Short Months)
+    ∷ named "B" kinds.month (Full Months)
+    ∷ numeric "d" kinds.day Zeros 2 1 31
+    ∷ numeric "e" kinds.day Blanks 2 1 31
+    ∷ numeric "j" kinds.dayOfYear Zeros 3 1 366
+    ∷ numeric "u" kinds.weekday Zeros 1 1 7
+    ∷ numeric "w" kinds.weekday FromSunday 1 0 6
+    ∷ named "a" kinds.weekday (Short Weekdays)
+    ∷ named "A" kinds.weekday (Full Weekdays)
+    ∷ numeric "U" kinds.sundayWeek Zeros 2 0 53
+    ∷ numeric "W" kinds.mondayWeek Zeros 2 0 53
+    ∷ numeric "G" kinds.isoYear Zeros 4 1 9999
+    ∷ numeric "g" kinds.isoYearInCentury Zeros 2 0 99
+    ∷ numeric "V" kinds.isoWeek Zeros 2 1 53
+    ∷ numeric "H" kinds.hour Zeros 2 0 23
+    ∷ numeric "k" kinds.hour Blanks 2 0 23
+    ∷ numeric "I" kinds.hourOfTwelve Zeros 2 1 12
+    ∷ numeric "l" kinds.hourOfTwelve Blanks 2 1 12
+    ∷ named "p" kinds.halfOfDay (Full Halves)
+    ∷ named "P" kinds.halfOfDay (Lower Halves)
+    ∷ numeric "M" kinds.minute Zeros 2 0 59
+    ∷ numeric "S" kinds.second Zeros 2 0 60
     ∷ []
 
 -- the row of a letter among some rows; a byte that is no conversion's letter has the form Unknown
@@ -61,7 +73,46 @@ find c (r ∷ rs) = let more = find c rs in cond (eqb c (r .letter)) (r .row) mo
 unfoldable pub conversionOf : ℕ → Conversion
 conversionOf c = find c rows
 
--- all that a row is found by
+-- a byte is a conversion's letter
+unfoldable pub isConversion : ℕ → Bool
+isConversion b = among b (map (λ (r : Row). r .letter) rows)
+
+-- ---- composites
+
+-- a letter and its own format
+pub record Composite : Type 0 where
+  pub letter : ℕ
+  pub format : List ℕ
+
+composite : Char → String → Composite
+composite c s = record { letter = code c; format = bytes s }
+
+unfoldable pub composites : List Composite
+unfolding composite
+composites =
+    composite "c" "%a %b %e %T %Y"
+    ∷ composite "x" "%D"
+    ∷ composite "X" "%T"
+    ∷ composite "D" "%m/%d/%y"
+    ∷ composite "F" "%Y-%m-%d"
+    ∷ composite "R" "%H:%M"
+    ∷ composite "T" "%H:%M:%S"
+    ∷ composite "r" "%I:%M:%S %p"
+    ∷ []
+
+-- the own format of a letter among some composites; of any other byte, the empty one
+unfoldable pub formatOf : ℕ → List Composite → List ℕ
+formatOf c [] = []
+formatOf c (x ∷ xs) = let more = formatOf c xs in cond (eqb c (x .letter)) (x .format) more
+
+unfoldable pub ownFormat : ℕ → List ℕ
+ownFormat c = formatOf c composites
+
+-- a byte is a composite's letter
+unfoldable pub isComposite : ℕ → Bool
+isComposite b = among b (map (λ (x : Composite). x .letter) composites)
+
+-- everything here, for proofs that compute
 unfoldable pub computes : Unit {0}
-unfolding rows find conversionOf
+unfolding bytes among rows find conversionOf isConversion composites formatOf ownFormat isComposite
 computes = tt

@@ -1,14 +1,8 @@
--- Lists in a specification: a test at each entry, and one list over the start of another.
-use Prim.Native.Nat.{ℕ}
+-- Lists in a specification: a test at each entry.
 use mathlib.Core.Bool.{Bool, true, _&&_}
-use mathlib.Core.List.{List, [], _∷_, _++_}
-use lib.ListN.{length, take, drop}
+use mathlib.Core.List.{List, [], _∷_}
 
 -- a test passes at each entry
 unfoldable pub every : {A : Type 0} → (A → Bool) → List A → Bool
 every p [] = true
 every p (x ∷ s) = p x && every p s
-
--- a list over the start of another, as much of it as that has room for; every other entry stays
-unfoldable pub overlaid : List ℕ → List ℕ → List ℕ
-overlaid x buf = take (length buf) x ++ drop (length x) buf

@@ -10,7 +10,7 @@ use borrow.Author.Tests.{not-true, not-false, leb-true}
 use lib.Dec.{eqb, leb, lit<}
 use lib.ListN.{length, getD, drop, set, length-set, drop-of-length-le}
 use lib.Seq.{drop-cons, getD-set-same, drop-set-lt}
-use Rattle.text.specs.Digits.{digit, leading, number, isDigit, digitRun, decimal, readDigits}
+use Rattle.text.specs.Digits.{digit, leading, filled, isDigit, digitRun, decimal, readDigits}
 use Rattle.text.specs.declared.digits.Digits.{Digits}
 
 -- ---- writing
@@ -28,16 +28,16 @@ place f n buf {b} (suc i) z h e =
     let q : suc i - 1 ≡ i = omega arith in
     rw (q, drop-set buf i b h, e, append-assoc)
 
-pub nothing : (f n : ℕ) (buf : List ℕ) → length buf ≡ 0 → buf ≡ number f (length buf) n
-unfolding number
+pub nothing : (f n : ℕ) (buf : List ℕ) → length buf ≡ 0 → buf ≡ filled f (length buf) n
+unfolding filled
 nothing f n [] e = refl
 nothing f n (x ∷ xs) e = absurd (omega arith)
 
 -- the whole of a width: its last digit, stored first, and the places before it
 pub whole : (f n : ℕ) (buf : List ℕ) {b : ℕ} {out : List ℕ} → 0 < length buf → b ≡ digit (n % 10)
     → out ≡ leading f (length buf - 1) (n / 10) ++ drop (length buf - 1) (set buf (length buf - 1) b)
-    → out ≡ number f (length buf) n
-unfolding number
+    → out ≡ filled f (length buf) n
+unfolding filled
 whole f n [] z e p = absurd (omega arith)
 whole f n (x ∷ xs) {b} z e p =
     let q : length (x ∷ xs) - 1 ≡ length xs = omega arith in

@@ -21,7 +21,8 @@ use Rattle.text.proofs.Table.{entry, each}
 
 -- ---- any table
 
--- one letter of two names and of a text: t says that the names have the same letter, u that the text has the first name's, w that it has the second's
+-- one letter of two names and of a text: t says that the names have the same letter, u that the text has the first name's,
+-- w that it has the second's
 letter : (t u w : Bool) {x y z : Bool} → (u ≡ true → t ≡ false → w ≡ false) → (x ≡ true → z ≡ true → y ≡ false)
     → cond t x true ≡ true → cond u z false ≡ true → cond w y false ≡ false
 letter t false w h step e g = absurd (false≢true g)

@@ -3,14 +3,15 @@ use Prim.Native.Nat.{ℕ, suc, _+_, _≤_, _<_}
 use mathlib.Core.Path.{_≡_, refl, sym}
 use mathlib.Core.Bool.{Bool, true, false, not, cond}
 use mathlib.Core.List.{List, [], _∷_, _++_, map}
-use native.Mathlib.Nat.{zero-add}
 use native.Mathlib.Numerals.{add-one}
 use native.Mathlib.Omega.{arith}
 use borrow.Author.Tests.{leb-true, not-true, not-false}
 use lib.Dec.{eqb, leb}
-use lib.ListN.{length, getD, take, drop, set, replicate, length-append, length-take, length-map, length-replicate, drop-of-length-le, List·getD-map}
-use lib.Seq.{drop-cons, take-take, take-append-seam, take-all, paste-suc}
-use Rattle.laws.specs.Lists.{every, overlaid}
+use lib.ListN.{length, getD, take, drop, set, replicate, length-append, length-take, length-map, length-replicate}
+use lib.ListN.{drop-of-length-le, List·getD-map}
+use lib.Seq.{sets, drop-cons, take-take, take-append-seam}
+use Rattle.laws.specs.Lists.{every}
+use Rattle.laws.proofs.Stores.{sets-past}
 use Rattle.text.specs.Case.{fold, lowered}
 use Rattle.text.specs.Names.{namesOf, nameAt, computes}
 use Rattle.text.specs.Rows.{padded, agreeing}
@@ -79,26 +80,19 @@ lowered-at false x j = refl
 
 module _ (lower : Bool) (x buf : List ℕ) (j : ℕ) where
   -- the next byte is stored
-  pub copied : {b : ℕ} → j < length x → j < length buf → b ≡ cond lower (fold (getD x j 0)) (getD x j 0)
-      → set (take j (lowered lower x) ++ drop j buf) j b ≡ take (j + 1) (lowered lower x) ++ drop (j + 1) buf
-  copied {b} h l e =
+  pub stored : {b : ℕ} → j < length x → b ≡ cond lower (fold (getD x j 0)) (getD x j 0)
+      → sets (set buf j b) (j + 1) (drop (j + 1) (lowered lower x)) ≡ sets buf j (drop j (lowered lower x))
+  stored h e =
       let m : j < length (lowered lower x) = rw (lowered-length lower x) h in
-      rw (e, lowered-at lower x j, add-one j)
-      (rw (zero-add j, zero-add (suc j)) at (paste-suc buf 0 (lowered lower x) j 0 (rw zero-add l) m))
+      rw (e, lowered-at lower x j, add-one j, drop-cons (lowered lower x) j 0 m)
 
   -- the buffer is full
-  pub all-room : j ≡ length buf → j ≤ length x → take j (lowered lower x) ++ drop j buf ≡ overlaid (lowered lower x) buf
-  unfolding overlaid
-  all-room e h =
-      rw
-      (lowered-length lower x, drop-of-length-le buf {i = j} (omega arith), drop-of-length-le buf {i = length x} (omega arith), ← e)
+  pub full : length buf ≤ j → buf ≡ sets buf j (drop j (lowered lower x))
+  full h = sym (sets-past buf (drop j (lowered lower x)) j h)
 
   -- the text has ended
-  pub all-text : j ≡ length x → j ≤ length buf → take j (lowered lower x) ++ drop j buf ≡ overlaid (lowered lower x) buf
-  unfolding overlaid
-  all-text e h =
-      let m = lowered-length lower x in
-      rw (take-all j (lowered lower x) (omega arith), take-all (length buf) (lowered lower x) (omega arith), m, ← e)
+  pub ended : length x ≤ j → buf ≡ sets buf j (drop j (lowered lower x))
+  ended h = rw (drop-of-length-le (lowered lower x) {i = j} (rw (lowered-length lower x) h))
 
 -- ---- comparing
 

@@ -1,4 +1,5 @@
--- The white space at a place of a text: none at its end or where the test at its byte failed, and where the test passed one more than after it.
+-- The white space at a place of a text: none at its end or where the test at its byte failed, and where the test passed one more
+-- than after it.
 use Prim.Native.Nat.{ℕ, suc, _≤_, _<_}
 use mathlib.Core.Path.{_≡_}
 use mathlib.Core.Bool.{Bool, true, false, not}

@@ -17,9 +17,9 @@ leading f (suc w) n = leading f w (n / 10) ++ (cond (eqb n 0) f (digit (n % 10))
 
 -- n written on w places, filled on the left with f (paper 01: "Numbers are zero-filled to the width given,
 -- blank-filled where marked b"): its last digit stands even where n is 0
-unfoldable pub number : ℕ → ℕ → ℕ → List ℕ
-number f zero n = []
-number f (suc w) n = leading f w (n / 10) ++ (digit (n % 10) ∷ [])
+unfoldable pub filled : ℕ → ℕ → ℕ → List ℕ
+filled f zero n = []
+filled f (suc w) n = leading f w (n / 10) ++ (digit (n % 10) ∷ [])
 
 unfoldable pub isDigit : ℕ → Bool
 isDigit b = leb 48 b && leb b 57

@@ -4,7 +4,7 @@ ghost use mathlib.Core.Bool.{cond};
 ghost use mathlib.Core.List.{_++_};
 ghost use lib.Dec.{eqb};
 ghost use lib.ListN.{length, drop};
-ghost use Rattle.text.specs.Digits.{digit, leading, number, isDigit, readDigits};
+ghost use Rattle.text.specs.Digits.{digit, leading, filled, isDigit, readDigits};
 
 pub fn is_digit(b: u8) -> bool
     ensures { λ r. ⌜ r ≡ isDigit b ⌝ }
@@ -42,7 +42,7 @@ fn write_leading(out: &mut [u8], places: usize, fill: u8, n: u32)
 
 // Writes `n` over the whole of `out`, filled on the left with `fill`: the width is the slice's length.
 pub fn write_number(out: &mut [u8], fill: u8, n: u32)
-    ensures { λ _. ⌜ now (out .exit) ≡ number fill (length (now (out .entry))) n ⌝ }
+    ensures { λ _. ⌜ now (out .exit) ≡ filled fill (length (now (out .entry))) n ⌝ }
 {
     if out.len() == 0 {
         return;

@@ -11,7 +11,6 @@ pub use names::NameRead;
 pub use names::Names;
 pub use names::fold;
 pub use names::name_length;
-pub use names::names_for;
 pub use names::place_for;
 pub use names::read_name;
 pub use names::value_at;

@@ -1,13 +1,13 @@
 ghost use mathlib.Core.Path.{_≡_};
 ghost use Prim.Native.Nat.{_≤_, _<_};
 ghost use mathlib.Core.Bool.{cond};
-ghost use mathlib.Core.List.{_++_, map};
+ghost use mathlib.Core.List.{map};
 ghost use lib.Dec.{eqb};
-ghost use lib.ListN.{length, take, drop};
-ghost use Rattle.laws.specs.Lists.{overlaid};
+ghost use lib.ListN.{length, drop};
+ghost use lib.Seq.{sets};
 ghost use Rattle.text.specs.Case.{fold, lowered};
 ghost use Rattle.text.specs.Names.{namesOf, nameAt, readName};
-ghost use Rattle.text.specs.Naming.{namesFor, firstValue, placeFor, valueAt};
+ghost use Rattle.text.specs.Naming.{firstValue, placeFor, valueAt};
 ghost use Rattle.text.specs.Rows.{padded, agreeing};
 
 // The tables of names: seven weekdays, twelve months, the two halves of the day.
@@ -69,30 +69,21 @@ pub fn fold(b: u8) -> u8
     b + 32
 }
 
-// The table that names the values of a kind of fact.
-pub fn names_for(kind: u32) -> Names
-    ensures { λ r. ⌜ r ≡ namesFor kind ⌝ }
+fn first_value(t: Names) -> u32
+    ensures { λ r. ⌜ (r ≡ firstValue t) × (r ≤ 1) ⌝ }
 {
-    if kind == 4 {
-        return Names::Months;
+    match t {
+        Names::Weekdays => 1,
+        Names::Months => 1,
+        Names::Halves => 0,
     }
-    if kind == 7 {
-        return Names::Weekdays;
-    }
-    Names::Halves
-}
-
-fn first_value(kind: u32) -> u32
-    ensures { λ r. ⌜ (r ≡ firstValue kind) × (r ≤ 1) ⌝ }
-{
-    if kind == 15 { 0 } else { 1 }
 }
 
 // The place of a value in its table; 0 below the first value.
-pub fn place_for(kind: u32, value: u32) -> usize
-    ensures { λ r. ⌜ r ≡ placeFor kind value ⌝ }
+pub fn place_for(t: Names, value: u32) -> usize
+    ensures { λ r. ⌜ r ≡ placeFor t value ⌝ }
 {
-    let first = first_value(kind);
+    let first = first_value(t);
     if value < first {
         return 0;
     }
@@ -100,10 +91,10 @@ pub fn place_for(kind: u32, value: u32) -> usize
 }
 
 // The value at a place.
-pub fn value_at(kind: u32, i: u8) -> u32
-    ensures { λ r. ⌜ r ≡ valueAt kind i ⌝ }
+pub fn value_at(t: Names, i: u8) -> u32
+    ensures { λ r. ⌜ r ≡ valueAt t i ⌝ }
 {
-    first_value(kind) + i as u32
+    first_value(t) + i as u32
 }
 
 fn name_count(t: Names) -> usize
@@ -152,7 +143,7 @@ fn cased(lower: bool, b: u8) -> u8
 
 // Copies the first bytes of `name` over `out`, as many as both have, in small letters where `lower` says so.
 fn overlay(out: &mut [u8], name: &[u8], lower: bool)
-    ensures { λ _. ⌜ now (out .exit) ≡ overlaid (lowered lower (now (name .entry))) (now (out .entry)) ⌝ }
+    ensures { λ _. ⌜ now (out .exit) ≡ sets (now (out .entry)) 0 (lowered lower (now (name .entry))) ⌝ }
 {
     let mut j = 0;
     while j < name.len() {
@@ -167,7 +158,7 @@ fn overlay(out: &mut [u8], name: &[u8], lower: bool)
 // A name, or as much of it as there is room for, over the start of `out`; how long the name is.
 fn put_name(out: &mut [u8], t: Names, i: usize, lower: bool) -> usize
     ensures { λ r. ⌜ r ≡ length (nameAt t i) ⌝ }
-    ensures { λ _. ⌜ now (out .exit) ≡ overlaid (lowered lower (nameAt t i)) (now (out .entry)) ⌝ }
+    ensures { λ _. ⌜ now (out .exit) ≡ sets (now (out .entry)) 0 (lowered lower (nameAt t i)) ⌝ }
 {
     let n = name_length(t, i);
     let name = row(t, i);
@@ -175,10 +166,11 @@ fn put_name(out: &mut [u8], t: Names, i: usize, lower: bool) -> usize
     n
 }
 
-// Copies a name's first bytes over `out`, as many as both have: a slice of three bytes takes the short form. Says how long the name is.
+// Copies a name's first bytes over `out`, as many as both have: a slice of three bytes takes the short form.
+// Says how long the name is.
 pub fn write_name(out: &mut [u8], t: Names, i: usize) -> usize
     ensures { λ r. ⌜ r ≡ length (nameAt t i) ⌝ }
-    ensures { λ _. ⌜ now (out .exit) ≡ take (length (now (out .entry))) (nameAt t i) ++ drop (length (nameAt t i)) (now (out .entry)) ⌝ }
+    ensures { λ _. ⌜ now (out .exit) ≡ sets (now (out .entry)) 0 (nameAt t i) ⌝ }
 {
     put_name(out, t, i, false)
 }
@@ -186,7 +178,7 @@ pub fn write_name(out: &mut [u8], t: Names, i: usize) -> usize
 // The same in small letters.
 pub fn write_name_lower(out: &mut [u8], t: Names, i: usize) -> usize
     ensures { λ r. ⌜ r ≡ length (nameAt t i) ⌝ }
-    ensures { λ _. ⌜ now (out .exit) ≡ take (length (now (out .entry))) (map fold (nameAt t i)) ++ drop (length (nameAt t i)) (now (out .entry)) ⌝ }
+    ensures { λ _. ⌜ now (out .exit) ≡ sets (now (out .entry)) 0 (map fold (nameAt t i)) ⌝ }
 {
     put_name(out, t, i, true)
 }

@@ -1,4 +1,5 @@
--- `text::names::matching` meets its contract. The invariant: the letters passed and those that agree from here on come to what is to be shown.
+-- `text::names::matching` meets its contract. The invariant: the letters passed and those that agree from here on come to what
+-- is to be shown.
 use Prim.Native.Nat.{_+_, _-_, _≤_}
 use mathlib.Core.Path.{_≡_}
 use native.Mathlib.Nat.{zero-add}
@@ -39,7 +40,8 @@ returns-2 : tie.Need-returns-2 Inv-loop μ-loop
 returns-2 c =
     let l = c .before .before .before .before .before .before in
     let a = l .before .before .before .args in
-    omega (arith, differs (a .name .now) (a .s .now) (l .loop .j) (l .loop .k) (omega arith) (omega arith) (c .before .same-letter .ensures) (c .if2 .taken))
+    let e = c .before .same-letter .ensures in
+    omega (arith, differs (a .name .now) (a .s .now) (l .loop .j) (l .loop .k) (omega arith) (omega arith) e (c .if2 .taken))
 
 add-j : tie.Need-add-j Inv-loop μ-loop
 add-j c = omega arith
@@ -53,11 +55,12 @@ loop-less c = omega arith
 loop-again : tie.Need-loop-again Inv-loop μ-loop
 loop-again c =
     let l = c .before .before .before .before .before .before in
-    let a = l .before .before .before .args in (
+    let a = l .before .before .before .args in
+    let e = c .before .same-letter .ensures in (
       omega arith,
       rw (add-one (l .loop .j), add-one (l .loop .k))
           (omega
-          (arith, agrees (a .name .now) (a .s .now) (l .loop .j) (l .loop .k) (omega arith) (omega arith) (c .before .same-letter .ensures) (c .if2 .left))),
+          (arith, agrees (a .name .now) (a .s .now) (l .loop .j) (l .loop .k) (omega arith) (omega arith) e (c .if2 .left))),
     )
 
 returns-3 : tie.Need-returns-3 Inv-loop μ-loop

@@ -1,23 +1,23 @@
--- `text::names::overlay` meets its contract. The invariant: the first j bytes of the text stand over the buffer's.
-use Prim.Native.Nat.{_-_, _≤_}
+-- `text::names::overlay` meets its contract. The invariant: to store the rest of the text from here on gives what is to be stored.
+use Prim.Native.Nat.{_-_}
 use mathlib.Core.Path.{_≡_, refl, _∙_}
-use mathlib.Core.List.{_++_}
 use native.Mathlib.Omega.{arith}
-use lib.ListN.{length, take, drop, length-set}
+use lib.ListN.{length, drop, length-set}
+use lib.Seq.{sets}
 use Rattle.text.specs.Case.{lowered}
-use Rattle.text.proofs.Rows.{copied, all-room, all-text}
+use Rattle.text.proofs.Rows.{stored, full, ended}
 use Rattle.text.proofs.names.overlay.Statement.{statement}
 use Rattle.text.proofs.names.overlay.Tie as tie
 
 abbrev Inv-loop : tie.InvT-loop
 Inv-loop out₀ name lower j₀ out j =
-    (length out ≡ length out₀) × (j ≤ length name) × (j ≤ length out₀) × (out ≡ take j (lowered lower name) ++ drop j out₀)
+    (length out ≡ length out₀) × (sets out j (drop j (lowered lower name)) ≡ sets out₀ 0 (lowered lower name))
 
 abbrev μ-loop : tie.MeasureT-loop
 μ-loop out₀ name lower j₀ out j = length name - j
 
 loop-holds : tie.Need-loop-holds Inv-loop μ-loop
-loop-holds c = (refl, omega arith, omega arith, refl)
+loop-holds c = (refl, refl)
 
 same-length : tie.Need-same-length Inv-loop μ-loop
 same-length c = c .before .before .loop .inv .0
@@ -26,7 +26,7 @@ returns : tie.Need-returns Inv-loop μ-loop
 returns c =
     let l = c .before .before in
     let a = l .before .before .before .args in
-    l .loop .inv .3 ∙ all-room (a .lower) (a .name .now) (a .out .now) (l .loop .j) (omega arith) (omega arith)
+    full (a .lower) (a .name .now) (l .loop .out) (l .loop .j) (omega arith) ∙ l .loop .inv .1
 
 shared-slice-read-cased : tie.Need-shared-slice-read-cased Inv-loop μ-loop
 shared-slice-read-cased c = omega arith
@@ -48,10 +48,7 @@ loop-again c =
     let l = c .before .before .before .before in
     let a = l .before .before .before .args in (
       simp length-set (omega arith),
-      omega arith,
-      omega arith,
-      rw (l .loop .inv .3)
-          (copied (a .lower) (a .name .now) (a .out .now) (l .loop .j) (omega arith) (omega arith) (c .cased .ensures)),
+      stored (a .lower) (a .name .now) (l .loop .out) (l .loop .j) (omega arith) (c .cased .ensures) ∙ l .loop .inv .1,
     )
 
 same-length-2 : tie.Need-same-length-2 Inv-loop μ-loop
@@ -61,7 +58,7 @@ returns-2 : tie.Need-returns-2 Inv-loop μ-loop
 returns-2 c =
     let l = c .before in
     let a = l .before .before .before .args in
-    l .loop .inv .3 ∙ all-text (a .lower) (a .name .now) (a .out .now) (l .loop .j) (omega arith) (omega arith)
+    ended (a .lower) (a .name .now) (l .loop .out) (l .loop .j) (omega arith) ∙ l .loop .inv .1
 
 pub overlay-spec : {M : Type 1} → statement M
 overlay-spec =

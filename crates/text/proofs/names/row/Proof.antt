@@ -57,15 +57,21 @@ array-copy-out-result-3 c = half c
 
 returns-2 : tie.Need-returns-2
 unfolding padded computes
-returns-2 c = rw (c .before .enum-told .given .1) (entry padded [] weekdayNames (c .before .before .before .before .before .args .i) (weekday (c .before)))
+returns-2 c =
+    let p = c .before in
+    rw (p .enum-told .given .1) (entry padded [] weekdayNames (p .before .before .before .before .args .i) (weekday p))
 
 returns-3 : tie.Need-returns-3
 unfolding padded computes
-returns-3 c = rw (c .before .enum-told2 .given .1) (entry padded [] monthNames (c .before .before .before .before .before .args .i) (month (c .before)))
+returns-3 c =
+    let p = c .before in
+    rw (p .enum-told2 .given .1) (entry padded [] monthNames (p .before .before .before .before .args .i) (month p))
 
 returns-4 : tie.Need-returns-4
 unfolding padded computes
-returns-4 c = rw (c .before .enum-told3 .given .1) (entry padded [] halfNames (c .before .before .before .before .before .args .i) (half (c .before)))
+returns-4 c =
+    let p = c .before in
+    rw (p .enum-told3 .given .1) (entry padded [] halfNames (p .before .before .before .before .args .i) (half p))
 
 pub row-spec : {M : Type 1} → statement M
 row-spec =

@@ -1,8 +1,6 @@
--- `text::names::write_name_lower` meets its contract: it is that of `put_name` for a name in small letters, which is as long.
+-- `text::names::write_name_lower` meets its contract: it is that of `put_name` for a name in small letters.
 use borrow.Author.Needs.{needs}
-use lib.ListN.{length-map}
 use Rattle.text.specs.Case.{lowered}
-use Rattle.laws.specs.Lists.{overlaid}
 use Rattle.text.proofs.names.write_name_lower.Statement.{statement}
 use Rattle.text.proofs.names.write_name_lower.Tie as tie
 
@@ -13,8 +11,8 @@ same-length : tie.Need-same-length
 same-length c = search needs
 
 returns : tie.Need-returns
-unfolding overlaid lowered
-returns c = let e = c .before .before .put-name .ensures in (e .0, rw length-map at (e .1))
+unfolding lowered
+returns c = c .before .before .put-name .ensures
 
 pub write-name-lower-spec : {M : Type 1} → statement M
 write-name-lower-spec = tie.close (tie.spec put-name-requires same-length returns)

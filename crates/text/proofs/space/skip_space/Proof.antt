@@ -1,4 +1,5 @@
--- `text::space::skip_space` meets its contract. The invariant: the place reached and the white space from there on come to what is to be shown.
+-- `text::space::skip_space` meets its contract. The invariant: the place reached and the white space from there on come to what
+-- is to be shown.
 use Prim.Native.Nat.{_+_, _-_}
 use mathlib.Core.Path.{_≡_, refl}
 use native.Mathlib.Numerals.{add-one}
