@@ -1,3 +1,2 @@
 -- What the writer means.
-pub mod Private
 pub mod Writing

@@ -4,8 +4,9 @@ use mathlib.Core.Bool.{cond}
 use mathlib.Core.List.{List}
 use lib.Dec.{eqb, leb}
 use lib.ListN.{length}
+use Rattle.kinds.specs.Kinds as kinds
 use Rattle.calendar.specs.Calendar.{dateOf}
-use Rattle.format.specs.Opening.{Ended, Whole, BadAt, opening, most as longest}
+use Rattle.format.specs.Opening.{Opening, Ended, Whole, BadAt, opening, longest, mostElements, elementsIn}
 use Rattle.judge.specs.Agreement.{said}
 use Rattle.judge.specs.Verdicts.{dayVerdict, hourVerdict}
 use Rattle.judge.specs.declared.Verdict.{Verdict}
@@ -60,7 +61,7 @@ saidOf s = cond (eqb s 0) Unsaid (Is (s - 1))
 
 -- a finished reading "answers the number said, or unsaid where none was"
 unfoldable pub done : State → Day → Said → Reading
-done t d h = finished (t .at) d h (saidOf (said (t .facts) 16)) (saidOf (said (t .facts) 17))
+done t d h = finished (t .at) d h (saidOf (said (t .facts) kinds.minute)) (saidOf (said (t .facts) kinds.second))
 
 -- then 9 or 10 for the hour: "A reading refused for its hour hands out no day, even where one agreed"
 unfoldable pub withHour : State → Day → Verdict → Reading
@@ -103,7 +104,9 @@ byFormat f s = go (opening f .ended)
 -- the same by the elements of a format that was opened before: 3 at the first entry that no format opens to
 unfoldable pub byElements : List ℕ → List ℕ → Reading
 byElements es s =
-    readBy es s
+    let good = elementsIn mostElements es in
+    let read = readBy es s in
+    cond (eqb good (length es)) read (refused 3 good)
 
 -- "Reader's order: 1, 5, 3, then the first of 6, 7, 8 met from left to right, then 9 or 10 for the day, then 9 or 10 for the hour"
 unfoldable pub reading : List ℕ → List ℕ → Reading

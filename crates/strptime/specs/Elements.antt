@@ -1,10 +1,11 @@
 -- Reading one element of a format (paper 01, "How a margin is read").
-use Prim.Native.Nat.{ℕ, _+_, _-_}
+use Prim.Native.Nat.{ℕ, _+_}
 use mathlib.Core.Bool.{cond, _&&_}
 use mathlib.Core.List.{List, [], _∷_}
-use lib.Dec.{eqb, leb, ltb}
+use lib.Dec.{eqb, leb}
 use lib.ListN.{length, drop}
 use Rattle.format.specs.Conversions.{conversionOf}
+use Rattle.format.specs.Opening.{isByte, letterOf}
 use Rattle.format.specs.declared.conversions.Conversion.{Conversion}
 use Rattle.format.specs.declared.conversions.Form.{Form}
 use Rattle.format.specs.declared.conversions.Form.the-variants.{Zeros, Blanks, FromSunday, Short, Full, Lower, Unknown}
@@ -12,10 +13,11 @@ use Rattle.strptime.specs.declared.elements.Item.{Item}
 use Rattle.strptime.specs.declared.elements.Item.the-variants.{Skip, Fact, NoMatch, OutOfRange}
 use Rattle.text.specs.Digits.{digitRun, decimal}
 use Rattle.text.specs.Names.{readName}
-use Rattle.text.specs.Naming.{namesFor, valueAt}
+use Rattle.text.specs.Naming.{valueAt}
 use Rattle.text.specs.Space.{isSpace, spaces}
 use Rattle.text.specs.declared.names.NameRead.{NameRead}
 use Rattle.text.specs.declared.names.NameRead.the-variants.{Found, Nothing}
+use Rattle.text.specs.declared.names.Names.{Names}
 
 -- an ordinary byte "must equal the next byte"
 unfoldable pub ordinary : ℕ → List ℕ → ℕ → Item
@@ -47,20 +49,20 @@ fromSunday (NoMatch p) = NoMatch p
 fromSunday (OutOfRange p) = OutOfRange p
 
 -- "No white space is skipped before a name"
-unfoldable pub named : ℕ → NameRead → ℕ → Item
-named k (Found i n) at = Fact k (valueAt k i) at (at + n)
-named k Nothing at = NoMatch at
+unfoldable pub named : Names → ℕ → NameRead → ℕ → Item
+named t k (Found i n) at = Fact k (valueAt t i) at (at + n)
+named t k Nothing at = NoMatch at
 
-unfoldable pub readNamed : Conversion → List ℕ → ℕ → Item
-readNamed c s at = named (c .kind) (readName (namesFor (c .kind)) (drop at s)) at
+unfoldable pub readNamed : Names → Conversion → List ℕ → ℕ → Item
+readNamed t c s at = named t (c .kind) (readName t (drop at s)) at
 
 unfoldable pub readForm : Form → Conversion → List ℕ → ℕ → Item
 readForm Zeros c s at = readNumber c s at
 readForm Blanks c s at = readNumber c s at
 readForm FromSunday c s at = fromSunday (readNumber c s at)
-readForm Short c s at = readNamed c s at
-readForm Full c s at = readNamed c s at
-readForm Lower c s at = readNamed c s at
+readForm (Short t) c s at = readNamed t c s at
+readForm (Full t) c s at = readNamed t c s at
+readForm (Lower t) c s at = readNamed t c s at
 readForm Unknown c s at = NoMatch at
 
 unfoldable pub readConversion : Conversion → List ℕ → ℕ → Item
@@ -68,7 +70,7 @@ readConversion c s at = readForm (c .form) c s at
 
 -- an element at an offset of a text
 unfoldable pub readElement : ℕ → List ℕ → ℕ → Item
-readElement e s at = cond (ltb e 256) (readByte e s at) (readConversion (conversionOf (e - 256)) s at)
+readElement e s at = cond (isByte e) (readByte e s at) (readConversion (conversionOf (letterOf e)) s at)
 
 -- everything here, for proofs that compute
 unfoldable pub computes : Unit {0}
