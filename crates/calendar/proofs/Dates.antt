@@ -179,6 +179,14 @@ pub last-day : (days ≡ 3652059) × (dayNumber 9999 12 31 ≡ 3652059) × (week
 unfolding dayNumber daysBefore
 last-day = (days-is, omega (arith, years-closed 9998, december), refl)
 
+pub first-date : dateOf 1 ≡ date 1 1 1
+unfolding dateFault monthLength monthLengths
+first-date = ap dateOf (sym (first-day .0)) ∙ date-of-number 1 1 1 (no-fault-valid 1 1 1 refl)
+
+pub last-date : dateOf days ≡ date 9999 12 31
+unfolding dateFault monthLength monthLengths
+last-date = ap dateOf (last-day .0 ∙ sym (last-day .1)) ∙ date-of-number 9999 12 31 (no-fault-valid 9999 12 31 refl)
+
 -- a date comes before another
 pub Before : (y m d y′ m′ d′ : ℕ) → Type 0
 Before y m d y′ m′ d′ = (y < y′) ⊎ ((y ≡ y′) × ((m < m′) ⊎ ((m ≡ m′) × (d < d′))))

@@ -3,6 +3,7 @@ use Prim.Native.Nat.{ℕ}
 use mathlib.Core.Bool.{cond}
 use lib.Dec.{eqb}
 use Rattle.calendar.specs.Calendar.{date, within, dateFault, days, dateOf}
+use Rattle.calendar.specs.declared.Ends.{Ends}
 use Rattle.calendar.specs.declared.FromFields.{FromFields}
 use Rattle.calendar.specs.declared.FromFields.the-variants.{Valid, Bad}
 use Rattle.calendar.specs.declared.FromNumber.{FromNumber}
@@ -16,7 +17,11 @@ fromFields y m d = cond (eqb (dateFault y m d) 0) (Valid (date y m d)) (Bad (dat
 unfoldable pub fromDayNumber : ℕ → FromNumber
 fromDayNumber k = cond (within 1 days k) (Day (dateOf k)) Outside
 
+-- "These ends and counts belong to the calendar itself and are stated once": the date of day 1, that of the last day, and how many days
+unfoldable pub ends : Ends
+ends = record { first = dateOf 1; last = dateOf days; days = days }
+
 -- everything here, for proofs that compute
 unfoldable pub computes : Unit {0}
-unfolding fromFields fromDayNumber
+unfolding fromFields fromDayNumber ends
 computes = tt

@@ -1,8 +1,9 @@
 // The Gregorian calendar of the years 1 to 9999: dates, day numbers, weekdays and weeks.
 ghost use mathlib.Core.Path.{_≡_};
 ghost use Prim.Native.Nat.{_-_, _<_, _≤_, _^_};
-ghost use Rattle.calendar.specs.Calendar.{sum, leap, yearLength, monthLength, dayOfYear, daysBefore, dayNumber, weekday, yearOf, monthOf, sundayWeek, mondayWeek, thursday, isoYear, isoWeek};
-ghost use Rattle.calendar.specs.Dates.{fromFields, fromDayNumber};
+ghost use Rattle.calendar.specs.Calendar.{sum, leap, yearLength, monthLength, dayOfYear, daysBefore, dayNumber, yearOf, monthOf};
+ghost use Rattle.calendar.specs.Calendar.{weekday, sundayWeek, mondayWeek, thursday, isoYear, isoWeek};
+ghost use Rattle.calendar.specs.Dates.{fromFields, fromDayNumber, ends};
 
 // The days of each month in a year that is not leap, at the month's number; there is no month 0.
 const MONTH_LENGTHS: [u32; 13] = [0, 31, 28, 31, 30, 31, 30, 31, 31, 30, 31, 30, 31];
@@ -23,6 +24,13 @@ pub enum FromFields {
 pub enum FromNumber {
     Day(Date),
     Outside,
+}
+
+// The calendar's ends and how many days it has.
+pub struct Ends {
+    pub first: Date,
+    pub last: Date,
+    pub days: u32,
 }
 
 pub fn is_leap(year: u32) -> bool
@@ -166,6 +174,17 @@ impl Date {
     };
 
     pub const DAYS: u32 = 3652059;
+
+    // The three at once: day 1 is the first date, day DAYS the last.
+    pub fn ends() -> Ends
+        ensures { λ r. ⌜ r ≡ ends ⌝ }
+    {
+        Ends {
+            first: Date::FIRST,
+            last: Date::LAST,
+            days: Date::DAYS,
+        }
+    }
 
     pub fn from_fields(year: u32, month: u32, day: u32) -> FromFields
         ensures { λ r. ⌜ r ≡ fromFields year month day ⌝ }

@@ -3,5 +3,5 @@ pub mod Demand
 pub mod Every
 pub mod Parts
 pub mod Position
-pub mod Scan
+pub mod SoFar
 pub mod Tells

@@ -12,7 +12,7 @@ use Rattle.calendar.proofs.Dates.{Valid, number-within}
 use Rattle.calendar.proofs.Months.{year-months}
 use Rattle.calendar.proofs.Sum.{sum-last}
 use Rattle.calendar.proofs.Years.{days-before-next}
-use Rattle.judge.proofs.Scan.{SoFar, so-far-none, so-far-next, so-far-end}
+use Rattle.judge.proofs.SoFar.{SoFar, so-far-none, so-far-next, so-far-end}
 
 -- at the start of a year
 pub record AtYear (p : ℕ → Bool) (year number : ℕ) (found : Found) : Type 0 where

@@ -6,10 +6,10 @@ use mathlib.Core.Logic.{⊎-elim}
 use mathlib.Core.Path.{_≡_, refl, sym, ap, _∙_}
 use native.Mathlib.Nat.{eq-or-lt-of-le, le-of-suc-le-suc, add-suc, add-zero, suc-add}
 use native.Mathlib.Omega.{arith}
-use Rattle.judge.specs.Search.{hit, scan, firstTwo}
+use Rattle.judge.specs.Search.{hit, searchFrom, firstTwo}
 use Rattle.judge.specs.declared.Found.{Found}
 use Rattle.judge.specs.declared.Found.the-variants.{Nothing, One, Two}
-use Rattle.judge.proofs.Scan.{scan-suc}
+use Rattle.judge.proofs.SoFar.{search-suc}
 
 module _ (p : ℕ → Bool) (from : ℕ) where
   -- what was found among the numbers from `from` up to `end`
@@ -40,13 +40,13 @@ module _ (p : ℕ → Bool) (from : ℕ) where
   tells-next end (Two a b) l (double m n o q r f) true e = let o' : b < suc end = omega arith in double m n o' q r f
   tells-next end (Two a b) l (double m n o q r f) false e = let o' : b < suc end = omega arith in double m n o' q r f
 
-  tells-scan : (n end : ℕ) (h : Found) → from ≤ end → Tells end h → Tells (end + n) (scan p n end h)
-  unfolding scan
-  tells-scan zero end h l t = rw add-zero t
-  tells-scan (suc n) end h l t =
-      rw (scan-suc p n end h, add-suc)
-      (rw suc-add at (tells-scan n (suc end) (cond (p end) (hit end h) h) (omega arith) (tells-next end h l t (p end) refl)))
+  tells-search : (n end : ℕ) (h : Found) → from ≤ end → Tells end h → Tells (end + n) (searchFrom p n end h)
+  unfolding searchFrom
+  tells-search zero end h l t = rw add-zero t
+  tells-search (suc n) end h l t =
+      rw (search-suc p n end h, add-suc)
+      (rw suc-add at (tells-search n (suc end) (cond (p end) (hit end h) h) (omega arith) (tells-next end h l t (p end) refl)))
 
   pub tells : (n : ℕ) → Tells (from + n) (firstTwo p from n)
   unfolding firstTwo
-  tells n = tells-scan n from Nothing (omega arith) (none (λ k l m. absurd (omega arith)))
+  tells n = tells-search n from Nothing (omega arith) (none (λ k l m. absurd (omega arith)))

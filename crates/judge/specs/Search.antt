@@ -16,14 +16,14 @@ isTwo (One a) = false
 isTwo (Two a b) = true
 
 -- k, k + 1, .., n numbers in all, are looked at, after what was found before; "a day search may stop at the second agreeing day"
-unfoldable pub scan : (ℕ → Bool) → ℕ → ℕ → Found → Found
-scan p zero k h = h
-scan p (suc n) k h = let more = scan p n (suc k) (cond (p k) (hit k h) h) in cond (isTwo h) h more
+unfoldable pub searchFrom : (ℕ → Bool) → ℕ → ℕ → Found → Found
+searchFrom p zero k h = h
+searchFrom p (suc n) k h = let more = searchFrom p n (suc k) (cond (p k) (hit k h) h) in cond (isTwo h) h more
 
 unfoldable pub firstTwo : (ℕ → Bool) → ℕ → ℕ → Found
-firstTwo p from n = scan p n from Nothing
+firstTwo p from n = searchFrom p n from Nothing
 
 -- everything here, for proofs that compute
 unfoldable pub computes : Unit {0}
-unfolding hit isTwo scan firstTwo
+unfolding hit isTwo searchFrom firstTwo
 computes = tt

@@ -13,8 +13,8 @@ fn verdict_of(found: Found) -> Verdict
 {
     match found {
         Found::Nothing => Verdict::Impossible,
-        Found::One(a) => Verdict::Agreed(a),
-        Found::Two(a, b) => Verdict::Open(a, b),
+        Found::One(only) => Verdict::Agreed(only),
+        Found::Two { first, second } => Verdict::Open { first, second },
     }
 }
 

@@ -18,12 +18,12 @@ pub struct Facts {
 pub enum Found {
     Nothing,
     One(u32),
-    Two(u32, u32),
+    Two { first: u32, second: u32 },
 }
 
 pub enum Verdict {
     Unsaid,
     Impossible,
-    Open(u32, u32),
+    Open { first: u32, second: u32 },
     Agreed(u32),
 }

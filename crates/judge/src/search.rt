@@ -13,7 +13,7 @@ ghost use lib.Dec.{eqb};
 ghost use Rattle.calendar.specs.Calendar.{date, daysBefore, dayNumber, days};
 ghost use Rattle.values.specs.Values.{dateValue};
 ghost use Rattle.judge.specs.Agreement.{said, every, agrees, dayAgrees, hourAgrees};
-ghost use Rattle.judge.specs.Search.{firstTwo};
+ghost use Rattle.judge.specs.Search.{hit, isTwo, firstTwo};
 
 fn date_at(year: u32, month: u32, day: u32) -> Date
     requires { ⌜ (year < 2 ^ 16) × (month < 2 ^ 8) × (day < 2 ^ 8) ⌝ }
@@ -89,37 +89,56 @@ fn day_agrees(facts: Facts, iso: bool, date: Date, number: u32, before: u32) -> 
     date_kinds_agree(facts, date, 10, 13)
 }
 
-// The first two days that agree with all date facts, by their day numbers. What hangs on the year or the month alone is tested once for it; the
-// days of a month that does not agree are only counted.
+// What is found once `number` has passed too: two stay as they are.
+fn hit(number: u32, found: Found) -> Found
+    ensures { λ r. ⌜ r ≡ hit number found ⌝ }
+{
+    match found {
+        Found::Nothing => Found::One(number),
+        Found::One(first) => Found::Two {
+            first,
+            second: number,
+        },
+        Found::Two { first, second } => Found::Two { first, second },
+    }
+}
+
+fn is_two(found: Found) -> bool
+    ensures { λ r. ⌜ r ≡ isTwo found ⌝ }
+{
+    match found {
+        Found::Nothing => false,
+        Found::One(_) => false,
+        Found::Two {
+            first: _,
+            second: _,
+        } => true,
+    }
+}
+
+// The first two days that agree with all date facts, by their day numbers. What hangs on the year or the month alone is tested
+// once for it; the days of a month that does not agree are only counted.
 pub fn search_days(facts: Facts) -> Found
     ensures { λ r. ⌜ r ≡ firstTwo (dayAgrees facts) 1 days ⌝ }
 {
     let iso = any_said(facts, 10, 13);
     let mut found = Found::Nothing;
-    let mut number: u32 = 1;
-    let mut year: u32 = 1;
+    let mut number = Date::FIRST.day_number();
+    let mut year = Date::FIRST.year as u32;
     'years: while year <= Date::LAST.year as u32 {
         let before = number - 1;
         let year_agrees = year_agrees(facts, year);
-        let mut month: u32 = 1;
+        let mut month = Date::FIRST.month as u32;
         while month <= Date::LAST.month as u32 {
             let month_agrees = month_agrees(facts, year_agrees, year, month);
             let length = month_length(year, month);
-            let mut day: u32 = 1;
+            let mut day = Date::FIRST.day as u32;
             if month_agrees {
                 while day <= length {
                     if day_agrees(facts, iso, date_at(year, month, day), number, before) {
-                        match found {
-                            Found::Nothing => {
-                                found = Found::One(number);
-                            }
-                            Found::One(first) => {
-                                found = Found::Two(first, number);
-                                break 'years;
-                            }
-                            Found::Two(_, _) => {
-                                break 'years;
-                            }
+                        found = hit(number, found);
+                        if is_two(found) {
+                            break 'years;
                         }
                     }
                     day += 1;
@@ -146,17 +165,9 @@ pub fn search_hours(facts: Facts) -> Found
     let mut hour: u32 = 0;
     while hour < 24 {
         if hour_agrees(facts, hour) {
-            match found {
-                Found::Nothing => {
-                    found = Found::One(hour);
-                }
-                Found::One(first) => {
-                    found = Found::Two(first, hour);
-                    break;
-                }
-                Found::Two(_, _) => {
-                    break;
-                }
+            found = hit(hour, found);
+            if is_two(found) {
+                break;
             }
         }
         hour += 1;

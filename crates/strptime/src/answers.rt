@@ -103,7 +103,7 @@ fn with_hour(state: State, day: Day) -> Answer
     match judge_hour(state.facts) {
         Verdict::Unsaid => done(state, day, Said::Unsaid),
         Verdict::Impossible => Answer::NoHour,
-        Verdict::Open(first, second) => Answer::OpenHour { first, second },
+        Verdict::Open { first, second } => Answer::OpenHour { first, second },
         Verdict::Agreed(hour) => done(state, day, Said::Is(hour)),
     }
 }
@@ -140,7 +140,7 @@ fn judged(state: State) -> Answer
     match judge_day(state.facts) {
         Verdict::Unsaid => with_hour(state, Day::NoDate),
         Verdict::Impossible => Answer::NoDay,
-        Verdict::Open(first, second) => open_day(first, second),
+        Verdict::Open { first, second } => open_day(first, second),
         Verdict::Agreed(day) => with_day(state, day),
     }
 }

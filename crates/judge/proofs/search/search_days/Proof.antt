@@ -8,14 +8,14 @@ use borrow.Author.Needs.{needs}
 use Rattle.calendar.specs.Calendar.{monthLength, days, date}
 use Rattle.calendar.specs.declared.Date.{Date}
 use Rattle.judge.specs.Agreement.{dayAgrees}
-use Rattle.judge.specs.Search.{hit}
 use Rattle.judge.specs.declared.Facts.{Facts}
 use Rattle.judge.specs.declared.Found.{Found}
+use Rattle.calendar.proofs.Dates.{first-day as day-one}
 use Rattle.calendar.proofs.Months.{month-most}
 use Rattle.calendar.proofs.Years.{days-is}
 use Rattle.judge.proofs.Parts.{on, agrees-by-parts, both-hold, second-fails, first-fails}
 use Rattle.judge.proofs.Position.{AtYear, AtMonth, AtDay, first-year, first-month, first-day, valid-here, next-day-hit, next-day-miss, next-month, next-year, no-more-years}
-use Rattle.judge.proofs.Scan.{so-far-two}
+use Rattle.judge.proofs.SoFar.{so-far-two}
 use Rattle.judge.proofs.search.search_days.Statement.{statement}
 use Rattle.judge.proofs.search.search_days.Tie as tie
 
@@ -51,11 +51,18 @@ abbrev μ-years : tie.MeasureT-years
 abbrev In-month : Type 0
 In-month = tie.After-month-length Inv-loop2 μ-loop2 Inv-loop3 μ-loop3 Inv-loop μ-loop Inv-years μ-years
 
+-- at the loop over the years
+abbrev Years : Type 0
+Years = tie.At-years Inv-loop2 μ-loop2 Inv-loop3 μ-loop3 Inv-loop μ-loop Inv-years μ-years
+
+abbrev entered : In-month → Years
+entered c = c .before .before .before .before .before .before .before .before .before
+
 abbrev facts-at : In-month → Facts
-facts-at c = c .before .before .before .before .before .before .before .before .before .before .args .facts
+facts-at c = entered c .before .before .before .before .args .facts
 
 abbrev year-at : In-month → ℕ
-year-at c = c .before .before .before .before .before .before .before .before .years .year
+year-at c = entered c .years .year
 
 abbrev month-at : In-month → ℕ
 month-at c = c .before .before .before .before .loop .month
@@ -76,17 +83,29 @@ module _ (c : In-month) {d k : ℕ} {h : Found} (a : AtDay (dayAgrees (facts-at 
       ∙ ap (λ (b : Bool). b && on f (date (year-at c) (month-at c) d) 5 8)
       (sym
       (c .before .month-agrees .ensures
-      ∙ ap (λ (b : Bool). b && on f (date (year-at c) (month-at c) 1) 4 1) (c .before .before .before .before .before .year-agrees .ensures)))
+      ∙ ap (λ (b : Bool). b && on f (date (year-at c) (month-at c) 1) 4 1) (c .before .before .before .before .before .before .year-agrees .ensures)))
 
 -- the test of the day itself
-tested : (c : tie.After-day-agrees Inv-loop2 μ-loop2 Inv-loop3 μ-loop3 Inv-loop μ-loop Inv-years μ-years) → c .day-agrees .result ≡ on (facts-at (c .before .before .before .before .before)) (date (year-at (c .before .before .before .before .before)) (month-at (c .before .before .before .before .before)) (c .before .before .before .loop2 .day)) 5 8
-tested c = c .day-agrees .ensures ∙ ap (λ (u : Date). on (facts-at (c .before .before .before .before .before)) u 5 8) (c .before .date-at .ensures)
+abbrev After-test : Type 0
+After-test = tie.After-day-agrees Inv-loop2 μ-loop2 Inv-loop3 μ-loop3 Inv-loop μ-loop Inv-years μ-years
+
+abbrev within : After-test → In-month
+within c = c .before .before .before .before .before .before
+
+tested : (c : After-test) → c .day-agrees .result ≡ on (facts-at (within c)) (date (year-at (within c)) (month-at (within c)) (c .before .before .before .loop2 .day)) 5 8
+tested c = c .day-agrees .ensures ∙ ap (λ (u : Date). on (facts-at (within c)) u 5 8) (c .before .date-at .ensures)
 
 any-said-requires : tie.Need-any-said-requires Inv-loop2 μ-loop2 Inv-loop3 μ-loop3 Inv-loop μ-loop Inv-years μ-years
 any-said-requires c κs = search needs
 
+day-number-requires : tie.Need-day-number-requires Inv-loop2 μ-loop2 Inv-loop3 μ-loop3 Inv-loop μ-loop Inv-years μ-years
+day-number-requires c κs = search needs
+
+cast-year : tie.Need-cast-year Inv-loop2 μ-loop2 Inv-loop3 μ-loop3 Inv-loop μ-loop Inv-years μ-years
+cast-year c = search needs
+
 years-holds : tie.Need-years-holds Inv-loop2 μ-loop2 Inv-loop3 μ-loop3 Inv-loop μ-loop Inv-years μ-years
-years-holds c = first-year _
+years-holds c = rw (c .before .day-number .ensures, day-one .0) (first-year _)
 
 cast-if1 : tie.Need-cast-if1 Inv-loop2 μ-loop2 Inv-loop3 μ-loop3 Inv-loop μ-loop Inv-years μ-years
 cast-if1 c = search needs
@@ -97,8 +116,11 @@ sub-before c = omega (arith, c .before .before .years .inv .at)
 year-agrees-requires : tie.Need-year-agrees-requires Inv-loop2 μ-loop2 Inv-loop3 μ-loop3 Inv-loop μ-loop Inv-years μ-years
 year-agrees-requires c κs = omega (arith, c .before .before .years .inv .year-high)
 
+cast-month : tie.Need-cast-month Inv-loop2 μ-loop2 Inv-loop3 μ-loop3 Inv-loop μ-loop Inv-years μ-years
+cast-month c = search needs
+
 loop-holds : tie.Need-loop-holds Inv-loop2 μ-loop2 Inv-loop3 μ-loop3 Inv-loop μ-loop Inv-years μ-years
-loop-holds c = first-month _ _ _ _ (c .before .before .before .years .inv) (omega arith)
+loop-holds c = first-month _ _ _ _ (c .before .before .before .before .years .inv) (omega arith)
 
 cast-if2 : tie.Need-cast-if2 Inv-loop2 μ-loop2 Inv-loop3 μ-loop3 Inv-loop μ-loop Inv-years μ-years
 cast-if2 c = search needs
@@ -109,30 +131,30 @@ month-agrees-requires c κs = omega (arith, c .before .before .loop .inv .year-h
 month-length-requires : tie.Need-month-length-requires Inv-loop2 μ-loop2 Inv-loop3 μ-loop3 Inv-loop μ-loop Inv-years μ-years
 month-length-requires c κs = search needs
 
+cast-day : tie.Need-cast-day Inv-loop2 μ-loop2 Inv-loop3 μ-loop3 Inv-loop μ-loop Inv-years μ-years
+cast-day c = search needs
+
 loop2-holds : tie.Need-loop2-holds Inv-loop2 μ-loop2 Inv-loop3 μ-loop3 Inv-loop μ-loop Inv-years μ-years
-loop2-holds c = first-day _ _ _ _ _ (c .before .before .before .before .before .loop .inv) (omega arith)
+loop2-holds c = first-day _ _ _ _ _ (c .before .before .before .before .before .before .loop .inv) (omega arith)
 
 date-at-requires : tie.Need-date-at-requires Inv-loop2 μ-loop2 Inv-loop3 μ-loop3 Inv-loop μ-loop Inv-years μ-years
-date-at-requires c κs = omega (arith, c .before .loop2 .inv .year-high, c .before .loop2 .inv .month-high, short (c .before .before .before))
+date-at-requires c κs = omega (arith, c .before .loop2 .inv .year-high, c .before .loop2 .inv .month-high, short (c .before .before .before .before))
 
 day-agrees-requires : tie.Need-day-agrees-requires Inv-loop2 μ-loop2 Inv-loop3 μ-loop3 Inv-loop μ-loop Inv-years μ-years
 day-agrees-requires c κs =
-    let m = c .before .before .before .before in
+    let y = entered (c .before .before .before .before .before) in
     let a = c .before .before .loop2 .inv in
     rw (c .date-at .ensures)
-    ((a .at, omega (arith, m .before .before .before .before .before .before .before .before .years .inv .at)), (omega (arith, a .so-far .upto, days-is), m .before .before .before .before .before .before .before .before .before .any-said .ensures))
+    ((a .at, omega (arith, y .years .inv .at)), (omega (arith, a .so-far .upto, days-is), y .before .before .before .any-said .ensures))
 
-enum-told : tie.Need-enum-told Inv-loop2 μ-loop2 Inv-loop3 μ-loop3 Inv-loop μ-loop Inv-years μ-years
-enum-told c = search needs
+hit-requires : tie.Need-hit-requires Inv-loop2 μ-loop2 Inv-loop3 μ-loop3 Inv-loop μ-loop Inv-years μ-years
+hit-requires c κs = search needs
 
-enum-known-found : tie.Need-enum-known-found Inv-loop2 μ-loop2 Inv-loop3 μ-loop3 Inv-loop μ-loop Inv-years μ-years
-enum-known-found c = search needs
-
-enum-told-2 : tie.Need-enum-told-2 Inv-loop2 μ-loop2 Inv-loop3 μ-loop3 Inv-loop μ-loop Inv-years μ-years
-enum-told-2 c = search needs
+is-two-requires : tie.Need-is-two-requires Inv-loop2 μ-loop2 Inv-loop3 μ-loop3 Inv-loop μ-loop Inv-years μ-years
+is-two-requires c κs = search needs
 
 add-day : tie.Need-add-day Inv-loop2 μ-loop2 Inv-loop3 μ-loop3 Inv-loop μ-loop Inv-years μ-years
-add-day c = omega (arith, short (c .before .before .before .before .before .before))
+add-day c = omega (arith, short (within (c .before)))
 
 add-number : tie.Need-add-number Inv-loop2 μ-loop2 Inv-loop3 μ-loop3 Inv-loop μ-loop Inv-years μ-years
 add-number c = omega (arith, c .before .before .before .before .loop2 .inv .so-far .upto, days-is)
@@ -141,24 +163,23 @@ loop2-less : tie.Need-loop2-less Inv-loop2 μ-loop2 Inv-loop3 μ-loop3 Inv-loop 
 loop2-less c = omega arith
 
 loop2-again : tie.Need-loop2-again Inv-loop2 μ-loop2 Inv-loop3 μ-loop3 Inv-loop μ-loop Inv-years μ-years
-unfolding hit
 loop2-again c =
     let d = c .before .before .before in
     let a = d .before .loop2 .inv in
     let l = d .loop2-test .taken in
-    let n = in-month (d .before .before .before) a l in
-    let e = here (d .before .before .before) a l in
+    let n = in-month (within (c .before)) a l in
+    let e = here (within (c .before)) a l in
     let m = d .before .before .if3 .taken in
     ⊎-elim
-    (λ w. rw (w .3) (rw (w .2 .given .1) at (next-day-hit _ _ _ _ _ _ a n (both-hold e m (sym (tested (c .before)) ∙ w .0 .taken)))))
+    (λ w. rw (w .4, w .1 .ensures) (next-day-hit _ _ _ _ _ _ a n (both-hold e m (sym (tested (c .before)) ∙ w .0 .taken))))
     (λ w. rw (w .1) (next-day-miss _ _ _ _ _ _ a n (second-fails e m (sym (tested (c .before)) ∙ w .0 .left))))
     (c .if4 .came)
 
 loop3-holds : tie.Need-loop3-holds Inv-loop2 μ-loop2 Inv-loop3 μ-loop3 Inv-loop μ-loop Inv-years μ-years
-loop3-holds c = first-day _ _ _ _ _ (c .before .before .before .before .before .loop .inv) (omega arith)
+loop3-holds c = first-day _ _ _ _ _ (c .before .before .before .before .before .before .loop .inv) (omega arith)
 
 add-day-2 : tie.Need-add-day-2 Inv-loop2 μ-loop2 Inv-loop3 μ-loop3 Inv-loop μ-loop Inv-years μ-years
-add-day-2 c = omega (arith, short (c .before .before .before))
+add-day-2 c = omega (arith, short (c .before .before .before .before))
 
 add-number-2 : tie.Need-add-number-2 Inv-loop2 μ-loop2 Inv-loop3 μ-loop3 Inv-loop μ-loop Inv-years μ-years
 add-number-2 c = omega (arith, c .before .loop3 .inv .so-far .upto, days-is)
@@ -170,7 +191,8 @@ loop3-again : tie.Need-loop3-again Inv-loop2 μ-loop2 Inv-loop3 μ-loop3 Inv-loo
 loop3-again c =
     let a = c .before .loop3 .inv in
     let l = c .loop3-test .taken in
-    next-day-miss _ _ _ _ _ _ a (in-month (c .before .before .before) a l) (first-fails _ (here (c .before .before .before) a l) (c .before .before .if3 .left))
+    let m = c .before .before .before .before in
+    next-day-miss _ _ _ _ _ _ a (in-month m a l) (first-fails _ (here m a l) (c .before .before .if3 .left))
 
 add-month : tie.Need-add-month Inv-loop2 μ-loop2 Inv-loop3 μ-loop3 Inv-loop μ-loop Inv-years μ-years
 add-month c = omega arith
@@ -180,7 +202,7 @@ loop-less c = omega arith
 
 loop-again : tie.Need-loop-again Inv-loop2 μ-loop2 Inv-loop3 μ-loop3 Inv-loop μ-loop Inv-years μ-years
 loop-again c =
-    let g = c .before .month-length .ensures in
+    let g = c .before .before .month-length .ensures in
     ⊎-elim
     (λ w. rw (w .3, w .4) (next-month _ _ _ _ _ _ (w .1 .inv) (omega (arith, w .2 .left, g))))
     (λ w. rw (w .3, w .4) (next-month _ _ _ _ _ _ (w .1 .inv) (omega (arith, w .2 .left, g))))
@@ -199,19 +221,16 @@ returns : tie.Need-returns Inv-loop2 μ-loop2 Inv-loop3 μ-loop3 Inv-loop μ-loo
 returns c = no-more-years _ _ _ _ (c .before .before .years .inv) (omega arith)
 
 returns-2 : tie.Need-returns-2 Inv-loop2 μ-loop2 Inv-loop3 μ-loop3 Inv-loop μ-loop Inv-years μ-years
-unfolding hit
 returns-2 c =
-    let d = c .before .before .before .before .before .before in
+    let i = c .before .before .before in
+    let d = i .before .before .before in
     let a = d .before .loop2 .inv in
     let l = d .loop2-test .taken in
-    let m = d .before .before .before in
-    let e = both-hold (here m a l) (d .before .before .if3 .taken) (sym (tested (c .before .before .before .before)) ∙ c .before .before .before .if4 .taken) in
-    so-far-two _ 1 days _ _ _ (rw (c .before .found .given .1) at (next-day-hit _ _ _ _ _ _ a (in-month m a l) e .so-far))
-
-returns-3 : tie.Need-returns-3 Inv-loop2 μ-loop2 Inv-loop3 μ-loop3 Inv-loop μ-loop Inv-years μ-years
-returns-3 c =
-    let e = c .enum-told2 .given .1 in
-    e ∙ so-far-two _ 1 days _ _ _ (rw e at (c .before .before .before .before .before .before .loop2 .inv .so-far))
+    let m = d .before .before .before .before in
+    let e = both-hold (here m a l) (d .before .before .if3 .taken) (sym (tested (i .before)) ∙ i .if4 .taken) in
+    so-far-two _ 1 days _ _
+    (rw (← c .before .before .hit .ensures) at (next-day-hit _ _ _ _ _ _ a (in-month m a l) e .so-far))
+    (sym (c .before .is-two .ensures) ∙ c .if5 .taken)
 
 pub search-days-spec : {M : Type 1} → statement M
 search-days-spec =
@@ -226,20 +245,23 @@ search-days-spec =
     Inv-years
     μ-years
     any-said-requires
+    day-number-requires
+    cast-year
     years-holds
     cast-if1
     sub-before
     year-agrees-requires
+    cast-month
     loop-holds
     cast-if2
     month-agrees-requires
     month-length-requires
+    cast-day
     loop2-holds
     date-at-requires
     day-agrees-requires
-    enum-told
-    enum-known-found
-    enum-told-2
+    hit-requires
+    is-two-requires
     add-day
     add-number
     loop2-less
@@ -256,5 +278,4 @@ search-days-spec =
     years-less
     years-again
     returns
-    returns-2
-    returns-3)
+    returns-2)

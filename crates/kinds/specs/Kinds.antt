@@ -1,0 +1,80 @@
+-- The kinds of fact of paper 01: "1 year, 2 century, 3 year in century, 4 month, 5 day, 6 day of year, 7 weekday (from a, A, u, w), 8 U, 9 W,
+-- 10 G, 11 g, 12 V; 13 hour, 14 hour of twelve, 15 half of day; 16 minute, 17 second".
+use Prim.Native.Nat.{ℕ}
+use mathlib.Core.List.{List, [], _∷_}
+
+abbrev pub year : ℕ
+year = 1
+
+abbrev pub century : ℕ
+century = 2
+
+abbrev pub yearInCentury : ℕ
+yearInCentury = 3
+
+abbrev pub month : ℕ
+month = 4
+
+abbrev pub day : ℕ
+day = 5
+
+abbrev pub dayOfYear : ℕ
+dayOfYear = 6
+
+abbrev pub weekday : ℕ
+weekday = 7
+
+abbrev pub sundayWeek : ℕ
+sundayWeek = 8
+
+abbrev pub mondayWeek : ℕ
+mondayWeek = 9
+
+abbrev pub isoYear : ℕ
+isoYear = 10
+
+abbrev pub isoYearInCentury : ℕ
+isoYearInCentury = 11
+
+abbrev pub isoWeek : ℕ
+isoWeek = 12
+
+abbrev pub hour : ℕ
+hour = 13
+
+abbrev pub hourOfTwelve : ℕ
+hourOfTwelve = 14
+
+abbrev pub halfOfDay : ℕ
+halfOfDay = 15
+
+abbrev pub minute : ℕ
+minute = 16
+
+abbrev pub second : ℕ
+second = 17
+
+-- "Kinds 1 to 12, the date facts, bear on the day, 13 to 15 on the hour"
+unfoldable pub dayKinds : List ℕ
+dayKinds =
+    year
+    ∷ century
+    ∷ yearInCentury
+    ∷ month
+    ∷ day
+    ∷ dayOfYear
+    ∷ weekday
+    ∷ sundayWeek
+    ∷ mondayWeek
+    ∷ isoYear
+    ∷ isoYearInCentury
+    ∷ isoWeek
+    ∷ []
+
+unfoldable pub hourKinds : List ℕ
+hourKinds = hour ∷ hourOfTwelve ∷ halfOfDay ∷ []
+
+-- everything here, for proofs that compute
+unfoldable pub computes : Unit {0}
+unfolding dayKinds hourKinds
+computes = tt

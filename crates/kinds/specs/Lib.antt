@@ -1,0 +1,2 @@
+-- The kinds of fact.
+pub mod Kinds
