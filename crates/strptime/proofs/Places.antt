@@ -9,7 +9,7 @@ use borrow.Author.Tests.{leb-true}
 use lib.Dec.{leb, lit≤}
 use lib.ListN.{length}
 use Rattle.laws.proofs.Cases.{either, picked}
-use Rattle.format.specs.Opening.{Ended, opening, most as longest}
+use Rattle.format.specs.Opening.{Ended, opening, longest}
 use Rattle.format.specs.Opening.Ended.{Whole, BadAt}
 use Rattle.format.proofs.Refused.{bad-within}
 use Rattle.judge.specs.Verdicts.{dayVerdict, hourVerdict}

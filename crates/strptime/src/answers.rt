@@ -9,7 +9,7 @@ use crate::State;
 use crate::steps::read_all;
 use calendar::Date;
 use calendar::FromNumber;
-use format::MOST_BYTES;
+use format::LONGEST;
 use judge::Verdict;
 use judge::judge_day;
 use judge::judge_hour;
@@ -92,8 +92,8 @@ fn done(state: State, day: Day, hour: Said) -> Answer
         unread: state.at,
         day,
         hour,
-        minute: said_of(said[16]),
-        second: said_of(said[17]),
+        minute: said_of(said[kinds::MINUTE as usize]),
+        second: said_of(said[kinds::SECOND as usize]),
     }
 }
 
@@ -163,7 +163,7 @@ fn read_by(elements: &[u32], s: &[u8]) -> Answer
 pub fn read_elements(elements: &[u32], text: &[u8]) -> Answer
     ensures { λ r. ⌜ readingOf r ≡ elementsReading (now (elements .entry)) (now (text .entry)) ⌝ }
 {
-    if MOST_BYTES < text.len() {
+    if LONGEST < text.len() {
         return Answer::TextTooLong;
     }
     read_by(elements, text)

@@ -3,14 +3,14 @@ use format::Conversion;
 use format::Form;
 use format::conversion_of;
 use text::NameRead;
+use text::Names;
 use text::is_space;
-use text::names_for;
 use text::read_digits;
 use text::read_name;
 use text::skip_space;
 use text::value_at;
 ghost use mathlib.Core.Path.{_≡_};
-ghost use Prim.Native.Nat.{_≤_, _<_};
+ghost use Prim.Native.Nat.{_≤_};
 ghost use lib.ListN.{length};
 ghost use Rattle.strptime.specs.Elements.{readByte, readNumber, fromSunday, readNamed, readConversion, readElement};
 
@@ -33,11 +33,11 @@ pub enum Item {
     },
 }
 
-fn read_byte(b: u32, s: &[u8], at: usize) -> Item
-    requires { ⌜ (b < 256) × (at ≤ length (now s)) ⌝ }
+fn read_byte(b: u8, s: &[u8], at: usize) -> Item
+    requires { ⌜ at ≤ length (now s) ⌝ }
     ensures { λ r. ⌜ r ≡ readByte b (now (s .entry)) at ⌝ }
 {
-    if is_space(b as u8) {
+    if is_space(b) {
         return Item::Skip {
             next: skip_space(s, at),
         };
@@ -45,7 +45,7 @@ fn read_byte(b: u32, s: &[u8], at: usize) -> Item
     if s.len() <= at {
         return Item::NoMatch { at };
     }
-    if s[at] != b as u8 {
+    if s[at] != b {
         return Item::NoMatch { at };
     }
     Item::Skip { next: at + 1 }
@@ -105,14 +105,14 @@ fn from_sunday(item: Item) -> Item
     }
 }
 
-fn read_named(c: Conversion, s: &[u8], at: usize) -> Item
+fn read_named(names: Names, c: Conversion, s: &[u8], at: usize) -> Item
     requires { ⌜ at ≤ length (now s) ⌝ }
-    ensures { λ r. ⌜ r ≡ readNamed c (now (s .entry)) at ⌝ }
+    ensures { λ r. ⌜ r ≡ readNamed names c (now (s .entry)) at ⌝ }
 {
-    match read_name(names_for(c.kind), s, at) {
+    match read_name(names, s, at) {
         NameRead::Found { index, length } => Item::Fact {
             kind: c.kind,
-            number: value_at(c.kind, index as u8),
+            number: value_at(names, index as u8),
             from: at,
             next: at + length,
         },
@@ -129,9 +129,9 @@ fn read_conversion(c: Conversion, s: &[u8], at: usize) -> Item
         Form::Zeros => read_number(c, s, at),
         Form::Blanks => read_number(c, s, at),
         Form::FromSunday => from_sunday(read_number(c, s, at)),
-        Form::Short => read_named(c, s, at),
-        Form::Full => read_named(c, s, at),
-        Form::Lower => read_named(c, s, at),
+        Form::Short(names) => read_named(names, c, s, at),
+        Form::Full(names) => read_named(names, c, s, at),
+        Form::Lower(names) => read_named(names, c, s, at),
         Form::Unknown => Item::NoMatch { at },
     }
 }
@@ -142,7 +142,7 @@ pub(crate) fn read_element(element: u32, s: &[u8], at: usize) -> Item
     ensures { λ r. ⌜ r ≡ readElement element (now (s .entry)) at ⌝ }
 {
     if element < 256 {
-        return read_byte(element, s, at);
+        return read_byte(element as u8, s, at);
     }
-    read_conversion(conversion_of(element - 256), s, at)
+    read_conversion(conversion_of((element % 256) as u8), s, at)
 }

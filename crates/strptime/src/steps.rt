@@ -30,7 +30,7 @@ fn conflicts(said: u32, number: u32) -> bool
 }
 
 // One element, read at an offset of the text; what it says is noted among the facts.
-fn step_on(element: u32, s: &[u8], at: usize, said: &mut [u32; 18]) -> Step
+fn step_on(element: u32, s: &[u8], at: usize, said: &mut [u32; kinds::KINDS]) -> Step
     requires { ⌜ at ≤ length (now s) ⌝ }
     ensures { λ r. ⌜ stays (here (now (said .exit)) (r .at)) (r .outcome) ≡ stepOn element (now (s .entry)) (here (now (said .entry)) at) ⌝ }
 {
@@ -69,7 +69,7 @@ fn step_on(element: u32, s: &[u8], at: usize, said: &mut [u32; 18]) -> Step
 }
 
 // A reading that ends here.
-fn stopped(said: [u32; 18], at: usize, outcome: Outcome) -> Stepped
+fn stopped(said: [u32; kinds::KINDS], at: usize, outcome: Outcome) -> Stepped
     ensures { λ r. ⌜ r ≡ stays (here said at) outcome ⌝ }
 {
     Stepped {
@@ -85,7 +85,7 @@ fn stopped(said: [u32; 18], at: usize, outcome: Outcome) -> Stepped
 pub(crate) fn read_all(elements: &[u32], s: &[u8]) -> Stepped
     ensures { λ r. ⌜ r ≡ readAll (now (elements .entry)) (now (s .entry)) start ⌝ }
 {
-    let mut said = [0; 18];
+    let mut said = [0; kinds::KINDS];
     let mut at = 0;
     let mut i = 0;
     while i < elements.len() {
