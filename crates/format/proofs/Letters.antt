@@ -10,8 +10,8 @@ use native.Mathlib.Omega.{arith}
 use borrow.Author.Tests.{ne-eqb, le-ltb, lt-ltb}
 use lib.Dec.{T, ltb, ltb→lt}
 use Rattle.laws.proofs.Table.{both, all, at}
-use Rattle.format.specs.Private.{holds}
-use Rattle.format.specs.Opening.{among}
+use Rattle.format.specs.Conversions.{among}
+use Rattle.format.specs.Private.{holds, SetOf}
 
 abbrev same : Bool → Bool → Bool
 same a b = cond a b (not b)
@@ -42,11 +42,14 @@ holds-past set b h = rw (le-ltb b 64 (omega arith), lt-ltb 127 b (omega arith))
 abbrev agree : ℕ → List ℕ → ℕ → Bool
 agree set s b = same (holds set b) (among b s)
 
--- What `holds` answers of a byte is whether it is among some letters, where the number and the letters agree at each byte below 128
--- and all letters are below 128.
-pub is-among : (s : List ℕ) (set b : ℕ) {r : Bool} → r ≡ holds set b → T (all (agree set s) 128) → T (below 128 s) → r ≡ among b s
-is-among s set b e t u =
+-- a number is the set of some letters where the two agree at each byte below 128 and all letters are below 128
+pub set-of : (set : ℕ) (s : List ℕ) → T (all (agree set s) 128) → T (below 128 s) → SetOf set s
+set-of set s t u b =
     elim (decLe 128 b) [
-      | yes h ↦ e ∙ holds-past set b h ∙ sym (among-past 128 s u b h)
-      | no h ↦ e ∙ same→eq (holds set b) (among b s) (at (agree set s) 128 t b (lt-of-not-le h))
+      | yes h ↦ holds-past set b h ∙ sym (among-past 128 s u b h)
+      | no h ↦ same→eq (holds set b) (among b s) (at (agree set s) 128 t b (lt-of-not-le h))
     ]
+
+-- what `holds` answers of a byte is whether it is among the letters
+pub is-among : (s : List ℕ) (set b : ℕ) {r : Bool} → r ≡ holds set b → T (all (agree set s) 128) → T (below 128 s) → r ≡ among b s
+is-among s set b e t u = e ∙ set-of set s t u b

@@ -1,232 +1,222 @@
 -- Opening a format one element at a time: the loop's invariant, and what each turn makes of it.
 -- Assumes nothing.
-use Prim.Native.Char.{code}
 use Prim.Native.Nat.{ℕ, zero, suc, _+_, _-_, _≤_, _<_}
-use mathlib.Core.Bool.{cond}
-use mathlib.Core.List.{List}
-use mathlib.Core.Path.{_≡_, refl, sym, ap, subst, _∙_}
+use mathlib.Core.List.{List, [], _∷_, _++_}
+use mathlib.Core.Path.{_≡_, refl, sym, ap, _∙_}
+use native.Mathlib.Nat.{add-zero}
 use native.Mathlib.Numerals.{add-one}
 use native.Mathlib.Omega.{arith}
-use borrow.Author.Tests.{eq-eqb, ne-eqb, eqb-true, leb-true, leb-false}
-use lib.Dec.{eqb, leb}
-use lib.ListN.{length, drop, getD, set, length-set, drop-of-length-le}
-use lib.Seq.{drop-cons, length-sets}
-use Rattle.format.specs.Opening.{Opening, among, simple, composite, after-E, after-O, letter, nothing, composed, acted, scan, step, ownFormat, compositeTo, openTo, closed}
+use lib.ListN.{length, getD, drop, set, length-set, length-append, drop-of-length-le}
+use lib.Seq.{sets, drop-cons, drop-drop, length-sets}
+use Rattle.laws.proofs.Cases.{clash}
+use Rattle.laws.proofs.Stores.{sets-append}
+use Rattle.format.specs.Conversions.{ownFormat}
+use Rattle.format.specs.Opening.{Ended, Opening, conversionAt, pieceOf, nothing, before, composed, acted, signAt}
+use Rattle.format.specs.Opening.{openFrom, compositeTo, openTo, closed, longest, mostElements}
 use Rattle.format.specs.Opening.Ended.{Whole, BadAt}
-use Rattle.format.specs.Private.{ending, lastByte, turnAt}
+use Rattle.format.specs.Private.{Opens, answered}
 use Rattle.format.specs.declared.opening.Act.{Act}
-use Rattle.format.specs.declared.opening.Act.the-variants.{Wait, Emit, Open, Refuse}
-use Rattle.format.specs.declared.opening.Last.{Last}
+use Rattle.format.specs.declared.opening.Act.the-variants.{Byte, Convert, Open, Refuse}
 use Rattle.format.specs.declared.opening.Opened.{Opened}
-use Rattle.format.specs.declared.opening.Opened.the-variants.{Done, Bad, Full}
-use Rattle.format.specs.declared.opening.Turn.{Turn}
-use Rattle.laws.proofs.Cases.{either, picked, clash}
-use Rattle.format.proofs.Stores.{Same, Gives, stops, stored-one, no-room, inner-done, inner-bad, inner-full}
+use Rattle.format.specs.declared.opening.Opened.the-variants.{Done, TooLong, Bad}
+use Rattle.format.specs.declared.opening.Piece.{Piece}
+use Rattle.format.specs.declared.opening.Sign.{Sign}
+use Rattle.format.specs.declared.opening.Sign.the-variants.{Own, Of}
+use Rattle.format.proofs.Pieces.{takes}
 
 -- ---- one turn of the definition
 
-scan-turn : (inner : ℕ → Opening) (s : List ℕ) (phase start i : ℕ) → i < length s
-    → scan inner phase start i (drop i s)
-    ≡ acted inner start (λ p. scan inner p start (i + 1) (drop (i + 1) s)) (scan inner 0 (i + 1) (i + 1) (drop (i + 1) s)) (step phase (getD s i 0))
-unfolding scan
-scan-turn inner s phase start i h = rw (drop-cons s i 0 h, add-one i)
+module _ (inner : ℕ → ℕ → Opening) (g : Sign) where
+  -- the bytes of the element before are passed
+  passed : (s : List ℕ) (k i : ℕ) → openFrom inner g i k s ≡ openFrom inner g (i + k) 0 (drop k s)
+  unfolding openFrom
+  passed [] zero i = refl
+  passed [] (suc k) i = refl
+  passed (b ∷ s) zero i = rw (add-zero i)
+  passed (b ∷ s) (suc k) i = let e : i + 1 + k ≡ i + suc k = omega arith in rw e at (passed s k (i + 1))
 
-scan-end : (inner : ℕ → Opening) (s : List ℕ) (phase start i : ℕ) → length s ≤ i
-    → scan inner phase start i (drop i s) ≡ cond (eqb phase 0) (nothing Whole) (nothing (BadAt start))
-unfolding scan
-scan-end inner s phase start i h = rw (drop-of-length-le s h)
+  module _ (s : List ℕ) (i : ℕ) where
+    ended : length s ≤ i → openFrom inner g i 0 (drop i s) ≡ nothing Whole
+    unfolding openFrom
+    ended h = rw (drop-of-length-le s h)
+
+    turned : i < length s
+        → let p = pieceOf (getD s i 0) (drop (i + 1) s) in
+        openFrom inner g i 0 (drop i s)
+        ≡ acted inner (signAt g i) (openFrom inner g (i + p .length) 0 (drop (i + p .length) s)) (p .act)
+    unfolding openFrom
+    turned h =
+        let p = pieceOf (getD s i 0) (drop (i + 1) s) in
+        let e : i + 1 + (p .length - 1) ≡ i + p .length = omega (arith, takes (getD s i 0) (drop (i + 1) s)) in
+        let q = rw (drop-drop (p .length - 1) (i + 1) s, e) at (passed (drop (i + 1) s) (p .length - 1) (i + 1)) in
+        rw (← q, drop-cons s i 0 h, add-one i)
 
 -- no composite is opened 0 deep
-deepest : (depth c : ℕ) → depth ≡ 0 → compositeTo depth c ≡ nothing (BadAt 0)
+deepest : (depth sign c : ℕ) → depth ≡ 0 → compositeTo depth sign c ≡ nothing (BadAt sign)
 unfolding compositeTo
-deepest depth c e = rw e
+deepest depth sign c e = rw e
 
 -- otherwise its own format is opened one less deep
-deeper : (depth c : ℕ) → (depth ≡ 0 → ⊥) → openTo (depth - 1) (ownFormat c) ≡ compositeTo depth c
+deeper : (depth sign c : ℕ) → (depth ≡ 0 → ⊥) → openTo (depth - 1) (Of sign) (ownFormat c) ≡ compositeTo depth sign c
 unfolding openTo compositeTo
-deeper zero c h = absurd (h refl)
-deeper (suc d) c h =
-    let e : suc d - 1 ≡ d = omega arith in
-    rw e
+deeper zero sign c h = absurd (h refl)
+deeper (suc d) sign c h = let e : suc d - 1 ≡ d = omega arith in rw e
+
+-- ---- a composite before the rest, by how its own format ended
+
+whole : (e : List ℕ) (d : Ended) (rest : Opening) → d ≡ Whole → composed (record { elements = e; ended = d }) rest ≡ before e rest
+unfolding composed
+whole e Whole rest q = refl
+whole e (BadAt p) rest q = clash (cc)
+
+broken : (e : List ℕ) (d : Ended) (rest : Opening) → (d ≡ Whole → ⊥)
+    → composed (record { elements = e; ended = d }) rest ≡ record { elements = e; ended = d }
+unfolding composed
+broken e Whole rest q = absurd (q refl)
+broken e (BadAt p) rest q = refl
+
+no-longer : (e : List ℕ) (d : Ended) (rest : Opening) → length e ≤ length (composed (record { elements = e; ended = d }) rest .elements)
+unfolding composed before
+no-longer e Whole rest = omega (arith, length-append e (rest .elements))
+no-longer e (BadAt p) rest = omega arith
+
+-- what an answer says of how an opening ended
+pub closed-done : (n k : ℕ) (d : Ended) → closed n d ≡ Done k → (d ≡ Whole) × (k ≡ n)
+unfolding closed
+closed-done n k Whole q = (refl, (cc))
+closed-done n k (BadAt p) q = clash (cc)
+
+-- ---- storing an opening
+
+-- to store w from n on in xs comes to the same as to store t from m on in ys
+pub record Same (xs : List ℕ) (n : ℕ) (w : Opening) (ys : List ℕ) (m : ℕ) (t : Opening) : Type 0 where
+  pub counts : n + length (w .elements) ≡ m + length (t .elements)
+  pub ends : w .ended ≡ t .ended
+  pub contents : sets xs n (w .elements) ≡ sets ys m (t .elements)
+
+-- to store t from m on in ys gives the answer r and leaves xs
+abbrev pub Gives : Opened → List ℕ → List ℕ → ℕ → Opening → Type 0
+Gives r xs ys m t = (r ≡ answered m t) × (xs ≡ sets ys m (t .elements))
+
+module _ {xs : List ℕ} {n : ℕ} {ys : List ℕ} {m : ℕ} {t : Opening} where
+  gives : {w : Opening} → Same xs n w ys m t → answered n w ≡ answered m t
+  gives w = rw (w .counts, w .ends)
+
+  stops : (d : Ended) → Same xs n (nothing d) ys m t → Gives (closed n d) xs ys m t
+  unfolding nothing
+  stops d w = (rw add-zero at (gives w), w .contents)
+
+  stored-one : (e : ℕ) (rest : Opening) → Same xs n (before (e ∷ []) rest) ys m t → Same (set xs n e) (n + 1) rest ys m t
+  unfolding before
+  stored-one e rest w = record { counts = omega (arith, w .counts); ends = w .ends; contents = rw add-one (w .contents) }
+
+  -- a composite that opens to o was stored: r was the answer, and zs is what the slice then holds
+  module _ (o : Opening) {r : Opened} {zs : List ℕ} (inside : Gives r zs xs n o) (rest : Opening) (w : Same xs n (composed o rest) ys m t) where
+    inner-done : (k : ℕ) → r ≡ Done k → Same zs k rest ys m t
+    unfolding before
+    inner-done k q =
+        let e = o .elements in
+        let d = closed-done (n + length e) k (o .ended) (sym (inside .0) ∙ q) in
+        let v : Same xs n (before e rest) ys m t = rw (whole e (o .ended) rest (d .0)) at w in
+        record {
+          counts = omega (arith, v .counts, d .1, length-append e (rest .elements));
+          ends = v .ends;
+          contents = rw (inside .1, d .1) (sym (sets-append xs n e (rest .elements)) ∙ v .contents);
+        }
+
+    inner-bad : (o .ended ≡ Whole → ⊥) → Gives r zs ys m t
+    inner-bad q =
+        let v : Same xs n o ys m t = rw (broken (o .elements) (o .ended) rest q) at w in
+        (inside .0 ∙ gives v, inside .1 ∙ v .contents)
 
 -- ---- the loop
 
--- The invariant: n elements stand in xs, and the format s is read up to i, in a phase. To store the rest of s from n on in xs comes to
--- the same as to store all of s from m on in ys.
-pub record Going (depth : ℕ) (s : List ℕ) (phase start i : ℕ) (xs : List ℕ) (n : ℕ) (ys : List ℕ) (m : ℕ) : Type 0 where
-  pub within : i ≤ length s
-  pub room : n ≤ length xs
+-- The invariant: n elements are counted, those that fit stand in xs, and the format s is read up to i. To store the rest of s from n on
+-- in xs comes to the same as to store all of s from m on in ys.
+pub record Going (depth : ℕ) (g : Sign) (s : List ℕ) (i : ℕ) (xs : List ℕ) (n : ℕ) (ys : List ℕ) (m : ℕ) : Type 0 where
   pub kept : length xs ≡ length ys
-  pub same : Same xs n (scan (compositeTo depth) phase start i (drop i s)) ys m (openTo depth s)
+  pub same : Same xs n (openFrom (compositeTo depth) g i 0 (drop i s)) ys m (openTo depth g s)
 
-pub begins : (depth : ℕ) (s ys : List ℕ) (m : ℕ) → m ≤ length ys → Going depth s 0 0 0 ys m ys m
+pub begins : (depth : ℕ) (g : Sign) (s ys : List ℕ) (m : ℕ) → Going depth g s 0 ys m ys m
 unfolding openTo
-begins depth s ys m h = record { within = omega arith; room = h; kept = refl; same = record { answers = refl; contents = refl } }
+begins depth g s ys m = record { kept = refl; same = record { counts = refl; ends = refl; contents = refl } }
 
-module _ {depth : ℕ} {s : List ℕ} {phase start i : ℕ} {xs : List ℕ} {n : ℕ} {ys : List ℕ} {m : ℕ}
-    (g : Going depth s phase start i xs n ys m) where
-  -- the format has ended, outside a conversion or within one
-  pub finished : length s ≤ i → phase ≡ 0 → Gives (Done n) xs ys m (openTo depth s)
+-- the offset that a % counts as lies in a format that is not too long
+pub sign-within : (g : Sign) (i : ℕ) → i < longest → signAt g 0 < longest → signAt g i < longest
+unfolding signAt
+sign-within Own i h l = h
+sign-within (Of p) i h l = l
+
+module _ {depth : ℕ} {g : Sign} {s : List ℕ} {i : ℕ} {xs : List ℕ} {n : ℕ} {ys : List ℕ} {m : ℕ}
+    (going : Going depth g s i xs n ys m) where
+  pub finished : length s ≤ i → Gives (Done n) xs ys m (openTo depth g s)
   unfolding closed
-  finished h e =
-      let w : Same xs n (nothing Whole) ys m (openTo depth s) =
-      rw (scan-end (compositeTo depth) s phase start i h, eq-eqb phase 0 e) at (g .same) in
-      stops xs n Whole (g .room) w
+  finished h = stops Whole (rw (ended (compositeTo depth) g s i h) at (going .same))
 
-  unfinished : length s ≤ i → (phase ≡ 0 → ⊥) → Gives (Bad start) xs ys m (openTo depth s)
-  unfolding closed
-  unfinished h e =
-      let w : Same xs n (nothing (BadAt start)) ys m (openTo depth s) =
-      rw (scan-end (compositeTo depth) s phase start i h, ne-eqb phase 0 e) at (g .same) in
-      stops xs n (BadAt start) (g .room) w
+  -- what stands at i
+  module _ (h : i < length s) {p : Piece} (f : p ≡ pieceOf (getD s i 0) (drop (i + 1) s)) where
+    pub passes : (1 ≤ p .length) × (p .length ≤ 3)
+    passes = rw f (takes (getD s i 0) (drop (i + 1) s))
 
-  -- the next byte acts
-  module _ (h : i < length s) {act : Act} (acts : act ≡ step phase (getD s i 0)) where
-    abbrev next : Opening
-    next = scan (compositeTo depth) 0 (i + 1) (i + 1) (drop (i + 1) s)
+    abbrev rest : Opening
+    rest = openFrom (compositeTo depth) g (i + p .length) 0 (drop (i + p .length) s)
 
-    turn : (a : Act) → act ≡ a
-        → Same xs n (acted (compositeTo depth) start (λ p. scan (compositeTo depth) p start (i + 1) (drop (i + 1) s)) next a) ys m (openTo depth s)
-    turn a e = rw (← e, acts, ← scan-turn (compositeTo depth) s phase start i h) (g .same)
+    turn : {a : Act} → p .act ≡ a → Same xs n (acted (compositeTo depth) (signAt g i) rest a) ys m (openTo depth g s)
+    turn q = rw (← q, f, ← turned (compositeTo depth) g s i h) (going .same)
 
-    waits : {p : ℕ} → act ≡ Wait p → Going depth s p start (i + 1) xs n ys m
+    pub stores-byte : {b : ℕ} {zs : List ℕ} → p .act ≡ Byte b → zs ≡ set xs n b → Going depth g s (i + p .length) zs (n + 1) ys m
     unfolding acted
-    waits {p} e = record { within = omega arith; room = g .room; kept = g .kept; same = turn (Wait p) e }
+    stores-byte {b} q e = rw e (record { kept = length-set xs n b ∙ going .kept; same = stored-one b rest (turn q) })
 
-    pub emits : {e : ℕ} → act ≡ Emit e → n < length xs → Going depth s 0 (i + 1) (i + 1) (set xs n e) (n + 1) ys m
-    unfolding acted
-    emits {e} q l =
-        record {
-          within = omega arith;
-          room = omega (arith, length-set xs n e);
-          kept = length-set xs n e ∙ g .kept;
-          same = stored-one xs n e next (turn (Emit e) q);
-        }
-
-    pub overflows : {e : ℕ} → act ≡ Emit e → length xs ≤ n → Gives Full xs ys m (openTo depth s)
-    unfolding acted
-    overflows {e} q l = no-room xs n e next l (turn (Emit e) q)
-
-    refuses : act ≡ Refuse → Gives (Bad start) xs ys m (openTo depth s)
-    unfolding acted closed
-    refuses q = stops xs n (BadAt start) (g .room) (turn Refuse q)
-
-    -- a composite
-    module _ {c : ℕ} (q : act ≡ Open c) where
-      composite-turn : Same xs n (composed start (compositeTo depth c .elements) (compositeTo depth c .ended) next) ys m (openTo depth s)
+    -- a conversion whose % counts as sign
+    module _ {sign : ℕ} (at : sign ≡ signAt g i) where
+      pub stores-conversion : {c e : ℕ} {zs : List ℕ} → p .act ≡ Convert c → e ≡ conversionAt sign c → zs ≡ set xs n e
+          → Going depth g s (i + p .length) zs (n + 1) ys m
       unfolding acted
-      composite-turn = turn (Open c) q
+      stores-conversion {c} {e} q k z =
+          rw (z, k, at)
+          (record { kept = length-set xs n (conversionAt (signAt g i) c) ∙ going .kept; same = stored-one (conversionAt (signAt g i) c) rest (turn q) })
 
-      pub too-deep : depth ≡ 0 → Gives (Bad start) xs ys m (openTo depth s)
-      unfolding composed nothing closed
-      too-deep e =
-          let w : Same xs n (nothing (BadAt start)) ys m (openTo depth s) = rw (deepest depth c e) at composite-turn in
-          stops xs n (BadAt start) (g .room) w
+      pub refuses : p .act ≡ Refuse → Gives (Bad sign) xs ys m (openTo depth g s)
+      unfolding acted closed
+      refuses q = rw at (stops (BadAt (signAt g i)) (turn q))
 
-      -- its own format was opened one less deep: r was the answer, and zs is what the slice then holds
-      module _ (d : depth ≡ 0 → ⊥) {own : List ℕ} (f : own ≡ ownFormat c) {r : Opened} {zs : List ℕ}
-          (opened : Gives r zs xs n (openTo (depth - 1) own)) where
-        inside : Gives r zs xs n (compositeTo depth c)
-        inside = rw (f, deeper depth c d) at opened
+      -- a composite
+      module _ {c : ℕ} (q : p .act ≡ Open c) where
+        composite-turn : Same xs n (composed (compositeTo depth sign c) rest) ys m (openTo depth g s)
+        unfolding acted
+        composite-turn = rw at (turn q)
 
-        pub opens : {k : ℕ} → r ≡ Done k → Going depth s 0 (i + 1) (i + 1) zs k ys m
-        opens {k} e =
-            let v = inner-done xs n (compositeTo depth c) inside start next composite-turn k e in
-            let l = ap length (inside .1) ∙ length-sets xs n (compositeTo depth c .elements) in
-            record { within = omega arith; room = omega arith; kept = l ∙ g .kept; same = v .1 }
+        pub too-deep : depth ≡ 0 → Gives (Bad sign) xs ys m (openTo depth g s)
+        unfolding composed nothing closed
+        too-deep e =
+            let w : Same xs n (nothing (BadAt sign)) ys m (openTo depth g s) = rw (deepest depth sign c e) at composite-turn in
+            stops (BadAt sign) w
 
-        pub opens-bad : {p : ℕ} → r ≡ Bad p → Gives (Bad start) zs ys m (openTo depth s)
-        opens-bad {p} = inner-bad xs n (compositeTo depth c) inside start next composite-turn p
+        -- its own format is opened one less deep
+        module _ (d : depth ≡ 0 → ⊥) {own : List ℕ} (holds : own ≡ ownFormat c) where
+          pub asks : Opens depth g s m → length own ≤ 14 → Opens (depth - 1) (Of sign) own n
+          unfolding signAt
+          asks a l =
+              let o = compositeTo depth sign c in
+              record {
+                short = omega arith;
+                sign = rw at (sign-within g i (omega (arith, a .short)) (a .sign));
+                few = rw (holds, deeper depth sign c d)
+                    (omega (arith, a .few, composite-turn .counts, no-longer (o .elements) (o .ended) rest));
+              }
 
-        pub opens-full : r ≡ Full → Gives Full zs ys m (openTo depth s)
-        opens-full = inner-full xs n (compositeTo depth c) inside start next composite-turn
+          module _ {r : Opened} {zs : List ℕ} (opened : Gives r zs xs n (openTo (depth - 1) (Of sign) own)) where
+            inside : Gives r zs xs n (compositeTo depth sign c)
+            inside = rw (holds, deeper depth sign c d) at opened
 
--- ---- the conversion at a %
+            pub opens : {k : ℕ} → r ≡ Done k → Going depth g s (i + p .length) zs k ys m
+            opens {k} e =
+                let l = ap length (inside .1) ∙ length-sets xs n (compositeTo depth sign c .elements) in
+                record { kept = l ∙ going .kept; same = inner-done (compositeTo depth sign c) inside rest composite-turn k e }
 
--- the last byte of a conversion does not wait
-never-waits : (phase b q : ℕ) → ending phase b ≡ Wait q → ⊥
-unfolding ending letter
-never-waits phase b =
-    let P : Act → Type 0 = λ a. (q : ℕ) → a ≡ Wait q → ⊥ in
-    let bad : P Refuse = λ q e. clash (cc) in
-    let known : P (letter b) =
-    picked P (eqb b (code "n")) (λ q e. clash (cc))
-    (picked P (eqb b (code "t")) (λ q e. clash (cc))
-    (picked P (eqb b (code "%")) (λ q e. clash (cc))
-    (picked P (among b composite) (λ q e. clash (cc))
-    (picked P (among b simple) (λ q e. clash (cc)) bad)))) in
-    picked P (eqb phase 2) (picked P (among b after-E) known bad)
-    (picked P (eqb phase 3) (picked P (among b after-O) known bad) known)
-
-pub no-wait : (s : List ℕ) (i : ℕ) {q : ℕ} {t : Turn} → t ≡ turnAt s i → t .act ≡ Wait q → ⊥
-unfolding turnAt
-no-wait s i {q} f =
-    let l = lastByte s i in
-    let P : Turn → Type 0 = λ t. t .act ≡ Wait q → ⊥ in
-    subst P (sym f)
-    (picked P (eqb (getD s i 0) (code "%"))
-    (picked P (leb (length s) (l .at)) (λ e. clash (cc)) (never-waits (l .phase) (getD s (l .at) 0) q))
-    (λ e. clash (cc)))
-
-module _ {depth : ℕ} {s : List ℕ} {i : ℕ} {xs : List ℕ} {n : ℕ} {ys : List ℕ} {m : ℕ}
-    (g : Going depth s 0 i i xs n ys m) (h : i < length s) where
-  -- at the last byte of a conversion, or at the format's end
-  abbrev AtLast : Last → Type 0
-  AtLast l =
-      Going depth s (l .phase) i (l .at) xs n ys m × (i ≤ l .at) × (l .phase ≡ 0 → ⊥)
-      × (l .at < length s → ending (l .phase) (getD s (l .at) 0) ≡ step (l .phase) (getD s (l .at) 0))
-
-  at-last : getD s i 0 ≡ code "%" → AtLast (lastByte s i)
-  unfolding lastByte ending step
-  at-last e =
-      let signed : Going depth s 1 i (i + 1) xs n ys m = waits g h {act = Wait 1} (rw e) refl in
-      let two : i + 1 + 1 ≡ i + 2 = omega arith in
-      either AtLast (leb (length s) (i + 1))
-      (λ o. (signed, omega arith, λ z. omega (arith, z), λ l. absurd (omega (arith, l, leb-true (length s) (i + 1) o))))
-      (λ o.
-      let l = leb-false (length s) (i + 1) o in
-      either AtLast (eqb (getD s (i + 1) 0) (code "E"))
-      (λ x. (rw two at (waits signed l {act = Wait 2} (rw x) refl), omega arith, λ z. omega (arith, z), λ l. refl))
-      (λ x. either AtLast (eqb (getD s (i + 1) 0) (code "O"))
-      (λ y. (rw two at (waits signed l {act = Wait 3} (rw (x, y)) refl), omega arith, λ z. omega (arith, z), λ l. refl))
-      (λ y. (signed, omega arith, λ z. omega (arith, z), λ l. rw (x, y)))))
-
-  -- what stands there, and where its last byte is, where it is not bad
-  pub record Ending (t : Turn) : Type 0 where
-    pub phase : ℕ
-    pub last : ℕ
-    pub going : Going depth s phase i last xs n ys m
-    pub begun : i ≤ last
-    pub inside : last < length s
-    pub acts : t .act ≡ step phase (getD s last 0)
-    pub after : t .next ≡ last + 1
-
-  pub ends : {t : Turn} → t ≡ turnAt s i → (t .act ≡ Refuse → ⊥) → Ending t
-  unfolding turnAt step
-  ends {t} f =
-      let l = lastByte s i in
-      let P : Turn → Type 0 = λ t. (t .act ≡ Refuse → ⊥) → Ending t in
-      subst P (sym f)
-      (either P (eqb (getD s i 0) (code "%"))
-      (λ e.
-      let here = at-last (eqb-true (getD s i 0) (code "%") e) in
-      either P (leb (length s) (l .at))
-      (λ o k. absurd (k refl))
-      (λ o k.
-      let inside = leb-false (length s) (l .at) o in
-      record { phase = l .phase; last = l .at; going = here .0; begun = here .1; inside = inside; acts = here .3 inside; after = refl }))
-      (λ e k. record { phase = 0; last = i; going = g; begun = omega arith; inside = h; acts = rw e; after = refl }))
-
-  pub bad : {t : Turn} → t ≡ turnAt s i → t .act ≡ Refuse → Gives (Bad i) xs ys m (openTo depth s)
-  unfolding turnAt
-  bad {t} f =
-      let l = lastByte s i in
-      let P : Turn → Type 0 = λ t. t .act ≡ Refuse → Gives (Bad i) xs ys m (openTo depth s) in
-      subst P (sym f)
-      (either P (eqb (getD s i 0) (code "%"))
-      (λ e.
-      let here = at-last (eqb-true (getD s i 0) (code "%") e) in
-      either P (leb (length s) (l .at))
-      (λ o k. unfinished (here .0) (leb-true (length s) (l .at) o) (here .2))
-      (λ o k. let inside = leb-false (length s) (l .at) o in refuses (here .0) inside (here .3 inside) k))
-      (λ e k. clash (cc)))
+            pub opens-bad : ((k : ℕ) → r ≡ Done k → ⊥) → Gives r zs ys m (openTo depth g s)
+            unfolding closed
+            opens-bad e =
+                let o = compositeTo depth sign c in
+                inner-bad o inside rest composite-turn (λ z. e (n + length (o .elements)) (inside .0 ∙ rw z))

@@ -5,6 +5,7 @@ use mathlib.Core.Bool.{Bool, cond, _||_, _&&_}
 use mathlib.Core.List.{List, [], _∷_, _++_}
 use lib.Dec.{eqb, leb, ltb}
 use lib.ListN.{length}
+use lib.Seq.{sets}
 use Rattle.laws.specs.Bytes.{bytes}
 use Rattle.format.specs.Conversions.{among, isConversion, isComposite, ownFormat}
 use Rattle.format.specs.declared.opening.Act.{Act}
@@ -143,6 +144,12 @@ opened s =
     let o = opening s in
     cond (leb (length s) longest) (closed (length (o .elements)) (o .ended)) TooLong
 
+-- what a slice holds after a format was opened into it: the elements from its start on, as many as fit; as it came where that is too long
+unfoldable pub openedInto : List ℕ → List ℕ → List ℕ
+openedInto s out =
+    let stored = sets out 0 (opening s .elements) in
+    cond (leb (length s) longest) stored out
+
 -- ---- entries of an opened format
 
 -- the most elements that a format opens to: 13 to two bytes (proofs/Bound.antt)
@@ -161,5 +168,5 @@ elementsIn (suc n) (e ∷ es) = let more = suc (elementsIn n es) in cond (isElem
 
 -- everything here, for proofs that compute
 unfoldable pub computes : Unit {0}
-unfolding after-E after-O letter paired conversion pieceOf nothing before composed acted signAt openFrom compositeTo openTo opening closed opened isElement elementsIn
+unfolding after-E after-O letter paired conversion pieceOf nothing before composed acted signAt openFrom compositeTo openTo opening closed opened openedInto isElement elementsIn
 computes = tt

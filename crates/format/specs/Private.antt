@@ -1,49 +1,30 @@
--- What the private functions of the code answer.
-use Prim.Native.Char.{code}
-use Prim.Native.Nat.{ℕ, _+_, _-_, _/_, _%_, _^_}
+-- What the private functions of the code ask and answer.
+use Prim.Native.Nat.{ℕ, _+_, _-_, _/_, _%_, _^_, _≤_, _<_}
 use mathlib.Core.Bool.{Bool, false, cond}
-use lib.Dec.{eqb, leb, ltb}
 use mathlib.Core.List.{List}
-use lib.ListN.{length, getD}
-use Rattle.format.specs.Opening.{Opening, among, after-E, after-O, letter, closed}
-use Rattle.format.specs.declared.opening.Act.{Act}
-use Rattle.format.specs.declared.opening.Act.the-variants.{Emit, Refuse}
-use Rattle.format.specs.declared.opening.Last.{Last}
+use mathlib.Core.Path.{_≡_}
+use lib.Dec.{eqb, ltb}
+use lib.ListN.{length}
+use Rattle.format.specs.Conversions.{among}
+use Rattle.format.specs.Opening.{Opening, longest, mostElements, signAt, openTo, closed}
 use Rattle.format.specs.declared.opening.Opened.{Opened}
-use Rattle.format.specs.declared.opening.Opened.the-variants.{Full}
-use Rattle.format.specs.declared.opening.Turn.{Turn}
+use Rattle.format.specs.declared.opening.Sign.{Sign}
 
 -- a set of letters is a number whose bit at 64 less than its byte says whether a letter is in
 unfoldable pub holds : ℕ → ℕ → Bool
 holds set b = cond (ltb b 64) false (cond (ltb 127 b) false (eqb (set / 2 ^ (b - 64) % 2) 1))
 
--- what the last byte of a conversion does, after % (phase 1), %E (2) or %O (3)
-unfoldable pub ending : ℕ → ℕ → Act
-ending phase b =
-    cond (eqb phase 2) (cond (among b after-E) (letter b) Refuse)
-    (cond (eqb phase 3) (cond (among b after-O) (letter b) Refuse)
-    (letter b))
+-- a number is the set of these letters
+abbrev pub SetOf : ℕ → List ℕ → Type 0
+SetOf set letters = (b : ℕ) → holds set b ≡ among b letters
 
--- the last byte of the conversion whose % stands at offset i: its phase and its offset, past the format's end if it is unfinished
-abbrev last : ℕ → ℕ → Last
-last phase at = record { phase = phase; at = at }
+-- a format can be opened where n elements stand already: it is not too long, nor is the one that holds the composite's %, and the
+-- elements can be counted
+pub record Opens (depth : ℕ) (g : Sign) (s : List ℕ) (n : ℕ) : Type 0 where
+  pub short : length s ≤ longest
+  pub sign : signAt g 0 < longest
+  pub few : n + length (openTo depth g s .elements) ≤ mostElements
 
-unfoldable pub lastByte : List ℕ → ℕ → Last
-lastByte s i =
-    let b = getD s (i + 1) 0 in
-    cond (leb (length s) (i + 1)) (last 1 (i + 1))
-    (cond (eqb b (code "E")) (last 2 (i + 2))
-    (cond (eqb b (code "O")) (last 3 (i + 2))
-    (last 1 (i + 1))))
-
--- what stands at offset i: a byte or a conversion, what it does, and the offset after it
-unfoldable pub turnAt : List ℕ → ℕ → Turn
-turnAt s i =
-    let l = lastByte s i in
-    let conversion : Turn = cond (leb (length s) (l .at)) (record { act = Refuse; next = l .at }) (record { act = ending (l .phase) (getD s (l .at) 0); next = l .at + 1 }) in
-    cond (eqb (getD s i 0) (code "%")) conversion (record { act = Emit (getD s i 0); next = i + 1 })
-
--- `answer` where n elements stand in the slice already
-unfoldable pub answerAfter : ℕ → ℕ → Opening → Opened
-answerAfter n room o =
-    cond (leb (n + length (o .elements)) room) (closed (n + length (o .elements)) (o .ended)) Full
+-- the answer to an opening where n elements stand already
+abbrev pub answered : ℕ → Opening → Opened
+answered n o = closed (n + length (o .elements)) (o .ended)

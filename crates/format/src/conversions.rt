@@ -1,15 +1,16 @@
 ghost use mathlib.Core.Path.{_≡_};
 ghost use Rattle.format.specs.Conversions.{conversionOf};
+use text::Names;
 
-// How a conversion is written and read: numbers filled with zeros or blanks, the weekday counted from Sunday 0; names of
-// three letters, in full, or in full with small letters; or no conversion at all.
+// How a conversion is written and read: numbers filled with zeros or blanks, the weekday counted from Sunday 0; names of a table
+// in three letters, in full, or in full with small letters; or no conversion at all.
 pub enum Form {
     Zeros,
     Blanks,
     FromSunday,
-    Short,
-    Full,
-    Lower,
+    Short(Names),
+    Full(Names),
+    Lower(Names),
     Unknown,
 }
 
@@ -41,37 +42,37 @@ fn name(kind: u32, form: Form) -> Conversion
 }
 
 // The conversion of a letter, a row for each in the order of the kinds of fact. (A constant array would be copied at each use.)
-pub fn conversion_of(letter: u32) -> Conversion
+pub fn conversion_of(letter: u8) -> Conversion
     ensures { λ r. ⌜ r ≡ conversionOf letter ⌝ }
 {
     match letter {
-        89 => number(1, Form::Zeros, 4, 1, 9999), // %Y
-        67 => number(2, Form::Zeros, 2, 0, 99), // %C
-        121 => number(3, Form::Zeros, 2, 0, 99), // %y
-        109 => number(4, Form::Zeros, 2, 1, 12), // %m
-        98 => name(4, Form::Short), // %b
-        104 => name(4, Form::Short), // %h
-        66 => name(4, Form::Full), // %B
-        100 => number(5, Form::Zeros, 2, 1, 31), // %d
-        101 => number(5, Form::Blanks, 2, 1, 31), // %e
-        106 => number(6, Form::Zeros, 3, 1, 366), // %j
-        117 => number(7, Form::Zeros, 1, 1, 7), // %u
-        119 => number(7, Form::FromSunday, 1, 0, 6), // %w
-        97 => name(7, Form::Short), // %a
-        65 => name(7, Form::Full), // %A
-        85 => number(8, Form::Zeros, 2, 0, 53), // %U
-        87 => number(9, Form::Zeros, 2, 0, 53), // %W
-        71 => number(10, Form::Zeros, 4, 1, 9999), // %G
-        103 => number(11, Form::Zeros, 2, 0, 99), // %g
-        86 => number(12, Form::Zeros, 2, 1, 53), // %V
-        72 => number(13, Form::Zeros, 2, 0, 23), // %H
-        107 => number(13, Form::Blanks, 2, 0, 23), // %k
-        73 => number(14, Form::Zeros, 2, 1, 12), // %I
-        108 => number(14, Form::Blanks, 2, 1, 12), // %l
-        112 => name(15, Form::Full), // %p
-        80 => name(15, Form::Lower), // %P
-        77 => number(16, Form::Zeros, 2, 0, 59), // %M
-        83 => number(17, Form::Zeros, 2, 0, 60), // %S
+        b'Y' => number(kinds::YEAR, Form::Zeros, 4, 1, 9999),
+        b'C' => number(kinds::CENTURY, Form::Zeros, 2, 0, 99),
+        b'y' => number(kinds::YEAR_IN_CENTURY, Form::Zeros, 2, 0, 99),
+        b'm' => number(kinds::MONTH, Form::Zeros, 2, 1, 12),
+        b'b' => name(kinds::MONTH, Form::Short(Names::Months)),
+        b'h' => name(kinds::MONTH, Form::Short(Names::Months)),
+        b'B' => name(kinds::MONTH, Form::Full(Names::Months)),
+        b'd' => number(kinds::DAY, Form::Zeros, 2, 1, 31),
+        b'e' => number(kinds::DAY, Form::Blanks, 2, 1, 31),
+        b'j' => number(kinds::DAY_OF_YEAR, Form::Zeros, 3, 1, 366),
+        b'u' => number(kinds::WEEKDAY, Form::Zeros, 1, 1, 7),
+        b'w' => number(kinds::WEEKDAY, Form::FromSunday, 1, 0, 6),
+        b'a' => name(kinds::WEEKDAY, Form::Short(Names::Weekdays)),
+        b'A' => name(kinds::WEEKDAY, Form::Full(Names::Weekdays)),
+        b'U' => number(kinds::SUNDAY_WEEK, Form::Zeros, 2, 0, 53),
+        b'W' => number(kinds::MONDAY_WEEK, Form::Zeros, 2, 0, 53),
+        b'G' => number(kinds::ISO_YEAR, Form::Zeros, 4, 1, 9999),
+        b'g' => number(kinds::ISO_YEAR_IN_CENTURY, Form::Zeros, 2, 0, 99),
+        b'V' => number(kinds::ISO_WEEK, Form::Zeros, 2, 1, 53),
+        b'H' => number(kinds::HOUR, Form::Zeros, 2, 0, 23),
+        b'k' => number(kinds::HOUR, Form::Blanks, 2, 0, 23),
+        b'I' => number(kinds::HOUR_OF_TWELVE, Form::Zeros, 2, 1, 12),
+        b'l' => number(kinds::HOUR_OF_TWELVE, Form::Blanks, 2, 1, 12),
+        b'p' => name(kinds::HALF_OF_DAY, Form::Full(Names::Halves)),
+        b'P' => name(kinds::HALF_OF_DAY, Form::Lower(Names::Halves)),
+        b'M' => number(kinds::MINUTE, Form::Zeros, 2, 0, 59),
+        b'S' => number(kinds::SECOND, Form::Zeros, 2, 0, 60),
         _ => name(0, Form::Unknown),
     }
 }

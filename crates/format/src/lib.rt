@@ -5,16 +5,13 @@ mod opening;
 pub use conversions::Conversion;
 pub use conversions::Form;
 pub use conversions::conversion_of;
+pub use opening::LONGEST;
+pub use opening::MOST_ELEMENTS;
 pub use opening::Opened;
+pub use opening::elements_in;
 pub use opening::open;
 
-// The most bytes of a format, and of a text.
-pub const MOST_BYTES: usize = 1024;
-
-// The most elements that a format opens to, 13 to two bytes.
-pub const MOST_ELEMENTS: usize = 6656;
-
-// The same for a short format and for a middling one: to clear room for the longest takes longer than to write or read by a short one.
+// The room that a short format and a middling one need: to clear room for the longest takes longer than to write or read by a short one.
 pub const SHORT_BYTES: usize = 16;
 
 pub const SHORT_ELEMENTS: usize = 104;

@@ -2,17 +2,16 @@
 use mathlib.Core.Path.{refl}
 use borrow.Author.Tests.{ne-eqb}
 use lib.Dec.{lit≤}
-use Rattle.laws.specs.Bytes.{bytes}
-use Rattle.format.specs.Opening.{ownFormat}
+use Rattle.format.specs.Conversions.{computes}
 use Rattle.format.proofs.opening.own_format.Statement.{statement}
 use Rattle.format.proofs.opening.own_format.Tie as tie
 
 returns : tie.Need-returns
-unfolding ownFormat bytes
+unfolding computes
 returns c = (refl, lit≤ tt, rw (c .before .before .match .keys1))
 
 returns-9 : tie.Need-returns-9
-unfolding ownFormat bytes
+unfolding computes
 returns-9 c =
     let r = c .before .before .match .rest in (
       refl,
@@ -22,7 +21,7 @@ returns-9 c =
     )
 
 pub own-format-spec : {M : Type 1} → statement M
-unfolding ownFormat bytes
+unfolding computes
 own-format-spec =
     tie.close
     (tie.spec

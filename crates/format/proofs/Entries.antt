@@ -1,0 +1,44 @@
+-- How many entries of a slice are elements, counted at each of its places.
+-- Assumes nothing.
+use Prim.Native.Nat.{ℕ, zero, suc, _+_, _-_, _≤_, _<_, min}
+use mathlib.Core.Bool.{Bool, true, false, not}
+use mathlib.Core.List.{List, [], _∷_}
+use mathlib.Core.Path.{_≡_, refl}
+use native.Mathlib.Decide.{decLe}
+use native.Mathlib.Nat.{zero-add, sub-zero, lt-of-not-le}
+use native.Mathlib.Numerals.{add-one}
+use native.Mathlib.Omega.{arith}
+use borrow.Author.Tests.{not-true, not-false}
+use lib.ListN.{length, getD, drop, drop-of-length-le}
+use lib.Seq.{drop-cons}
+use Rattle.format.specs.Opening.{isElement, elementsIn}
+
+none : (n : ℕ) → elementsIn n [] ≡ 0
+unfolding elementsIn
+none zero = refl
+none (suc n) = refl
+
+-- the entries es, of which n are looked at, at the place k
+module _ (es : List ℕ) (n : ℕ) where
+  pub at-first : 0 + elementsIn (n - 0) es ≡ elementsIn n es
+  at-first = rw (sub-zero n, zero-add (elementsIn n es))
+
+  module _ (k : ℕ) where
+    pub at-end : min (length es) n ≤ k → elementsIn (n - k) (drop k es) ≡ 0
+    unfolding elementsIn
+    at-end h =
+        elim (decLe n k) [
+          | yes l ↦ let e : n - k ≡ 0 = omega arith in rw e
+          | no l ↦ rw (drop-of-length-le es {i = k} (omega (arith, lt-of-not-le l))) (none (n - k))
+        ]
+
+    module _ {t : Bool} (h : k < min (length es) n) (e : t ≡ isElement (getD es k 0)) where
+      pub no-element : not t ≡ true → elementsIn (n - k) (drop k es) ≡ 0
+      unfolding elementsIn
+      no-element f = let q : n - k ≡ suc (n - (k + 1)) = omega arith in rw (q, drop-cons es k 0 (omega arith), ← e, not-true t f)
+
+      pub one-more : not t ≡ false → elementsIn (n - k) (drop k es) ≡ suc (elementsIn (n - (k + 1)) (drop (k + 1) es))
+      unfolding elementsIn
+      one-more f =
+          let q : n - k ≡ suc (n - (k + 1)) = omega arith in
+          rw (q, drop-cons es k 0 (omega arith), ← e, not-false t f, add-one k)

@@ -1,0 +1,103 @@
+-- What stands first in a format: by its first bytes, and how many bytes it takes.
+-- Assumes nothing.
+use Prim.Native.Char.{code}
+use Prim.Native.Nat.{ℕ, zero, suc, _+_, _-_, _≤_, _<_}
+use mathlib.Core.Bool.{cond}
+use mathlib.Core.List.{List, [], _∷_}
+use mathlib.Core.Path.{_≡_, refl}
+use native.Mathlib.Omega.{arith}
+use lib.Dec.{eqb, lit≤}
+use lib.ListN.{length, getD, take, drop, length-drop}
+use lib.Seq.{take-all}
+use Rattle.laws.proofs.Cases.{picked}
+use Rattle.format.specs.Conversions.{among}
+use Rattle.format.specs.Opening.{after-E, after-O, letter, piece, paired, conversion, pieceOf}
+use Rattle.format.specs.declared.opening.Act.{Act}
+use Rattle.format.specs.declared.opening.Act.the-variants.{Byte, Convert, Open, Refuse}
+use Rattle.format.specs.declared.opening.Piece.{Piece}
+
+-- a slice from some place on, as the code lends it
+pub rest : (s : List ℕ) (k : ℕ) → take (length s - k) (drop k s) ≡ drop k s
+rest s k = take-all (length s - k) (drop k s) (rw length-drop (omega arith))
+
+-- ---- the definitions at an empty list and at one with a first byte
+
+pub paired-none : (letters s : List ℕ) → length s ≡ 0 → paired letters s ≡ piece Refuse 2
+unfolding paired
+paired-none letters [] h = refl
+paired-none letters (b ∷ s) h = absurd (omega arith)
+
+pub paired-some : (letters s : List ℕ) → (length s ≡ 0 → ⊥)
+    → paired letters s ≡ piece (cond (among (getD s 0 0) letters) (letter (getD s 0 0)) Refuse) 3
+unfolding paired
+paired-some letters [] h = absurd (h refl)
+paired-some letters (b ∷ s) h = refl
+
+pub conversion-none : (s : List ℕ) → length s ≡ 0 → conversion s ≡ piece Refuse 1
+unfolding conversion
+conversion-none [] h = refl
+conversion-none (b ∷ s) h = absurd (omega arith)
+
+pub conversion-some : (s : List ℕ) → (length s ≡ 0 → ⊥)
+    → conversion s
+    ≡ cond (eqb (getD s 0 0) (code "E")) (paired after-E (drop 1 s))
+    (cond (eqb (getD s 0 0) (code "O")) (paired after-O (drop 1 s))
+    (piece (letter (getD s 0 0)) 2))
+unfolding conversion
+conversion-some [] h = absurd (h refl)
+conversion-some (b ∷ s) h = refl
+
+-- ---- how many bytes it takes
+
+abbrev Few : Piece → Type 0
+Few p = (1 ≤ p .length) × (p .length ≤ 3)
+
+paired-takes : (letters s : List ℕ) → Few (paired letters s)
+unfolding paired
+paired-takes letters [] = (lit≤ tt, lit≤ tt)
+paired-takes letters (b ∷ s) = (lit≤ tt, lit≤ tt)
+
+conversion-takes : (s : List ℕ) → Few (conversion s)
+unfolding conversion
+conversion-takes [] = (lit≤ tt, lit≤ tt)
+conversion-takes (b ∷ s) =
+    picked Few (eqb b (code "E")) (paired-takes after-E s)
+    (picked Few (eqb b (code "O")) (paired-takes after-O s) (lit≤ tt, lit≤ tt))
+
+pub takes : (b : ℕ) (s : List ℕ) → Few (pieceOf b s)
+unfolding pieceOf
+takes b s = picked Few (eqb b (code "%")) (conversion-takes s) (lit≤ tt, lit≤ tt)
+
+-- ---- what follows its first byte
+
+-- n bytes follow the first, and k are taken in all: a conversion has a byte after its %
+abbrev pub Follows : ℕ → ℕ → Act → Type 0
+Follows n k (Byte b) = Unit {0}
+Follows n k (Convert c) = (1 ≤ n) × (2 ≤ k)
+Follows n k (Open c) = (1 ≤ n) × (2 ≤ k)
+Follows n k Refuse = Unit {0}
+
+has-two : (n k : ℕ) → 1 ≤ n → 2 ≤ k → (a : Act) → Follows n k a
+has-two n k h l (Byte b) = tt
+has-two n k h l (Convert c) = (h, l)
+has-two n k h l (Open c) = (h, l)
+has-two n k h l Refuse = tt
+
+paired-two : (letters s : List ℕ) → 2 ≤ paired letters s .length
+unfolding paired
+paired-two letters [] = lit≤ tt
+paired-two letters (b ∷ s) = lit≤ tt
+
+conversion-follows : (s : List ℕ) → let p = conversion s in Follows (length s) (p .length) (p .act)
+unfolding conversion
+conversion-follows [] = tt
+conversion-follows (b ∷ s) =
+    let P : Piece → Type 0 = λ p. 2 ≤ p .length in
+    has-two (suc (length s)) (conversion (b ∷ s) .length) (omega arith)
+    (picked P (eqb b (code "E")) (paired-two after-E s) (picked P (eqb b (code "O")) (paired-two after-O s) (lit≤ tt)))
+    (conversion (b ∷ s) .act)
+
+pub follows : (b : ℕ) (s : List ℕ) → let p = pieceOf b s in Follows (length s) (p .length) (p .act)
+unfolding pieceOf
+follows b s =
+    picked (λ (p : Piece). Follows (length s) (p .length) (p .act)) (eqb b (code "%")) (conversion-follows s) tt
