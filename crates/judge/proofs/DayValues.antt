@@ -2,6 +2,7 @@
 -- Assumes nothing.
 use Prim.Native.Nat.{ℕ, suc, _+_, _-_, _/_, _%_}
 use mathlib.Core.Bool.{Bool, true, false, not, _&&_}
+use mathlib.Core.List.{List, [], _∷_}
 use mathlib.Core.Path.{_≡_, refl, sym, ap, _∙_}
 use native.Mathlib.Omega.{arith}
 use borrow.Author.Tests.{eqb-true, not-true, not-false}
@@ -9,28 +10,30 @@ use lib.Dec.{eqb, lit<, lit≤}
 use Rattle.calendar.specs.Calendar.{daysBefore, dayOfYear, dayNumber, sundayWeek, mondayWeek}
 use Rattle.calendar.specs.declared.Date.{Date}
 use Rattle.calendar.proofs.Weeks.{count-is}
-use Rattle.values.specs.Values.{numberOf, dateValue, dateValues}
-use Rattle.judge.specs.Agreement.{said, every, agrees}
+use Rattle.values.specs.Values.{dayNumberOf, dateValue, dateValues}
+use Rattle.judge.specs.Agreement.{said, noneSaid, agrees, allAgree}
 use Rattle.judge.specs.declared.Facts.{Facts}
-use Rattle.judge.proofs.Demand.{every-at, at-every}
+use Rattle.laws.specs.Lists.{every}
+use Rattle.kinds.specs.Kinds as kinds
+use Rattle.judge.proofs.Every.{every-member, member-every}
 
-module _ (t : Date) {number before : ℕ} (e : number ≡ numberOf t) (g : before ≡ daysBefore (t .year)) where
-  pub before-number : before + dateValue 6 t ≡ number
+module _ (t : Date) {number before : ℕ} (e : number ≡ dayNumberOf t) (g : before ≡ daysBefore (t .year)) where
+  pub before-number : before + dateValue kinds.dayOfYear t ≡ number
   unfolding dateValue dateValues dayNumber
   before-number = omega (arith, e, g)
 
-  pub day-of-year-is : number - before ≡ dateValue 6 t
+  pub day-of-year-is : number - before ≡ dateValue kinds.dayOfYear t
   day-of-year-is = omega (arith, before-number)
 
-  pub weekday-is : (number + 6) % 7 + 1 ≡ dateValue 7 t
+  pub weekday-is : (number + 6) % 7 + 1 ≡ dateValue kinds.weekday t
   unfolding dateValue dateValues
   weekday-is = rw e
 
-  pub sunday-week-is : number / 7 - before / 7 ≡ dateValue 8 t
+  pub sunday-week-is : number / 7 - before / 7 ≡ dateValue kinds.sundayWeek t
   unfolding dateValue dateValues dayNumber sundayWeek
   sunday-week-is = omega (arith, e, g, count-is 7 (t .year) (dayOfYear (t .year) (t .month) (t .day)) (lit< tt) (lit≤ tt))
 
-  pub monday-week-is : (number + 6) / 7 - (before + 6) / 7 ≡ dateValue 9 t
+  pub monday-week-is : (number + 6) / 7 - (before + 6) / 7 ≡ dateValue kinds.mondayWeek t
   unfolding dateValue dateValues dayNumber mondayWeek
   monday-week-is = omega (arith, e, g, count-is 1 (t .year) (dayOfYear (t .year) (t .month) (t .day)) (lit< tt) (lit≤ tt))
 
@@ -39,22 +42,22 @@ not-not true = refl
 not-not false = refl
 
 -- a test that fails ends the chain, one that passes is taken off, and the last one decides
-module _ (p : ℕ → Bool) (k n : ℕ) {b : Bool} (e : b ≡ not (p k)) where
-  pub fails-here : b ≡ true → false ≡ every p k (suc n)
+module _ (p : ℕ → Bool) (k : ℕ) (ks : List ℕ) {b : Bool} (e : b ≡ not (p k)) where
+  pub fails-here : b ≡ true → false ≡ every p (k ∷ ks)
   unfolding every
   fails-here f = rw (not-true (p k) (sym e ∙ f))
 
-  pub passes-here : b ≡ false → every p (suc k) n ≡ every p k (suc n)
+  pub passes-here : b ≡ false → every p ks ≡ every p (k ∷ ks)
   unfolding every
   passes-here f = rw (not-false (p k) (sym e ∙ f))
 
-pub last-here : (p : ℕ → Bool) (k : ℕ) {b : Bool} → b ≡ not (p k) → not b ≡ every p k 1
+pub last-here : (p : ℕ → Bool) (k : ℕ) {b : Bool} → b ≡ not (p k) → not b ≡ every p (k ∷ [])
 unfolding every
 last-here p k e = ap not e ∙ not-not (p k)
 
 -- where nothing was said of some kinds, any values agree
-pub unsaid-agree : (f : Facts) (value : ℕ → ℕ) (from n : ℕ) → every (λ k. eqb (said f k) 0) from n ≡ true → every (λ k. agrees (said f k) (value k)) from n ≡ true
+pub unsaid-agree : (f : Facts) (ks : List ℕ) (value : ℕ → ℕ) → noneSaid f ks ≡ true → allAgree f ks value ≡ true
 unfolding agrees
-unsaid-agree f value from n e =
-    at-every (λ k. agrees (said f k) (value k)) n from
-    (λ k l m. rw (eqb-true (said f k) 0 (every-at (λ k. eqb (said f k) 0) n from e k l m)))
+unsaid-agree f ks value e =
+    member-every (λ k. agrees (said f k) (value k)) ks
+    (λ k m. rw (eqb-true (said f k) 0 (every-member (λ k. eqb (said f k) 0) ks e k m)))

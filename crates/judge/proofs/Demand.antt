@@ -1,26 +1,29 @@
 -- Demand 3: the verdicts are those of the paper's words, for the day and for the hour.
 -- Assumes nothing.
 use Prim.Native.Nat.{ℕ, zero, suc, _+_, _-_, _≤_, _<_}
-use mathlib.Core.Bool.{Bool, true, false, cond, not, _&&_, true≢false, false≢true}
-use mathlib.Core.Logic.{⊎-elim}
+use mathlib.Core.Bool.{Bool, true, false, cond, not, true≢false, false≢true}
+use mathlib.Core.List.{List}
 use mathlib.Core.Path.{_≡_, refl, sym, ap, _∙_}
 use native.Mathlib.Decide.{decLe}
-use native.Mathlib.Nat.{le-antisymm, lt-of-not-le, eq-or-lt-of-le}
+use native.Mathlib.Nat.{le-antisymm, lt-of-not-le}
 use native.Mathlib.Omega.{arith}
 use borrow.Author.Tests.{eq-eqb, ne-eqb, eqb-true, not-false}
 use lib.Dec.{eqb, lit≤}
 use Rattle.laws.proofs.Cases.{clash}
 use Rattle.calendar.specs.Calendar.{days, dateOf}
-use Rattle.judge.specs.Agreement.{said, every, agrees, dateAgrees, dayAgrees, hourAgrees, dayBorne, hourBorne}
-use Rattle.judge.specs.Demand.{NoneBears, IsDay, IsHour, DayAgrees, HourAgrees, Only, Earliest, Judged, DayJudged, HourJudged}
+use Rattle.judge.specs.Agreement.{said, noneSaid, agrees, allAgree, dateAgrees, dayAgrees, hourAgrees, dayBorne, hourBorne}
+use Rattle.judge.specs.Demand.{NoneSaid, NoDayFact, NoHourFact, IsDay, IsHour, AllAgree, DayAgrees, HourAgrees}
+use Rattle.judge.specs.Demand.{Only, Earliest, Judged, DayJudged, HourJudged}
 use Rattle.judge.specs.Search.{firstTwo}
 use Rattle.judge.specs.Verdicts.{verdictOf, dayVerdict, hourVerdict}
 use Rattle.judge.specs.declared.Facts.{Facts}
 use Rattle.judge.specs.declared.Found.{Found}
 use Rattle.judge.specs.declared.Found.the-variants.{Nothing, One, Two}
 use Rattle.judge.specs.declared.Verdict.the-variants.{Unsaid, Agreed}
+use Rattle.kinds.specs.Kinds.{dayKinds, hourKinds}
 use Rattle.values.specs.Values.{dateValue, hourValue}
 use Rattle.calendar.proofs.Years.{days-is}
+use Rattle.judge.proofs.Every.{every-member, member-every}
 use Rattle.judge.proofs.Tells.{Tells, none, single, double, tells}
 
 -- The words over any test p of the n numbers from `from` on that says just what agreement is, where nothing said leaves the first of them free
@@ -125,24 +128,6 @@ module _
 
 -- ---- the tests of the code's definitions say what agreement is
 
-both-true : (a b : Bool) → (a && b) ≡ true → (a ≡ true) × (b ≡ true)
-both-true true b e = (refl, e)
-both-true false b e = absurd (false≢true e)
-
--- every kind of a range, as a Boolean test and in words
-module _ (q : ℕ → Bool) where
-  pub every-at : (n from : ℕ) → every q from n ≡ true → (k : ℕ) → from ≤ k → k < from + n → q k ≡ true
-  unfolding every
-  every-at zero from e k l m = absurd (omega arith)
-  every-at (suc n) from e k l m =
-      let t = both-true (q from) (every q (suc from) n) e in
-      ⊎-elim (λ (s : from ≡ k). ap q (sym s) ∙ t .0) (λ h. every-at n (suc from) (t .1) k h (omega arith)) (eq-or-lt-of-le l)
-
-  pub at-every : (n from : ℕ) → ((k : ℕ) → from ≤ k → k < from + n → q k ≡ true) → every q from n ≡ true
-  unfolding every
-  at-every zero from f = refl
-  at-every (suc n) from f = rw (f from (omega arith) (omega arith)) (at-every n (suc from) (λ k l m. f k (omega arith) (omega arith)))
-
 -- what was said of a kind, as a Boolean test and in words
 agrees-suc : (n v : ℕ) → agrees (suc n) v ≡ eqb n v
 unfolding agrees
@@ -158,46 +143,46 @@ unfolding agrees
 is-agrees zero v f = refl
 is-agrees (suc n) v f = agrees-suc n v ∙ eq-eqb n v (sym (f n refl))
 
--- facts of the kinds from a to b, which are n kinds
-module _ (f : Facts) (a b n : ℕ) (range : a + n ≡ suc b) where
-  none-said : not (every (λ k. eqb (said f k) 0) a n) ≡ false → NoneBears f a b
-  none-said e k l m = eqb-true (said f k) 0 (every-at (λ k. eqb (said f k) 0) n a (not-false _ e) k l (omega arith))
+-- facts of some kinds
+module _ (f : Facts) (ks : List ℕ) where
+  none-said : not (noneSaid f ks) ≡ false → NoneSaid f ks
+  none-said e k m = eqb-true (said f k) 0 (every-member (λ k. eqb (said f k) 0) ks (not-false _ e) k m)
 
-  said-none : NoneBears f a b → not (every (λ k. eqb (said f k) 0) a n) ≡ false
-  said-none z = ap not (at-every (λ k. eqb (said f k) 0) n a (λ k l m. eq-eqb (said f k) 0 (z k l (omega arith))))
+  said-none : NoneSaid f ks → not (noneSaid f ks) ≡ false
+  said-none z = ap not (member-every (λ k. eqb (said f k) 0) ks (λ k m. eq-eqb (said f k) 0 (z k m)))
 
   -- the values of a candidate
   module _ (value : ℕ → ℕ) where
-    all-agree : every (λ k. agrees (said f k) (value k)) a n ≡ true → (k m : ℕ) → a ≤ k → k ≤ b → said f k ≡ suc m → value k ≡ m
-    all-agree e k m l h s = agrees-is (said f k) (value k) m (every-at (λ k. agrees (said f k) (value k)) n a e k l (omega arith)) s
+    all-agree : allAgree f ks value ≡ true → AllAgree f ks value
+    all-agree e k n m s = agrees-is (said f k) (value k) n (every-member (λ k. agrees (said f k) (value k)) ks e k m) s
 
-    agree-all : ((k m : ℕ) → a ≤ k → k ≤ b → said f k ≡ suc m → value k ≡ m) → every (λ k. agrees (said f k) (value k)) a n ≡ true
-    agree-all g = at-every (λ k. agrees (said f k) (value k)) n a (λ k l h. is-agrees (said f k) (value k) (λ m. g k m l (omega arith)))
+    agree-all : AllAgree f ks value → allAgree f ks value ≡ true
+    agree-all g = member-every (λ k. agrees (said f k) (value k)) ks (λ k m. is-agrees (said f k) (value k) (λ n. g k n m))
 
-    none-disagrees : NoneBears f a b → (k m : ℕ) → a ≤ k → k ≤ b → said f k ≡ suc m → value k ≡ m
-    none-disagrees z k m l h s = absurd (omega (arith, z k l h))
+    none-disagrees : NoneSaid f ks → AllAgree f ks value
+    none-disagrees z k n m s = absurd (omega (arith, z k m))
 
 -- demand 3 for the day, and for the hour
 pub day-judged : (f : Facts) → DayJudged f (dayVerdict f)
 unfolding dayVerdict dayBorne dayAgrees dateAgrees
 day-judged f =
-    judged (NoneBears f 1 12) IsDay (DayAgrees f) (dayAgrees f) 1 days (dayBorne f)
-    (none-said f 1 12 12 refl)
-    (said-none f 1 12 12 refl)
+    judged (NoDayFact f) IsDay (DayAgrees f) (dayAgrees f) 1 days (dayBorne f)
+    (none-said f dayKinds)
+    (said-none f dayKinds)
     (λ k i. omega arith)
     (λ k l m. omega arith)
-    (λ k. all-agree f 1 12 12 refl (λ j. dateValue j (dateOf k)))
-    (λ k. agree-all f 1 12 12 refl (λ j. dateValue j (dateOf k)))
-    (λ z. ((lit≤ tt, omega (arith, days-is)), none-disagrees f 1 12 12 refl (λ j. dateValue j (dateOf 1)) z))
+    (λ k. all-agree f dayKinds (λ j. dateValue j (dateOf k)))
+    (λ k. agree-all f dayKinds (λ j. dateValue j (dateOf k)))
+    (λ z. ((lit≤ tt, omega (arith, days-is)), none-disagrees f dayKinds (λ j. dateValue j (dateOf 1)) z))
 
 pub hour-judged : (f : Facts) → HourJudged f (hourVerdict f)
 unfolding hourVerdict hourBorne hourAgrees
 hour-judged f =
-    judged (NoneBears f 13 15) IsHour (HourAgrees f) (hourAgrees f) 0 24 (hourBorne f)
-    (none-said f 13 15 3 refl)
-    (said-none f 13 15 3 refl)
+    judged (NoHourFact f) IsHour (HourAgrees f) (hourAgrees f) 0 24 (hourBorne f)
+    (none-said f hourKinds)
+    (said-none f hourKinds)
     (λ h i. omega arith)
     (λ h l m. omega arith)
-    (λ h. all-agree f 13 15 3 refl (λ j. hourValue j h))
-    (λ h. agree-all f 13 15 3 refl (λ j. hourValue j h))
-    (λ z. (lit≤ tt, none-disagrees f 13 15 3 refl (λ j. hourValue j 0) z))
+    (λ h. all-agree f hourKinds (λ j. hourValue j h))
+    (λ h. agree-all f hourKinds (λ j. hourValue j h))
+    (λ z. (lit≤ tt, none-disagrees f hourKinds (λ j. hourValue j 0) z))

@@ -1,27 +1,47 @@
--- A test of every kind in a range, one kind at a time.
+-- A test of every kind of a list: at each member, over two lists, and over numbers in a row, one at a time.
 -- Assumes nothing.
 use Prim.Native.Nat.{ℕ, suc, _+_, _-_, _≤_, _<_}
-use mathlib.Core.Bool.{Bool, true, false}
-use mathlib.Core.Path.{_≡_}
+use mathlib.Core.Bool.{Bool, true, false, _&&_, and-assoc, and-eq-true-iff}
+use mathlib.Core.List.{List, [], _∷_, _++_, List·Memᴰ as Member, List·Memᴰ·head, List·Memᴰ·tail, List·Memᴰ·not-nil, List·Memᴰ·cases-cons}
+use mathlib.Core.Logic.{⊎-elim}
+use mathlib.Core.Path.{_≡_, refl, sym, ap, _∙_}
 use native.Mathlib.Numerals.{add-one}
 use native.Mathlib.Omega.{arith}
-use Rattle.judge.specs.Agreement.{every}
+use Rattle.laws.specs.Lists.{every, range}
 
-module _ (p : ℕ → Bool) (k end : ℕ) where
-  pub every-turn : k < end → p k ≡ true → every p k (end - k) ≡ every p (k + 1) (end - (k + 1))
+module _ (p : ℕ → Bool) where
+  pub every-member : (ks : List ℕ) → every p ks ≡ true → (k : ℕ) → Member k ks → p k ≡ true
   unfolding every
+  every-member [] e k m = absurd (List·Memᴰ·not-nil m)
+  every-member (x ∷ ks) e k m =
+      let t = and-eq-true-iff (p x) (every p ks) .0 e in
+      ⊎-elim (λ s. ap p s ∙ t .0) (λ n. every-member ks (t .1) k n) (List·Memᴰ·cases-cons m)
+
+  pub member-every : (ks : List ℕ) → ((k : ℕ) → Member k ks → p k ≡ true) → every p ks ≡ true
+  unfolding every
+  member-every [] f = refl
+  member-every (x ∷ ks) f = rw (f x (List·Memᴰ·head refl)) (member-every ks (λ k m. f k (List·Memᴰ·tail m)))
+
+  pub every-append : (a b : List ℕ) → every p (a ++ b) ≡ (every p a && every p b)
+  unfolding every
+  every-append [] b = refl
+  every-append (x ∷ a) b = ap (λ (t : Bool). p x && t) (every-append a b) ∙ sym (and-assoc (p x) (every p a) (every p b))
+
+module _ (p : ℕ → Bool) (k to : ℕ) where
+  pub every-turn : k ≤ to → p k ≡ true → every p (range k (to + 1 - k)) ≡ every p (range (k + 1) (to + 1 - (k + 1)))
+  unfolding every range
   every-turn h e =
-      let more : end - k ≡ suc (end - suc k) = omega arith in
-      rw (more, add-one, e)
+      let more : to + 1 - k ≡ suc (to + 1 - suc k) = omega arith in
+      rw (more, add-one k, e)
 
-  pub every-stop : k < end → p k ≡ false → every p k (end - k) ≡ false
-  unfolding every
+  pub every-stop : k ≤ to → p k ≡ false → every p (range k (to + 1 - k)) ≡ false
+  unfolding every range
   every-stop h e =
-      let more : end - k ≡ suc (end - suc k) = omega arith in
+      let more : to + 1 - k ≡ suc (to + 1 - suc k) = omega arith in
       rw (more, e)
 
-  pub every-done : end ≤ k → every p k (end - k) ≡ true
-  unfolding every
+  pub every-done : to < k → every p (range k (to + 1 - k)) ≡ true
+  unfolding every range
   every-done h =
-      let none : end - k ≡ 0 = omega arith in
+      let none : to + 1 - k ≡ 0 = omega arith in
       rw none

@@ -1,5 +1,6 @@
 -- Demand 3 in the paper's words, as statements about a verdict. Days go by their day numbers.
 use Prim.Native.Nat.{ℕ, suc, _≤_, _<_}
+use mathlib.Core.List.{List, List·Memᴰ as Member}
 use mathlib.Core.Logic.{_↔_}
 use mathlib.Core.Path.{_≡_}
 use Rattle.calendar.specs.Calendar.{days, dateOf}
@@ -7,11 +8,18 @@ use Rattle.judge.specs.Agreement.{said}
 use Rattle.judge.specs.declared.Facts.{Facts}
 use Rattle.judge.specs.declared.Verdict.{Verdict}
 use Rattle.judge.specs.declared.Verdict.the-variants.{Unsaid, Impossible, Open, Agreed}
+use Rattle.kinds.specs.Kinds.{dayKinds, hourKinds}
 use Rattle.values.specs.Values.{dateValue, hourValue}
 
--- no fact of kinds a to b was said
-abbrev pub NoneBears : Facts → ℕ → ℕ → Type 0
-NoneBears f a b = (k : ℕ) → a ≤ k → k ≤ b → said f k ≡ 0
+-- no fact of some kinds was said; none that bears on the day, and none that bears on the hour
+abbrev pub NoneSaid : Facts → List ℕ → Type 0
+NoneSaid f ks = (k : ℕ) → Member k ks → said f k ≡ 0
+
+abbrev pub NoDayFact : Facts → Type 0
+NoDayFact f = NoneSaid f dayKinds
+
+abbrev pub NoHourFact : Facts → Type 0
+NoHourFact f = NoneSaid f hourKinds
 
 -- a day, and an hour
 abbrev pub IsDay : ℕ → Type 0
@@ -20,13 +28,16 @@ IsDay k = (1 ≤ k) × (k ≤ days)
 abbrev pub IsHour : ℕ → Type 0
 IsHour h = h ≤ 23
 
--- a day agrees with every date fact: for each kind 1 to 12 of which a number was said, the writer would write that number for it
-abbrev pub DayAgrees : Facts → ℕ → Type 0
-DayAgrees f d = (k n : ℕ) → 1 ≤ k → k ≤ 12 → said f k ≡ suc n → dateValue k (dateOf d) ≡ n
+-- a day, and an hour, agree with every fact that bears on them: for each kind that does, of which a number was said, the writer would
+-- write that number
+abbrev pub AllAgree : Facts → List ℕ → (ℕ → ℕ) → Type 0
+AllAgree f ks value = (k n : ℕ) → Member k ks → said f k ≡ suc n → value k ≡ n
 
--- an hour agrees with every hour fact, kinds 13 to 15
+abbrev pub DayAgrees : Facts → ℕ → Type 0
+DayAgrees f d = AllAgree f dayKinds (λ k. dateValue k (dateOf d))
+
 abbrev pub HourAgrees : Facts → ℕ → Type 0
-HourAgrees f h = (k n : ℕ) → 13 ≤ k → k ≤ 15 → said f k ≡ suc n → hourValue k h ≡ n
+HourAgrees f h = AllAgree f hourKinds (λ k. hourValue k h)
 
 -- a is the only one that agrees
 pub record Only (One : ℕ → Type 0) (Agrees : ℕ → Type 0) (a : ℕ) : Type 0 where
@@ -52,7 +63,7 @@ pub record Judged (None : Type 0) (One : ℕ → Type 0) (Agrees : ℕ → Type 
 
 -- the day, and the hour, judged by all facts that bear on it
 abbrev pub DayJudged : Facts → Verdict → Type 0
-DayJudged f v = Judged (NoneBears f 1 12) IsDay (DayAgrees f) v
+DayJudged f v = Judged (NoDayFact f) IsDay (DayAgrees f) v
 
 abbrev pub HourJudged : Facts → Verdict → Type 0
-HourJudged f v = Judged (NoneBears f 13 15) IsHour (HourAgrees f) v
+HourJudged f v = Judged (NoHourFact f) IsHour (HourAgrees f) v

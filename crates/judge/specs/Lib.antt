@@ -3,3 +3,4 @@ pub mod Agreement
 pub mod Search
 pub mod Verdicts
 pub mod Demand
+pub mod Private

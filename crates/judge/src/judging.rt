@@ -22,7 +22,7 @@ fn verdict_of(found: Found) -> Verdict
 pub fn judge_day(facts: Facts) -> Verdict
     ensures { λ r. ⌜ r ≡ dayVerdict facts ⌝ }
 {
-    if any_said(facts, 1, 13) {
+    if any_said(facts, kinds::FIRST_DAY_KIND, kinds::LAST_DAY_KIND) {
         return verdict_of(search_days(facts));
     }
     Verdict::Unsaid
@@ -31,7 +31,7 @@ pub fn judge_day(facts: Facts) -> Verdict
 pub fn judge_hour(facts: Facts) -> Verdict
     ensures { λ r. ⌜ r ≡ hourVerdict facts ⌝ }
 {
-    if any_said(facts, 13, 16) {
+    if any_said(facts, kinds::FIRST_HOUR_KIND, kinds::LAST_HOUR_KIND) {
         return verdict_of(search_hours(facts));
     }
     Verdict::Unsaid

@@ -11,7 +11,7 @@ pub use search::search_hours;
 
 // What was said of each kind of fact, at the kind's number: 0 where nothing was, else one more than the number.
 pub struct Facts {
-    pub said: [u32; 18],
+    pub said: [u32; kinds::KINDS],
 }
 
 // The first two that were found, earliest first.

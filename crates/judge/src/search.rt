@@ -9,10 +9,11 @@ use calendar::month_length;
 ghost use mathlib.Core.Bool.{not, _&&_};
 ghost use mathlib.Core.Path.{_≡_};
 ghost use Prim.Native.Nat.{_<_, _^_};
-ghost use lib.Dec.{eqb};
 ghost use Rattle.calendar.specs.Calendar.{date, daysBefore, dayNumber, days};
 ghost use Rattle.values.specs.Values.{dateValue};
-ghost use Rattle.judge.specs.Agreement.{said, every, agrees, dayAgrees, hourAgrees};
+ghost use Rattle.kinds.specs.Kinds.{kinds};
+ghost use Rattle.judge.specs.Agreement.{said, noneSaid, agrees, allAgree, dayAgrees, hourAgrees};
+ghost use Rattle.judge.specs.Private.{yearKinds, monthKinds, restKinds, isoKinds};
 ghost use Rattle.judge.specs.Search.{hit, isTwo, firstTwo};
 
 fn date_at(year: u32, month: u32, day: u32) -> Date
@@ -26,67 +27,71 @@ fn date_at(year: u32, month: u32, day: u32) -> Date
     }
 }
 
-// Whether something else was said than the value.
-fn says_other(said: u32, value: u32) -> bool
-    ensures { λ r. ⌜ r ≡ not (agrees said value) ⌝ }
+// Whether something else was said of a kind than its value.
+fn says_other(facts: Facts, kind: u32, value: u32) -> bool
+    requires { ⌜ kind < kinds ⌝ }
+    ensures { λ r. ⌜ r ≡ not (agrees (said facts kind) value) ⌝ }
 {
-    if said == 0 {
+    let said = facts.said;
+    let number = said[kind as usize];
+    if number == 0 {
         return false;
     }
-    said - 1 != value
+    number - 1 != value
 }
 
-// Whether a year agrees: kinds 1 to 3.
+// Whether a year agrees with what was said of the kinds that hang on it alone.
 fn year_agrees(facts: Facts, year: u32) -> bool
     requires { ⌜ year < 2 ^ 16 ⌝ }
-    ensures { λ r. ⌜ r ≡ every (λ k. agrees (said facts k) (dateValue k (date year 1 1))) 1 3 ⌝ }
+    ensures { λ r. ⌜ r ≡ allAgree facts yearKinds (λ k. dateValue k (date year 1 1)) ⌝ }
 {
-    let said = facts.said;
-    if says_other(said[1], year) {
+    if says_other(facts, kinds::YEAR, year) {
         return false;
     }
-    if says_other(said[2], year / 100) {
+    if says_other(facts, kinds::CENTURY, year / 100) {
         return false;
     }
-    !says_other(said[3], year % 100)
+    !says_other(facts, kinds::YEAR_IN_CENTURY, year % 100)
 }
 
-// Whether the year agrees, which is known, and the month too: kind 4.
+// Whether the year agrees, which is known, and the month too.
 fn month_agrees(facts: Facts, year_agrees: bool, year: u32, month: u32) -> bool
     requires { ⌜ (year < 2 ^ 16) × (month < 2 ^ 8) ⌝ }
-    ensures { λ r. ⌜ r ≡ «year_agrees» && every (λ k. agrees (said facts k) (dateValue k (date year month 1))) 4 1 ⌝ }
+    ensures { λ r. ⌜ r ≡ «year_agrees» && allAgree facts monthKinds (λ k. dateValue k (date year month 1)) ⌝ }
 {
-    let said = facts.said;
-    year_agrees && !says_other(said[4], month)
+    year_agrees && !says_other(facts, kinds::MONTH, month)
 }
 
-// Whether the day agrees too: kinds 5 to 12. `number` is its day number, `before` counts the days before its year, and `iso`
-// says whether any ISO year or week was said.
+// Whether the day agrees too. `number` is its day number, `before` counts the days before its year, and `iso` says whether any
+// ISO year or week was said.
 fn day_agrees(facts: Facts, iso: bool, date: Date, number: u32, before: u32) -> bool
     requires { ⌜ (number ≡ dayNumber (date .year) (date .month) (date .day)) × (before ≡ daysBefore (date .year)) ⌝ }
-    requires { ⌜ (number < 2 ^ 25) × (iso ≡ not (every (λ k. eqb (said facts k) 0) 10 3)) ⌝ }
-    ensures { λ r. ⌜ r ≡ every (λ k. agrees (said facts k) (dateValue k date)) 5 8 ⌝ }
+    requires { ⌜ (number < 2 ^ 25) × (iso ≡ not (noneSaid facts isoKinds)) ⌝ }
+    ensures { λ r. ⌜ r ≡ allAgree facts restKinds (λ k. dateValue k date) ⌝ }
 {
-    let said = facts.said;
-    if says_other(said[5], date.day as u32) {
+    if says_other(facts, kinds::DAY, date.day as u32) {
         return false;
     }
-    if says_other(said[6], number - before) {
+    if says_other(facts, kinds::DAY_OF_YEAR, number - before) {
         return false;
     }
-    if says_other(said[7], (number + 6) % 7 + 1) {
+    if says_other(facts, kinds::WEEKDAY, (number + 6) % 7 + 1) {
         return false;
     }
-    if says_other(said[8], number / 7 - before / 7) {
+    if says_other(facts, kinds::SUNDAY_WEEK, number / 7 - before / 7) {
         return false;
     }
-    if says_other(said[9], (number + 6) / 7 - (before + 6) / 7) {
+    if says_other(
+        facts,
+        kinds::MONDAY_WEEK,
+        (number + 6) / 7 - (before + 6) / 7,
+    ) {
         return false;
     }
     if !iso {
         return true;
     }
-    date_kinds_agree(facts, date, 10, 13)
+    date_kinds_agree(facts, date, kinds::ISO_YEAR, kinds::ISO_WEEK)
 }
 
 // What is found once `number` has passed too: two stay as they are.
@@ -121,7 +126,7 @@ fn is_two(found: Found) -> bool
 pub fn search_days(facts: Facts) -> Found
     ensures { λ r. ⌜ r ≡ firstTwo (dayAgrees facts) 1 days ⌝ }
 {
-    let iso = any_said(facts, 10, 13);
+    let iso = any_said(facts, kinds::ISO_YEAR, kinds::ISO_WEEK);
     let mut found = Found::Nothing;
     let mut number = Date::FIRST.day_number();
     let mut year = Date::FIRST.year as u32;

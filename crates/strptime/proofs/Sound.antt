@@ -11,7 +11,7 @@ use lib.ListN.{length, getD, drop, length-drop, length-map}
 use Rattle.laws.specs.Lists.{every}
 use Rattle.laws.proofs.Cases.{either, picked, clash}
 use Rattle.laws.proofs.Table.{both, all, at}
-use Rattle.kinds.specs.Kinds.{count}
+use Rattle.kinds.specs.Kinds.{kinds}
 use Rattle.format.specs.Conversions.{Row, rows, find, conversionOf}
 use Rattle.format.specs.Opening.{isByte, letterOf}
 use Rattle.format.specs.declared.conversions.Conversion.{Conversion}
@@ -101,26 +101,26 @@ highest = 0 ∷ 9999 ∷ 99 ∷ 99 ∷ 12 ∷ 31 ∷ 366 ∷ 7 ∷ 53 ∷ 53 ∷
 -- a fact that a text can say
 pub record Told (k n : ℕ) : Type 0 where
   pub least : 1 ≤ k
-  pub most : k < count
+  pub most : k < kinds
   pub low : getD lowest k 0 ≤ n
   pub high : n ≤ getD highest k 0
 
 pub told-small : (k n : ℕ) → Told k n → n ≤ 9999
-told-small k n t = omega (arith, t .high, leb→le (getD highest k 0) 9999 (at (λ i. leb (getD highest i 0) 9999) count tt k (t .most)))
+told-small k n t = omega (arith, t .high, leb→le (getD highest k 0) 9999 (at (λ i. leb (getD highest i 0) 9999) kinds tt k (t .most)))
 
 -- a conversion's kind is one of them, and the numbers from l to h are in its range
 spans : ℕ → ℕ → ℕ → Bool
-spans k l h = leb 1 k && (ltb k count && (leb (getD lowest k 0) l && leb h (getD highest k 0)))
+spans k l h = leb 1 k && (ltb k kinds && (leb (getD lowest k 0) l && leb h (getD highest k 0)))
 
 spans-told : (k l h : ℕ) → T (spans k l h) → (n : ℕ) → l ≤ n → n ≤ h → Told k n
 unfolding spans
 spans-told k l h t n a b =
-    let t₁ = both (leb 1 k) (ltb k count && (leb (getD lowest k 0) l && leb h (getD highest k 0))) t in
-    let t₂ = both (ltb k count) (leb (getD lowest k 0) l && leb h (getD highest k 0)) (t₁ .1) in
+    let t₁ = both (leb 1 k) (ltb k kinds && (leb (getD lowest k 0) l && leb h (getD highest k 0))) t in
+    let t₂ = both (ltb k kinds) (leb (getD lowest k 0) l && leb h (getD highest k 0)) (t₁ .1) in
     let t₃ = both (leb (getD lowest k 0) l) (leb h (getD highest k 0)) (t₂ .1) in
     record {
       least = leb→le 1 k (t₁ .0);
-      most = ltb→lt k count (t₂ .0);
+      most = ltb→lt k kinds (t₂ .0);
       low = omega (arith, leb→le (getD lowest k 0) l (t₃ .0));
       high = omega (arith, leb→le h (getD highest k 0) (t₃ .1));
     }

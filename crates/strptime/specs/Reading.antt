@@ -4,7 +4,7 @@ use mathlib.Core.Bool.{Bool, true, false, cond, _||_}
 use mathlib.Core.List.{List, [], _∷_}
 use lib.Dec.{eqb}
 use lib.ListN.{set, replicate}
-use Rattle.kinds.specs.Kinds.{count}
+use Rattle.kinds.specs.Kinds.{kinds}
 use Rattle.judge.specs.Agreement.{said}
 use Rattle.judge.specs.declared.Facts.{Facts}
 use Rattle.strptime.specs.Elements.{readElement}
@@ -17,7 +17,7 @@ use Rattle.strptime.specs.declared.elements.Item.the-variants.{Skip, Fac
 
 -- nothing said yet
 unfoldable pub unsaid : Facts
-unsaid = record { said = replicate count 0 }
+unsaid = record { said = replicate kinds 0 }
 
 unfoldable pub start : State
 start = record { facts = unsaid; at = 0 }

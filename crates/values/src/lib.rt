@@ -50,43 +50,41 @@ impl Moment {
         }
     }
 
-    // The value of a kind of fact, 1 to 17.
+    // The value of a kind of fact.
     pub fn value(self, kind: u32) -> u32
         ensures { λ r. ⌜ r ≡ value kind self ⌝ }
     {
-        if kind <= 12 {
+        if kind <= kinds::LAST_DAY_KIND {
             return date_value(kind, self.date);
         }
-        if kind <= 15 {
+        if kind <= kinds::LAST_HOUR_KIND {
             return hour_value(kind, self.hour as u32);
         }
-        if kind == 16 {
-            return self.minute as u32;
+        match kind {
+            kinds::MINUTE => self.minute as u32,
+            kinds::SECOND => self.second as u32,
+            _ => 0,
         }
-        if kind == 17 {
-            return self.second as u32;
-        }
-        0
     }
 }
 
-// The value of a date fact, kinds 1 to 12.
+// The value of a kind that bears on the day.
 pub fn date_value(kind: u32, date: Date) -> u32
     ensures { λ r. ⌜ r ≡ dateValue kind date ⌝ }
 {
     match kind {
-        1 => date.year as u32,
-        2 => date.year as u32 / 100,
-        3 => date.year as u32 % 100,
-        4 => date.month as u32,
-        5 => date.day as u32,
-        6 => date.day_of_year(),
-        7 => date.weekday(),
-        8 => date.sunday_week(),
-        9 => date.monday_week(),
-        10 => date.iso_year(),
-        11 => date.iso_year() % 100,
-        12 => date.iso_week(),
+        kinds::YEAR => date.year as u32,
+        kinds::CENTURY => date.year as u32 / 100,
+        kinds::YEAR_IN_CENTURY => date.year as u32 % 100,
+        kinds::MONTH => date.month as u32,
+        kinds::DAY => date.day as u32,
+        kinds::DAY_OF_YEAR => date.day_of_year(),
+        kinds::WEEKDAY => date.weekday(),
+        kinds::SUNDAY_WEEK => date.sunday_week(),
+        kinds::MONDAY_WEEK => date.monday_week(),
+        kinds::ISO_YEAR => date.iso_year(),
+        kinds::ISO_YEAR_IN_CENTURY => date.iso_year() % 100,
+        kinds::ISO_WEEK => date.iso_week(),
         _ => 0,
     }
 }
@@ -109,18 +107,14 @@ pub fn half_of_day(hour: u32) -> u32
     0
 }
 
-// The value of an hour fact, kinds 13 to 15.
+// The value of a kind that bears on the hour.
 pub fn hour_value(kind: u32, hour: u32) -> u32
     ensures { λ r. ⌜ r ≡ hourValue kind hour ⌝ }
 {
-    if kind == 13 {
-        return hour;
+    match kind {
+        kinds::HOUR => hour,
+        kinds::HOUR_OF_TWELVE => hour_of_twelve(hour),
+        kinds::HALF_OF_DAY => half_of_day(hour),
+        _ => 0,
     }
-    if kind == 14 {
-        return hour_of_twelve(hour);
-    }
-    if kind == 15 {
-        return half_of_day(hour);
-    }
-    0
 }

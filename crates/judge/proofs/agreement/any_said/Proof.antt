@@ -1,21 +1,27 @@
 -- `judge::agreement::any_said` meets its contract. Assumes nothing.
-use Prim.Native.Nat.{_≤_, _-_}
-use mathlib.Core.Bool.{not}
+use Prim.Native.Nat.{ℕ, _≤_, _+_, _-_}
+use mathlib.Core.Bool.{Bool, not}
+use mathlib.Core.List.{List}
 use mathlib.Core.Path.{ap, _≡_, refl, sym, _∙_}
 use native.Mathlib.Omega.{arith}
 use borrow.Author.Tests.{eq-eqb, ne-eqb}
 use lib.Dec.{eqb}
 use lib.ListN.{getD}
-use Rattle.judge.specs.Agreement.{every}
+use Rattle.laws.specs.Lists.{every, range}
 use Rattle.judge.proofs.Every.{every-turn, every-stop, every-done}
 use Rattle.judge.proofs.agreement.any_said.Statement.{statement}
 use Rattle.judge.proofs.agreement.any_said.Tie as tie
 
+-- the test of a kind
+abbrev unsaid : List ℕ → ℕ → Bool
+unsaid said k = eqb (getD said k 0) 0
+
 abbrev Inv-loop : tie.InvT-loop
-Inv-loop from end said kind₀ kind = (kind ≤ end) × (every (λ k. eqb (getD said k 0) 0) kind (end - kind) ≡ every (λ k. eqb (getD said k 0) 0) from (end - from))
+Inv-loop from to said kind₀ kind =
+    (kind ≤ to + 1) × (every (unsaid said) (range kind (to + 1 - kind)) ≡ every (unsaid said) (range from (to + 1 - from)))
 
 abbrev μ-loop : tie.MeasureT-loop
-μ-loop from end said kind₀ kind = end - kind
+μ-loop from to said kind₀ kind = to + 1 - kind
 
 loop-holds : tie.Need-loop-holds Inv-loop μ-loop
 loop-holds c = (omega arith, refl)

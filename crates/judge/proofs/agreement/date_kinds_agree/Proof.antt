@@ -1,21 +1,30 @@
 -- `judge::agreement::date_kinds_agree` meets its contract. Assumes nothing.
-use Prim.Native.Nat.{_≤_, _-_}
+use Prim.Native.Nat.{ℕ, _≤_, _+_, _-_}
+use mathlib.Core.Bool.{Bool}
+use mathlib.Core.List.{List}
 use mathlib.Core.Path.{_≡_, refl, sym, _∙_}
 use native.Mathlib.Omega.{arith}
 use borrow.Author.Needs.{needs}
 use borrow.Author.Tests.{not-true, not-false}
 use lib.ListN.{getD}
-use Rattle.judge.specs.Agreement.{every, agrees}
+use Rattle.judge.specs.Agreement.{agrees}
 use Rattle.values.specs.Values.{dateValue}
+use Rattle.calendar.specs.declared.Date.{Date}
+use Rattle.laws.specs.Lists.{every, range}
 use Rattle.judge.proofs.Every.{every-turn, every-stop, every-done}
 use Rattle.judge.proofs.agreement.date_kinds_agree.Statement.{statement}
 use Rattle.judge.proofs.agreement.date_kinds_agree.Tie as tie
 
+-- the test of a kind
+abbrev test : List ℕ → Date → ℕ → Bool
+test said date k = agrees (getD said k 0) (dateValue k date)
+
 abbrev Inv-loop : tie.InvT-loop
-Inv-loop date from end said kind₀ kind = (kind ≤ end) × (every (λ k. agrees (getD said k 0) (dateValue k date)) kind (end - kind) ≡ every (λ k. agrees (getD said k 0) (dateValue k date)) from (end - from))
+Inv-loop date from to said kind₀ kind =
+    (kind ≤ to + 1) × (every (test said date) (range kind (to + 1 - kind)) ≡ every (test said date) (range from (to + 1 - from)))
 
 abbrev μ-loop : tie.MeasureT-loop
-μ-loop date from end said kind₀ kind = end - kind
+μ-loop date from to said kind₀ kind = to + 1 - kind
 
 loop-holds : tie.Need-loop-holds Inv-loop μ-loop
 loop-holds c = (omega arith, refl)

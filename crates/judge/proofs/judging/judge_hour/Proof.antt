@@ -4,6 +4,8 @@ use mathlib.Core.Path.{_≡_, sym, ap, _∙_}
 use borrow.Author.Needs.{needs}
 use Rattle.judge.specs.Agreement.{hourBorne}
 use Rattle.judge.specs.Verdicts.{verdictOf, hourVerdict}
+use Rattle.kinds.specs.Kinds.{hourKinds}
+use Rattle.laws.specs.Lists.{range}
 use Rattle.judge.proofs.judging.judge_hour.Statement.{statement}
 use Rattle.judge.proofs.judging.judge_hour.Tie as tie
 
@@ -17,13 +19,13 @@ verdict-of-requires : tie.Need-verdict-of-requires
 verdict-of-requires c κs = search needs
 
 returns : tie.Need-returns
-unfolding hourVerdict hourBorne
+unfolding hourVerdict hourBorne hourKinds range
 returns c =
     let b : hourBorne (c .before .before .before .before .args .facts) ≡ true = sym (c .before .before .before .any-said .ensures) ∙ c .before .before .if1 .taken in
     rw b (c .verdict-of .ensures ∙ ap verdictOf (c .before .search-hours .ensures))
 
 returns-2 : tie.Need-returns-2
-unfolding hourVerdict hourBorne
+unfolding hourVerdict hourBorne hourKinds range
 returns-2 c =
     let b : hourBorne (c .before .before .args .facts) ≡ false = sym (c .before .any-said .ensures) ∙ c .if1 .left in
     rw b

@@ -5,6 +5,12 @@ use Rattle.judge.specs.Agreement.{agrees}
 use Rattle.judge.proofs.search.says_other.Statement.{statement}
 use Rattle.judge.proofs.search.says_other.Tie as tie
 
+mul-number : tie.Need-mul-number
+mul-number c = search needs
+
+array-read-number : tie.Need-array-read-number
+array-read-number c = search needs
+
 returns : tie.Need-returns
 unfolding agrees
 returns c = rw (c .if1 .taken)
@@ -17,4 +23,4 @@ unfolding agrees
 returns-2 c = rw (ne-eqb _ 0 (c .if1 .left))
 
 pub says-other-spec : {M : Type 1} → statement M
-says-other-spec = tie.close (tie.spec returns sub-result returns-2)
+says-other-spec = tie.close (tie.spec mul-number array-read-number returns sub-result returns-2)

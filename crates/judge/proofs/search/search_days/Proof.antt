@@ -8,8 +8,10 @@ use borrow.Author.Needs.{needs}
 use Rattle.calendar.specs.Calendar.{monthLength, days, date}
 use Rattle.calendar.specs.declared.Date.{Date}
 use Rattle.judge.specs.Agreement.{dayAgrees}
+use Rattle.judge.specs.Private.{monthKinds, restKinds, isoKinds}
 use Rattle.judge.specs.declared.Facts.{Facts}
 use Rattle.judge.specs.declared.Found.{Found}
+use Rattle.laws.specs.Lists.{range}
 use Rattle.calendar.proofs.Dates.{first-day as day-one}
 use Rattle.calendar.proofs.Months.{month-most}
 use Rattle.calendar.proofs.Years.{days-is}
@@ -75,15 +77,15 @@ module _ (c : In-month) {d k : ℕ} {h : Found} (a : AtDay (dayAgrees (facts-at 
   in-month : d ≤ monthLength (year-at c) (month-at c)
   in-month = omega (arith, l, c .month-length .ensures)
 
-  here : dayAgrees (facts-at c) k ≡ (c .before .month-agrees .result && on (facts-at c) (date (year-at c) (month-at c) d) 5 8)
+  here : dayAgrees (facts-at c) k ≡ (c .before .month-agrees .result && on (facts-at c) (date (year-at c) (month-at c) d) restKinds)
   here =
       let f = facts-at c in
       ap (dayAgrees f) (a .at)
       ∙ agrees-by-parts f (year-at c) (month-at c) d (valid-here _ _ _ _ _ _ a in-month)
-      ∙ ap (λ (b : Bool). b && on f (date (year-at c) (month-at c) d) 5 8)
+      ∙ ap (λ (b : Bool). b && on f (date (year-at c) (month-at c) d) restKinds)
       (sym
       (c .before .month-agrees .ensures
-      ∙ ap (λ (b : Bool). b && on f (date (year-at c) (month-at c) 1) 4 1) (c .before .before .before .before .before .before .year-agrees .ensures)))
+      ∙ ap (λ (b : Bool). b && on f (date (year-at c) (month-at c) 1) monthKinds) (c .before .before .before .before .before .before .year-agrees .ensures)))
 
 -- the test of the day itself
 abbrev After-test : Type 0
@@ -92,8 +94,8 @@ After-test = tie.After-day-agrees Inv-loop2 μ-loop2 Inv-loop3 μ-loop3 Inv-loop
 abbrev within : After-test → In-month
 within c = c .before .before .before .before .before .before
 
-tested : (c : After-test) → c .day-agrees .result ≡ on (facts-at (within c)) (date (year-at (within c)) (month-at (within c)) (c .before .before .before .loop2 .day)) 5 8
-tested c = c .day-agrees .ensures ∙ ap (λ (u : Date). on (facts-at (within c)) u 5 8) (c .before .date-at .ensures)
+tested : (c : After-test) → c .day-agrees .result ≡ on (facts-at (within c)) (date (year-at (within c)) (month-at (within c)) (c .before .before .before .loop2 .day)) restKinds
+tested c = c .day-agrees .ensures ∙ ap (λ (u : Date). on (facts-at (within c)) u restKinds) (c .before .date-at .ensures)
 
 any-said-requires : tie.Need-any-said-requires Inv-loop2 μ-loop2 Inv-loop3 μ-loop3 Inv-loop μ-loop Inv-years μ-years
 any-said-requires c κs = search needs
@@ -141,6 +143,7 @@ date-at-requires : tie.Need-date-at-requires Inv-loop2 μ-loop2 Inv-loop3 μ-loo
 date-at-requires c κs = omega (arith, c .before .loop2 .inv .year-high, c .before .loop2 .inv .month-high, short (c .before .before .before .before))
 
 day-agrees-requires : tie.Need-day-agrees-requires Inv-loop2 μ-loop2 Inv-loop3 μ-loop3 Inv-loop μ-loop Inv-years μ-years
+unfolding isoKinds range
 day-agrees-requires c κs =
     let y = entered (c .before .before .before .before .before) in
     let a = c .before .before .loop2 .inv in

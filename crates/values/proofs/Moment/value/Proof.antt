@@ -21,25 +21,30 @@ hour-value-requires c κs = search needs
 
 returns-2 : tie.Need-returns-2
 unfolding value
-returns-2 c = rw (lt-leb (c .before .before .before .before .args .kind) 12 (omega arith), le-leb (c .before .before .before .before .args .kind) 15 (omega arith)) (c .hour-value .ensures)
+returns-2 c =
+    let k = c .before .before .before .before .args .kind in
+    rw (lt-leb k 12 (omega arith), le-leb k 15 (omega arith)) (c .hour-value .ensures)
 
 cast-result : tie.Need-cast-result
 cast-result c = search needs
 
-returns-3 : tie.Need-returns-3
-unfolding value
-returns-3 c = rw (c .before .if3 .taken)
-
 cast-result-2 : tie.Need-cast-result-2
 cast-result-2 c = search needs
 
+returns-3 : tie.Need-returns-3
+unfolding value
+returns-3 c = rw (c .before .match .keys1)
+
 returns-4 : tie.Need-returns-4
 unfolding value
-returns-4 c = rw (c .before .if4 .taken)
+returns-4 c = rw (c .before .match .keys2)
 
 returns-5 : tie.Need-returns-5
 unfolding value
-returns-5 c = simp (lt-leb (c .before .before .before .before .args .kind) 12 (omega arith), lt-leb (c .before .before .before .before .args .kind) 15 (omega arith), ne-eqb _ 16 (c .before .if3 .left), ne-eqb _ 17 (c .if4 .left))
+returns-5 c =
+    let k = c .before .before .before .args .kind in
+    let r = c .match .rest in
+    simp (lt-leb k 12 (omega arith), lt-leb k 15 (omega arith), ne-eqb _ 16 (r .0 .1), ne-eqb _ 17 (r .1))
 
 pub value-spec : {M : Type 1} → statement M
 value-spec =
@@ -51,7 +56,7 @@ value-spec =
     hour-value-requires
     returns-2
     cast-result
-    returns-3
     cast-result-2
+    returns-3
     returns-4
     returns-5)
