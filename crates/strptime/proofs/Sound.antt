@@ -5,7 +5,7 @@ use mathlib.Core.Bool.{Bool, true, false, cond, _&&_, false≢true}
 use mathlib.Core.List.{List, [], _∷_, map}
 use mathlib.Core.Path.{_≡_, refl, _∙_}
 use native.Mathlib.Omega.{arith}
-use borrow.Author.Tests.{leb-true}
+use borrow.Author.Tests.{leb-true, eqb-false}
 use lib.Dec.{T, eqb, leb, ltb, leb→le, ltb→lt, lit≤}
 use lib.ListN.{length, getD, drop, length-drop, length-map}
 use Rattle.laws.specs.Lists.{every}
@@ -86,7 +86,9 @@ name-named t s j n e = go (firstName 0 (namesOf t) s) refl e
   where
     go : (r : NameRead) → firstName 0 (namesOf t) s ≡ r → orElse r (firstName 0 (map short (namesOf t)) s) ≡ Found j n
         → Named (length (namesOf t)) s j n
-    go (Found a b) f g = first-named (namesOf t) 0 s j n (f ∙ g)
+    go (Found a b) f g =
+        let r = first-named (namesOf t) 0 s j n (f ∙ g) in
+        record { place = omega (arith, r .place); long = r .long }
     go Nothing f g =
         let r = first-named (map short (namesOf t)) 0 s j n g in
         record { place = omega (arith, r .place, length-map (namesOf t) short); long = r .long }
@@ -151,7 +153,7 @@ unfolding conversionOf rows every all-span spansForm spans firstValue names.comp
 conversion-spans c = found-spans c rows tt
 
 -- ---- what an element found: offsets of the text, and a fact of which P holds
-unfoldable Finds : (ℕ → ℕ → Type 0) → List ℕ → Item → Type 0
+unfoldable pub Finds : (ℕ → ℕ → Type 0) → List ℕ → Item → Type 0
 Finds P s (Skip n) = n ≤ length s
 Finds P s (Fact k v from n) = P k v × (from ≤ length s) × (n ≤ length s)
 Finds P s (NoMatch p) = p ≤ length s
@@ -211,7 +213,7 @@ module _ (s : List ℕ) (at : ℕ) (h : at ≤ length s) where
       go (Found i n) e =
           let f = name-named t (drop at s) i n e in (
             spans-told (c .kind) (firstValue t) (firstValue t + length (namesOf t) - 1) m (firstValue t + i)
-            (omega arith) (omega (arith, f .place)),
+                (omega arith) (omega (arith, f .place)),
             h,
             omega (arith, f .long, length-drop at s),
           )
@@ -225,7 +227,10 @@ module _ (s : List ℕ) (at : ℕ) (h : at ≤ length s) where
       let b = both (spans (c .kind) 1 7) (leb (c .high) 7) m in
       sound-sunday (readNumber c s at)
       (finds-number (λ k v. Told k (cond (eqb v 0) 7 v)) c
-      (λ v l g. ?))
+      (λ v l g.
+      either (λ (x : ℕ). Told (c .kind) x) (eqb v 0)
+      (λ _. spans-told (c .kind) 1 7 (b .0) 7 (lit≤ tt) (lit≤ tt))
+      (λ (e : eqb v 0 ≡ false). spans-told (c .kind) 1 7 (b .0) v (omega (arith, eqb-false v 0 e)) (omega (arith, leb→le (c .high) 7 (b .1))))))
   sound-form (Short t) c m = sound-named t c m
   sound-form (Full t) c m = sound-named t c m
   sound-form (Lower t) c m = sound-named t c m

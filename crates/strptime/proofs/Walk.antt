@@ -22,7 +22,7 @@ use Rattle.strptime.specs.declared.Stepped.{Stepped}
 use Rattle.strptime.specs.declared.elements.Item.{Item}
 use Rattle.strptime.specs.declared.elements.Item.the-variants.{Skip, Fact, NoMatch, OutOfRange}
 use Rattle.strptime.proofs.Outcome.{the-type}
-use Rattle.strptime.proofs.Sound.{Sound, sound}
+use Rattle.strptime.proofs.Sound.{Finds, Sound, sound}
 
 -- a number is the first of its kind, or the one that was said
 abbrev consistent : State → ℕ → ℕ → Bool
@@ -39,10 +39,10 @@ abbrev pub Within : List ℕ → Stepped → Type 0
 Within s r = (r .state .at ≤ length s) × Placed s (r .outcome)
 
 taken-within : (s : List ℕ) (t : State) → t .at ≤ length s → (i : Item) → Sound s i → Within s (taken t i)
-unfolding taken goes stays tell Sound Placed
+unfolding taken goes stays tell Finds Placed
 taken-within s t h (Skip n) p = (p, tt)
 taken-within s t h (Fact k n from next) p =
-    picked (Within s) (consistent t k n) (p .3, tt) (h, p .2)
+    picked (Within s) (consistent t k n) (p .2, tt) (h, p .1)
 taken-within s t h (NoMatch q) p = (h, p)
 taken-within s t h (OutOfRange q) p = (h, p)
 

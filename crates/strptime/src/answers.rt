@@ -10,15 +10,25 @@ use crate::steps::read_all;
 use calendar::Date;
 use calendar::FromNumber;
 use format::LONGEST;
+use format::MIDDLE_BYTES;
+use format::MIDDLE_ELEMENTS;
+use format::MOST_ELEMENTS;
+use format::Opened;
+use format::SHORT_BYTES;
+use format::SHORT_ELEMENTS;
+use format::elements_in;
+use format::open;
 use judge::Verdict;
 use judge::judge_day;
 use judge::judge_hour;
 ghost use mathlib.Core.Path.{_≡_};
-ghost use Prim.Native.Nat.{_≤_, _<_};
+ghost use Prim.Native.Nat.{_*_, _≤_, _<_};
+ghost use lib.ListN.{length};
 ghost use Rattle.calendar.specs.Calendar.{days, dateOf};
+ghost use Rattle.format.specs.Opening.{longest};
 ghost use Rattle.judge.specs.Verdicts.{hourVerdict};
 ghost use Rattle.strptime.specs.Answers.{showing, refused, readingOf, saidOf, done, withHour, judged, readBy};
-ghost use Rattle.strptime.specs.Answers.{elementsReading};
+ghost use Rattle.strptime.specs.Answers.{elementsReading, reading};
 
 // A number and a place, and what is shown; all else is unsaid.
 fn showing(number: u32, place: usize, shown: Shown) -> Reading
@@ -166,5 +176,48 @@ pub fn read_elements(elements: &[u32], text: &[u8]) -> Answer
     if LONGEST < text.len() {
         return Answer::TextTooLong;
     }
+    let good = elements_in(elements);
+    if good != elements.len() {
+        return Answer::BadConversion { at: good };
+    }
     read_by(elements, text)
+}
+
+// Opens the format into `room`, which has space for all its elements, and reads.
+fn read_opened(format: &[u8], text: &[u8], room: &mut [u32]) -> Answer
+    requires { ⌜ (length (now format) ≤ longest → 13 * length (now format) ≤ 2 * length (now room)) ⌝ }
+    ensures { λ r. ⌜ readingOf r ≡ reading (now (format .entry)) (now (text .entry)) ⌝ }
+{
+    match open(format, room) {
+        Opened::TooLong => Answer::FormatTooLong,
+        Opened::Bad { at } => {
+            if LONGEST < text.len() {
+                return Answer::TextTooLong;
+            }
+            Answer::BadConversion { at }
+        }
+        Opened::Done { count } => {
+            if LONGEST < text.len() {
+                return Answer::TextTooLong;
+            }
+            read_by(&room[..count], text)
+        }
+    }
+}
+
+// Reads a text by a format: the day and hour that all its facts fix, or the refusal with its place. The format is opened into the smallest
+// of three arrays that has room for it.
+pub fn strptime(format: &[u8], text: &[u8]) -> Answer
+    ensures { λ r. ⌜ readingOf r ≡ reading (now (format .entry)) (now (text .entry)) ⌝ }
+{
+    if format.len() <= SHORT_BYTES {
+        let mut elements = [0; SHORT_ELEMENTS];
+        return read_opened(format, text, &mut elements);
+    }
+    if format.len() <= MIDDLE_BYTES {
+        let mut elements = [0; MIDDLE_ELEMENTS];
+        return read_opened(format, text, &mut elements);
+    }
+    let mut elements = [0; MOST_ELEMENTS];
+    read_opened(format, text, &mut elements)
 }

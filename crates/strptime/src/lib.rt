@@ -8,6 +8,7 @@ mod steps;
 
 pub use answers::read_elements;
 pub use answers::reading_of;
+pub use answers::strptime;
 
 // Where a reading stands: the facts so far, and the first unread offset of the text.
 pub struct State {

@@ -7,7 +7,7 @@ use crate::elements::read_element;
 use judge::Facts;
 ghost use mathlib.Core.Bool.{not, _||_};
 ghost use mathlib.Core.Path.{_≡_};
-ghost use Prim.Native.Nat.{suc, _≤_, _<_};
+ghost use Prim.Native.Nat.{suc, _≤_};
 ghost use lib.Dec.{eqb};
 ghost use lib.ListN.{length};
 ghost use Rattle.strptime.specs.Reading.{here, start, stays, stepOn, readAll};
@@ -20,7 +20,7 @@ pub struct Step {
 
 // Whether a number differs from what was said before, if anything was.
 fn conflicts(said: u32, number: u32) -> bool
-    requires { ⌜ number < 100000 ⌝ }
+    requires { ⌜ number ≤ 9999 ⌝ }
     ensures { λ r. ⌜ r ≡ not (eqb said 0 || eqb said (suc number)) ⌝ }
 {
     if said == 0 {

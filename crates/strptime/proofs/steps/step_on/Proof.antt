@@ -1,9 +1,8 @@
 -- `strptime::steps::step_on` meets its contract. Assumes nothing.
-use Prim.Native.Nat.{_<_}
 use native.Mathlib.Omega.{arith}
 use borrow.Author.Needs.{needs}
 use denote.Ref.{now}
-use Rattle.strptime.proofs.Sound.{fact-fits}
+use Rattle.strptime.proofs.Sound.{Told, told-small, fact-told}
 use Rattle.strptime.proofs.Walk.{on-skip, on-mismatch, on-range, on-conflict, on-fact}
 use Rattle.strptime.proofs.steps.step_on.Statement.{statement}
 use Rattle.strptime.proofs.steps.step_on.Tie as tie
@@ -17,12 +16,12 @@ enum-known-next c = search needs
 enum-known-kind : tie.Need-enum-known-kind
 enum-known-kind c = search needs
 
--- the fact is of one of the kinds, and small
-fits : (c : tie.After-known-told2) → let f = c .before .kind .given .0 in (f .0 < 18) × (f .1 .0 < 100000)
-fits c =
+-- the fact that was read
+said : (c : tie.After-known-told2) → let f = c .before .kind .given .0 in Told (f .0) (f .1 .0)
+said c =
     let d = c .before .before .before in
     let a = d .before .before .args in
-    fact-fits (a .element) (now (a .s)) (a .at) (omega arith) (d .read-element .ensures) (c .before .kind .given .1)
+    fact-told (now (a .s)) (a .at) (omega arith) (a .element) (d .read-element .ensures) (c .before .kind .given .1)
 
 cast-conflicts : tie.Need-cast-conflicts
 cast-conflicts c = search needs
@@ -31,16 +30,18 @@ mul-conflicts : tie.Need-mul-conflicts
 mul-conflicts c = search needs
 
 element-copy-out-conflicts : tie.Need-element-copy-out-conflicts
-element-copy-out-conflicts c = omega (arith, fits c)
+element-copy-out-conflicts c = omega (arith, said c)
 
 conflicts-requires : tie.Need-conflicts-requires
-conflicts-requires c κs = omega (arith, fits (c .before))
+conflicts-requires c κs = told-small _ _ (said (c .before))
 
 returns : tie.Need-returns
-returns c = on-conflict _ _ _ (c .before .before .before .before .before .before .read-element .ensures) (c .before .before .before .before .kind .given .1) (c .before .conflicts .ensures) (c .if1 .taken)
+returns c =
+    let d = c .before .before .before .before in
+    on-conflict _ _ _ (d .before .before .read-element .ensures) (d .kind .given .1) (c .before .conflicts .ensures) (c .if1 .taken)
 
 add-said : tie.Need-add-said
-add-said c = omega (arith, fits (c .before .before .before))
+add-said c = omega (arith, told-small _ _ (said (c .before .before .before)))
 
 cast-said : tie.Need-cast-said
 cast-said c = search needs
@@ -49,7 +50,7 @@ mul-said : tie.Need-mul-said
 mul-said c = search needs
 
 element-write-said : tie.Need-element-write-said
-element-write-said c = omega (arith, fits (c .before .before .before))
+element-write-said c = omega (arith, said (c .before .before .before))
 
 enum-known-p : tie.Need-enum-known-p
 enum-known-p c = search needs
@@ -61,7 +62,9 @@ returns-2 : tie.Need-returns-2
 returns-2 c = on-skip _ _ _ (c .before .before .before .read-element .ensures) (c .before .next .given .1)
 
 returns-3 : tie.Need-returns-3
-returns-3 c = on-fact _ _ _ (c .before .before .before .before .before .before .read-element .ensures) (c .before .before .before .before .kind .given .1) (c .before .conflicts .ensures) (c .if1 .left)
+returns-3 c =
+    let d = c .before .before .before .before in
+    on-fact _ _ _ (d .before .before .read-element .ensures) (d .kind .given .1) (c .before .conflicts .ensures) (c .if1 .left)
 
 returns-4 : tie.Need-returns-4
 returns-4 c = on-mismatch _ _ _ (c .before .before .before .read-element .ensures) (c .before .p .given .1)
