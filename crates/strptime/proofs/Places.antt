@@ -1,15 +1,15 @@
 -- Places that a reading answers are offsets of its text or its format, or 1 or 2: none is above 1,024.
 -- Assumes nothing.
-use Prim.Native.Nat.{ℕ, _≤_}
+use Prim.Native.Nat.{ℕ, zero, suc, _≤_}
 use mathlib.Core.Bool.{true}
 use mathlib.Core.List.{List, [], _∷_}
 use mathlib.Core.Path.{_≡_, refl}
 use native.Mathlib.Omega.{arith}
 use borrow.Author.Tests.{leb-true}
-use lib.Dec.{leb, lit≤}
+use lib.Dec.{eqb, leb, lit≤}
 use lib.ListN.{length}
 use Rattle.laws.proofs.Cases.{either, picked}
-use Rattle.format.specs.Opening.{Ended, opening, longest}
+use Rattle.format.specs.Opening.{Ended, opening, longest, mostElements, isElement, elementsIn}
 use Rattle.format.specs.Opening.Ended.{Whole, BadAt}
 use Rattle.format.proofs.Refused.{bad-within}
 use Rattle.judge.specs.Verdicts.{dayVerdict, hourVerdict}
@@ -78,4 +78,21 @@ reading-place f s =
     either (λ (r : Reading). r .place ≤ longest) (leb (length s) longest)
     (λ (g : leb (length s) longest ≡ true). format-place s (leb-true (length s) longest g) f (leb-true (length f) longest e))
     (λ _. lit≤ tt))
+    (λ _. lit≤ tt)
+
+elements-most : (n : ℕ) (es : List ℕ) → elementsIn n es ≤ n
+unfolding elementsIn
+elements-most zero es = lit≤ tt
+elements-most (suc n) [] = omega arith
+elements-most (suc n) (e ∷ es) = picked (λ k. k ≤ suc n) (isElement e) (omega (arith, elements-most n es)) (omega arith)
+
+pub elements-place : (es s : List ℕ) → elementsReading es s .place ≤ mostElements
+unfolding elementsReading byElements showing refused
+elements-place es s =
+    let good = elementsIn mostElements es in
+    either (λ (r : Reading). r .place ≤ mostElements) (leb (length s) longest)
+    (λ (e : leb (length s) longest ≡ true).
+    picked (λ (r : Reading). r .place ≤ mostElements) (eqb good (length es))
+    (omega (arith, by-place s (leb-true (length s) longest e) es))
+    (elements-most mostElements es))
     (λ _. lit≤ tt)

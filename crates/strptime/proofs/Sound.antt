@@ -12,11 +12,13 @@ use Rattle.laws.specs.Lists.{every}
 use Rattle.laws.proofs.Cases.{either, picked, clash}
 use Rattle.laws.proofs.Table.{both, all, at}
 use Rattle.kinds.specs.Kinds.{kinds}
-use Rattle.format.specs.Conversions.{Row, rows, find, conversionOf}
+use Rattle.format.specs.Conversions as rows
+use Rattle.format.specs.Conversions.{conversionOf}
 use Rattle.format.specs.Opening.{isByte, letterOf}
 use Rattle.format.specs.declared.conversions.Conversion.{Conversion}
 use Rattle.format.specs.declared.conversions.Form.{Form}
 use Rattle.format.specs.declared.conversions.Form.the-variants.{Zeros, Blanks, FromSunday, Short, Full, Lower, Unknown}
+use Rattle.format.proofs.Rows.{conversion-passes}
 use Rattle.strptime.specs.Elements.{ordinary, readByte, ranged, readNumber, fromSunday, named, readNamed, readForm}
 use Rattle.strptime.specs.Elements.{readConversion, readElement}
 use Rattle.strptime.specs.declared.elements.Item.{Item}
@@ -138,19 +140,11 @@ spansForm (Lower t) c = spans (c .kind) (firstValue t) (firstValue t + length (n
 spansForm Unknown c = true
 
 -- one computed test over the rows
-all-span : List Row → Bool
-all-span rs = every (λ (r : Row). spansForm (r .row .form) (r .row)) rs
-
-found-spans : (c : ℕ) (rs : List Row) → T (all-span rs) → let x = find c rs in T (spansForm (x .form) x)
-unfolding find every all-span spansForm
-found-spans c [] t = tt
-found-spans c (r ∷ rs) t =
-    let b = both (spansForm (r .row .form) (r .row)) (all-span rs) t in
-    picked (λ x. T (spansForm (x .form) x)) (eqb c (r .letter)) (b .0) (found-spans c rs (b .1))
-
 conversion-spans : (c : ℕ) → let x = conversionOf c in T (spansForm (x .form) x)
-unfolding conversionOf rows every all-span spansForm spans firstValue names.computes
-conversion-spans c = found-spans c rows tt
+conversion-spans c =
+    conversion-passes (λ (x : Conversion). spansForm (x .form) x) c
+    (unfold rows.computes every spansForm spans firstValue names.computes in tt)
+    (unfold rows.computes spansForm in tt)
 
 -- ---- what an element found: offsets of the text, and a fact of which P holds
 unfoldable pub Finds : (ℕ → ℕ → Type 0) → List ℕ → Item → Type 0

@@ -16,13 +16,13 @@ elements-in-requires c κs = search needs
 
 returns-2 : tie.Need-returns-2
 unfolding readingOf
-returns-2 c = entry-bad _ _ (omega arith) (c .before .elements-in .ensures) ?
+returns-2 c = entry-bad _ _ (omega arith) (c .before .elements-in .ensures) (c .if2 .taken)
 
 read-by-requires : tie.Need-read-by-requires
 read-by-requires c κs = search needs
 
 returns-3 : tie.Need-returns-3
-returns-3 c = c .read-by .ensures ∙ entries-read _ _ (omega arith) (c .before .before .elements-in .ensures) ?
+returns-3 c = c .read-by .ensures ∙ entries-read _ _ (omega arith) (c .before .before .elements-in .ensures) (c .before .if2 .left)
 
 pub read-elements-spec : {M : Type 1} → statement M
 read-elements-spec =
