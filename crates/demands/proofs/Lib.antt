@@ -1,5 +1,6 @@
 pub mod Demand
 pub mod Matched
+pub mod Rows
 pub mod Starred
 pub mod Verdicts
 pub mod Walk

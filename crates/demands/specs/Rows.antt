@@ -1,0 +1,47 @@
+-- Demand 1, and the table "Numbers that come back": any format, text and fields get a number of the list with its place; a refused writing
+-- leaves the buffer untouched, a finished one touches only the bytes it counts; "Whatever a row does not name comes back zero or unsaid."
+use Prim.Native.Nat.{ℕ, _≤_, _<_}
+use mathlib.Core.Bool.{true}
+use mathlib.Core.List.{List, [], _∷_}
+use mathlib.Core.Path.{_≡_}
+use lib.ListN.{length, drop}
+use Rattle.format.specs.Conversions.{among}
+use Rattle.strftime.specs.Writing.{Result}
+use Rattle.strptime.specs.declared.Day.the-variants.{NoDate}
+use Rattle.strptime.specs.declared.Reading.{Reading}
+use Rattle.strptime.specs.declared.Said.the-variants.{Unsaid}
+use Rattle.strptime.specs.declared.Shown.the-variants.{Nothing}
+
+-- a number is one of these
+abbrev pub OneOf : List ℕ → ℕ → Type 0
+OneOf ns n = among n ns ≡ true
+
+-- a writing's result w, by a format f into a buffer b
+pub record Written (f b : List ℕ) (w : Result) : Type 0 where
+  pub listed : OneOf (0 ∷ 1 ∷ 2 ∷ 3 ∷ 4 ∷ []) (w .answer .number)
+  -- "A writer refusal leaves the whole buffer as it came"
+  pub untouched : (w .answer .number ≡ 0 → ⊥) → w .buffer ≡ b
+  -- "On success bytes past the count stay too"
+  pub fits : w .answer .number ≡ 0 → w .answer .place ≤ length b
+  pub same-length : length (w .buffer) ≡ length b
+  pub past-the-count : w .answer .number ≡ 0 → drop (w .answer .place) (w .buffer) ≡ drop (w .answer .place) b
+  -- places: 0; a field, 1 to 6; an offset of the format; more bytes than the buffer has
+  pub place-1 : w .answer .number ≡ 1 → w .answer .place ≡ 0
+  pub place-2 : w .answer .number ≡ 2 → OneOf (1 ∷ 2 ∷ 3 ∷ 4 ∷ 5 ∷ 6 ∷ []) (w .answer .place)
+  pub place-3 : w .answer .number ≡ 3 → w .answer .place < length f
+  pub place-4 : w .answer .number ≡ 4 → length b < w .answer .place
+
+-- a reading r of a text s by a format f
+pub record Read (f s : List ℕ) (r : Reading) : Type 0 where
+  pub listed : OneOf (0 ∷ 1 ∷ 3 ∷ 5 ∷ 6 ∷ 7 ∷ 8 ∷ 9 ∷ 10 ∷ []) (r .number)
+  -- nothing is handed out with another number than 0, and nothing is shown with another than 10
+  pub no-day : (r .number ≡ 0 → ⊥) → r .day ≡ NoDate
+  pub no-hour : (r .number ≡ 0 → ⊥) → r .hour ≡ Unsaid
+  pub no-minute : (r .number ≡ 0 → ⊥) → r .minute ≡ Unsaid
+  pub no-second : (r .number ≡ 0 → ⊥) → r .second ≡ Unsaid
+  pub unshown : (r .number ≡ 10 → ⊥) → r .shown ≡ Nothing
+  -- places: 0; an offset of the format; an offset of the text, or its end; the day or the hour
+  pub place-1-5 : OneOf (1 ∷ 5 ∷ []) (r .number) → r .place ≡ 0
+  pub place-3 : r .number ≡ 3 → r .place < length f
+  pub place-0-6-7-8 : OneOf (0 ∷ 6 ∷ 7 ∷ 8 ∷ []) (r .number) → r .place ≤ length s
+  pub place-9-10 : OneOf (9 ∷ 10 ∷ []) (r .number) → OneOf (1 ∷ 2 ∷ []) (r .place)
