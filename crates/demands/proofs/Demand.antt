@@ -24,7 +24,6 @@ use Rattle.judge.specs.declared.Verdict.the-variants.{Unsaid as NotSaid, Imposs
 use Rattle.judge.proofs.Demand.{day-judged, hour-judged}
 use Rattle.judge.proofs.Every.{every-member}
 use Rattle.strptime.specs.Answers.{saidOf, withDay, judged, reading}
-use Rattle.strptime.specs.Elements.{readElement}
 use Rattle.strptime.specs.declared.Day.{Day}
 use Rattle.strptime.specs.declared.Day.the-variants.{NoDate, On}
 use Rattle.strptime.specs.declared.Said.{Said}
@@ -36,7 +35,7 @@ use Rattle.demands.specs.Writes.{WouldWrite, onDay, atHour}
 use Rattle.demands.specs.Demand.{SomeSaid, NoneSaid, DayAgrees, HourAgrees, DayIs, HourIs, NumberIs, DayStands, Answered}
 use Rattle.demands.proofs.Matched.{read, matched-is, handed}
 use Rattle.demands.proofs.Verdicts.{Leaves, LeavesHour, day-none, day-two, then-none, then-two, then-done}
-use Rattle.demands.proofs.Walk.{Kept, Small}
+use Rattle.demands.proofs.Walk.{Kept}
 use Rattle.demands.proofs.Written.{day-would, hour-would}
 
 -- ---- the same words over other facts and another agreement
@@ -115,20 +114,20 @@ hour-kind = within 13 15 hourKinds (unfold computes every in refl)
 
 -- ---- a matched text
 
-module _ (small : (e : ℕ) (s : List ℕ) (p : ℕ) → Small (readElement e s p)) (f s : List ℕ) (m : Matched f s) where
+module _ (f s : List ℕ) (m : Matched f s) where
   abbrev kept : Facts
   kept = read f s .state .facts
 
   -- no number is kept for some kinds exactly if no fact of them is said
   none-said : (ks : List ℕ) → NoneKept kept ks → NoneSaid f s ks
-  none-said ks z k n i x = omega (arith, z k i, handed small f s m k n .1 x)
+  none-said ks z k n i x = omega (arith, z k i, handed f s m k n .1 x)
 
   none-kept : (ks : List ℕ) → NoneSaid f s ks → NoneKept kept ks
   none-kept ks z k i = go (said kept k) refl
     where
       go : (x : ℕ) → said kept k ≡ x → x ≡ 0
       go zero e = refl
-      go (suc n) e = absurd (z k n i (handed small f s m k n .0 e))
+      go (suc n) e = absurd (z k n i (handed f s m k n .0 e))
 
   some-said : (ks : List ℕ) → (NoneSaid f s ks → ⊥) → SomeSaid f s ks
   some-said ks z = ⊎-elim (λ r. r) (λ none. absurd (z none)) (some-or-none ks (facts f s))
@@ -140,15 +139,15 @@ module _ (small : (e : ℕ) (s : List ℕ) (p : ℕ) → Small (readElement e s 
   day-by : Judged (NoneSaid f s dayKinds) IsDay (DayAgrees f s) (dayVerdict kept)
   day-by =
       judged-over (none-said dayKinds) (none-kept dayKinds)
-      (λ d i g k n b x. let w = day-kind k b in day-would d (i .0) (i .1) k n (w .0) (w .1) .1 (g k n b (handed small f s m k n .1 x)))
-      (λ d i g k n b x. let w = day-kind k b in day-would d (i .0) (i .1) k n (w .0) (w .1) .0 (g k n b (handed small f s m k n .0 x)))
+      (λ d i g k n b x. let w = day-kind k b in day-would d (i .0) (i .1) k n (w .0) (w .1) .1 (g k n b (handed f s m k n .1 x)))
+      (λ d i g k n b x. let w = day-kind k b in day-would d (i .0) (i .1) k n (w .0) (w .1) .0 (g k n b (handed f s m k n .0 x)))
       (dayVerdict kept) (day-judged kept)
 
   hour-by : Judged (NoneSaid f s hourKinds) IsHour (HourAgrees f s) (hourVerdict kept)
   hour-by =
       judged-over (none-said hourKinds) (none-kept hourKinds)
-      (λ h i g k n b x. let w = hour-kind k b in hour-would h i k n (w .0) (w .1) .1 (g k n b (handed small f s m k n .1 x)))
-      (λ h i g k n b x. let w = hour-kind k b in hour-would h i k n (w .0) (w .1) .0 (g k n b (handed small f s m k n .0 x)))
+      (λ h i g k n b x. let w = hour-kind k b in hour-would h i k n (w .0) (w .1) .1 (g k n b (handed f s m k n .1 x)))
+      (λ h i g k n b x. let w = hour-kind k b in hour-would h i k n (w .0) (w .1) .0 (g k n b (handed f s m k n .0 x)))
       (hourVerdict kept) (hour-judged kept)
 
   -- the day, the hour, the minute and the second that the facts give
@@ -183,17 +182,17 @@ module _ (small : (e : ℕ) (s : List ℕ) (p : ℕ) → Small (readElement e s 
   number-left k x = go (said kept k) refl x
     where
       go : (y : ℕ) → said kept k ≡ y → (x : Said) → (saidOf y ≡ x) ↔ NumberIs f s k x
-      go zero e Unsaid = (λ q n z. omega (arith, sym e ∙ handed small f s m k n .1 z), λ z. refl)
-      go zero e (Is n) = (λ q. clash (cc), λ z. absurd (omega (arith, sym e ∙ handed small f s m k n .1 z)))
+      go zero e Unsaid = (λ q n z. omega (arith, sym e ∙ handed f s m k n .1 z), λ z. refl)
+      go zero e (Is n) = (λ q. clash (cc), λ z. absurd (omega (arith, sym e ∙ handed f s m k n .1 z)))
       go (suc a) e Unsaid = (
         λ q. clash (cc (rw (ne-eqb (suc a) 0 (λ (z : suc a ≡ 0). omega arith)) at q)),
-        λ z. absurd (z a (handed small f s m k a .0 e)),
+        λ z. absurd (z a (handed f s m k a .0 e)),
       )
       go (suc a) e (Is n) =
           let one : suc a - 1 ≡ a = omega arith in
           let is : saidOf (suc a) ≡ Is a = rw (ne-eqb (suc a) 0 (λ (z : suc a ≡ 0). omega arith), one) in (
-            λ q. let d : a ≡ n = cc in rw (← d) (handed small f s m k a .0 e),
-            λ z. let d : a ≡ n = omega (arith, sym e ∙ handed small f s m k n .1 z) in is ∙ ap Is d,
+            λ q. let d : a ≡ n = cc in rw (← d) (handed f s m k a .0 e),
+            λ z. let d : a ≡ n = omega (arith, sym e ∙ handed f s m k n .1 z) in is ∙ ap Is d,
           )
 
   -- dates of two days are the same only if the days are
@@ -262,4 +261,4 @@ module _ (small : (e : ℕ) (s : List ℕ) (p : ℕ) → Small (readElement e s 
 
   pub answered : Answered f s
   unfolding judged
-  answered = answered-by (dayVerdict kept) (hourVerdict kept) day-by hour-by (matched-is small f s m)
+  answered = answered-by (dayVerdict kept) (hourVerdict kept) day-by hour-by (matched-is f s m)

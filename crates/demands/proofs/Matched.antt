@@ -10,7 +10,6 @@ use borrow.Author.Tests.{le-leb, leb-true}
 use lib.Dec.{leb}
 use lib.ListN.{length, getD, replicate}
 use Rattle.laws.proofs.Cases.{clash}
-use Rattle.kinds.specs.Kinds.{kinds}
 use Rattle.format.specs.Conversions.{among}
 use Rattle.format.specs.Opening.{Ended, Whole, BadAt, opening, longest}
 use Rattle.judge.specs.Agreement.{said}
@@ -18,7 +17,6 @@ use Rattle.judge.specs.Verdicts.{dayVerdict, hourVerdict}
 use Rattle.judge.specs.declared.Verdict.{Verdict}
 use Rattle.judge.specs.declared.Verdict.the-variants.{Unsaid, Impossible, Open, Agreed}
 use Rattle.strptime.specs.Answers.{showing, refused, finished, done, withHour, withDay, judged, concluded, readBy, byFormat, reading}
-use Rattle.strptime.specs.Elements.{readElement}
 use Rattle.strptime.specs.Reading.{unsaid, start, stays, isRead, readAll}
 use Rattle.strptime.specs.declared.Day.{Day}
 use Rattle.strptime.specs.declared.Outcome.{Outcome}
@@ -28,7 +26,7 @@ use Rattle.strptime.specs.declared.State.{State}
 use Rattle.strptime.specs.declared.Stepped.{Stepped}
 use Rattle.demands.specs.Facts.{Says, facts, allRead, Consistent, Matched}
 use Rattle.demands.specs.Demand.{beforeNine}
-use Rattle.demands.proofs.Walk.{Kept, Small, Went, went, goes-through}
+use Rattle.demands.proofs.Walk.{Kept, Went, went, goes-through}
 
 -- ---- numbers of a judging
 
@@ -69,10 +67,10 @@ none-kept k n e = omega (arith, zeros 18 k)
     zeros (suc m) zero = refl
     zeros (suc m) (suc k) = zeros m k
 
-module _ (small : (e : ℕ) (s : List ℕ) (p : ℕ) → Small (readElement e s p)) (f s : List ℕ) where
+module _ (f s : List ℕ) where
   read-went : isRead (read f s .outcome) ≡ true → Went (opening f .elements) s start
   unfolding start unsaid
-  read-went = went small (opening f .elements) s start refl
+  read-went = went (opening f .elements) s start refl (omega arith)
 
   -- exactly the facts that the text says
   kept-said : isRead (read f s .outcome) ≡ true → (k n : ℕ) → Kept (read f s .state .facts) k n ↔ Says (facts f s) k n
@@ -90,7 +88,7 @@ module _ (small : (e : ℕ) (s : List ℕ) (p : ℕ) → Small (readElement e s 
   matched-read : Matched f s → isRead (read f s .outcome) ≡ true
   unfolding facts start
   matched-read m =
-      goes-through small (opening f .elements) s start (unfold start unsaid in refl) (m .all-read)
+      goes-through (opening f .elements) s start (unfold start unsaid in refl) (omega arith) (m .all-read)
       (λ k a b x y. m .consistent k a b (not-kept k a x) (not-kept k b y))
     where
       not-kept : (k n : ℕ) → Kept (start .facts) k n ⊎ Says (facts f s) k n → Says (facts f s) k n

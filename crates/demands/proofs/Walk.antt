@@ -1,7 +1,7 @@
 -- Reading elements, and what they say: the reader goes through exactly if every element finds what it wants and no kind is said again,
 -- differently; and then it has kept exactly what was said.
 -- Assumes nothing.
-use Prim.Native.Nat.{ℕ, zero, suc, _<_}
+use Prim.Native.Nat.{ℕ, zero, suc, _≤_, _<_}
 use mathlib.Core.Bool.{Bool, true, false, cond, _||_, false≢true}
 use mathlib.Core.List.{List, [], _∷_}
 use mathlib.Core.Logic.{_⊎_, _↔_, inl, inr, ⊎-elim}
@@ -23,6 +23,7 @@ use Rattle.strptime.specs.declared.State.{State}
 use Rattle.strptime.specs.declared.Stepped.{Stepped}
 use Rattle.strptime.specs.declared.elements.Item.{Item}
 use Rattle.strptime.specs.declared.elements.Item.the-variants.{Skip, Fact as Reads, NoMatch, OutOfRange}
+use Rattle.strptime.proofs.Sound.{Finds, Sound, sound}
 use Rattle.demands.specs.Facts.{Fact, saying, factsFrom, Says, going, allRead}
 
 -- a number is kept for a kind
@@ -88,10 +89,6 @@ record WentBy (es s : List ℕ) (t : State) (i : Item) : Type 0 where
   reads : going (λ next. allRead es s next) i ≡ true
   keeps : KeepsAll (t .facts) (saying (λ next. factsFrom es s next) i) (onward es s t i .state .facts)
 
--- an item's kind has a place among what is kept
-abbrev pub Small : Item → Type 0
-Small i = (k n from next : ℕ) → i ≡ Reads k n from next → k < kinds
-
 free-of : (x n : ℕ) → (eqb x 0 || eqb x (suc n)) ≡ true → (x ≡ 0) ⊎ (x ≡ suc n)
 free-of x n e = go (eqb x 0) refl e
   where
@@ -100,17 +97,17 @@ free-of x n e = go (eqb x 0) refl e
     go false f g = inr (eqb-true x (suc n) g)
 
 module _ (es s : List ℕ) (t : State) (l : length (t .facts .said) ≡ kinds)
-    (rest : (f : Facts) (p : ℕ) → length (f .said) ≡ kinds → Whole (readAll es s (at f p)) → Went es s (at f p)) where
+    (rest : (f : Facts) (p : ℕ) → length (f .said) ≡ kinds → p ≤ length s → Whole (readAll es s (at f p)) → Went es s (at f p)) where
   -- a fact, by whether it is free to be kept
-  kept-by : (k n from next : ℕ) → k < kinds → (b : Bool) → (eqb (said (t .facts) k) 0 || eqb (said (t .facts) k) (suc n)) ≡ b
+  kept-by : (k n from next : ℕ) → k < kinds → next ≤ length s → (b : Bool) → (eqb (said (t .facts) k) 0 || eqb (said (t .facts) k) (suc n)) ≡ b
       → Whole (onward es s t (Reads k n from next)) → WentBy es s t (Reads k n from next)
   unfolding onward taken tell goes stays isRead going saying Says
-  kept-by k n from next h true e w =
+  kept-by k n from next h q true e w =
       let f = t .facts in
       let free = free-of (said f k) n e in
       let inside : k < length (f .said) = omega arith in
       let long : length (noted f k n .said) ≡ kinds = unfold noted in length-set (f .said) k (suc n) ∙ l in
-      let r = rest (noted f k n) next long (rw e at w) in
+      let r = rest (noted f k n) next long q (rw e at w) in
       record {
         reads = r .reads;
         keeps = λ j m. rw e (
@@ -126,28 +123,28 @@ module _ (es s : List ℕ) (t : State) (l : length (t .facts .said) ≡ kinds)
               x),
         );
       }
-  kept-by k n from next h false e w = absurd (false≢true (rw e at w))
+  kept-by k n from next h q false e w = absurd (false≢true (rw e at w))
 
-  went-by : (i : Item) → Small i → Whole (onward es s t i) → WentBy es s t i
-  unfolding onward taken goes stays isRead going saying
+  went-by : (i : Item) → Sound s i → Whole (onward es s t i) → WentBy es s t i
+  unfolding onward taken goes stays isRead going saying Finds
   went-by (Skip next) h w =
-      let r = rest (t .facts) next l w in
+      let r = rest (t .facts) next l h w in
       record { reads = r .reads; keeps = r .keeps }
-  went-by (Reads k n from next) h w = kept-by k n from next (h k n from next refl) _ refl w
+  went-by (Reads k n from next) h w = kept-by k n from next (h .0 .most) (h .2) _ refl w
   went-by (NoMatch p) h w = absurd (false≢true w)
   went-by (OutOfRange p) h w = absurd (false≢true w)
 
 -- the other way: elements that all find what they want, with one number for each kind, are read through
 module _ (es s : List ℕ) (t : State) (l : length (t .facts .said) ≡ kinds)
-    (rest : (f : Facts) (p : ℕ) → length (f .said) ≡ kinds → allRead es s p ≡ true → OneEach f (factsFrom es s p)
+    (rest : (f : Facts) (p : ℕ) → length (f .said) ≡ kinds → p ≤ length s → allRead es s p ≡ true → OneEach f (factsFrom es s p)
         → Whole (readAll es s (at f p))) where
-  goes-by : (i : Item) → Small i → going (λ next. allRead es s next) i ≡ true
+  goes-by : (i : Item) → Sound s i → going (λ next. allRead es s next) i ≡ true
       → OneEach (t .facts) (saying (λ next. factsFrom es s next) i) → Whole (onward es s t i)
-  unfolding onward taken tell goes stays isRead going saying Says
-  goes-by (Skip next) h r c = rest (t .facts) next l r c
+  unfolding onward taken tell goes stays isRead going saying Says Finds
+  goes-by (Skip next) h r c = rest (t .facts) next l h r c
   goes-by (Reads k n from next) h r c =
       let f = t .facts in
-      let inside : k < length (f .said) = omega (arith, h k n from next refl) in
+      let inside : k < length (f .said) = omega (arith, h .0 .most) in
       let long : length (noted f k n .said) ≡ kinds = unfold noted in length-set (f .said) k (suc n) ∙ l in
       let free : (said f k ≡ 0) ⊎ (said f k ≡ suc n) = one (said f k) refl in
       let on : (j m : ℕ) → Kept (noted f k n) j m ⊎ Says (factsFrom es s next) j m
@@ -156,7 +153,7 @@ module _ (es s : List ℕ) (t : State) (l : length (t .facts .said) ≡ kinds)
           (λ y. ⊎-elim (λ z. inl z) (λ z. inr (inl z)) (kept-noted f k n inside free j m y))
           (λ y. inr (inr y))
           x in
-      rw (is-free (said f k) n free) (rest (noted f k n) next long r (λ j a b x y. c j a b (on j a x) (on j b y)))
+      rw (is-free (said f k) n free) (rest (noted f k n) next long (h .2) r (λ j a b x y. c j a b (on j a x) (on j b y)))
     where
       one : (x : ℕ) → said (t .facts) k ≡ x → (x ≡ 0) ⊎ (x ≡ suc n)
       one zero e = inl refl
@@ -170,18 +167,16 @@ module _ (es s : List ℕ) (t : State) (l : length (t .facts .said) ≡ kinds)
   goes-by (NoMatch p) h r c = absurd (false≢true r)
   goes-by (OutOfRange p) h r c = absurd (false≢true r)
 
-module _ (small : (e : ℕ) (s : List ℕ) (p : ℕ) → Small (readElement e s p)) where
-  pub went : (es s : List ℕ) (t : State) → length (t .facts .said) ≡ kinds → Whole (readAll es s t) → Went es s t
-  unfolding readAll stepOn onward allRead factsFrom stays Says
-  went [] s t l w =
-      record { reads = refl; keeps = λ k n. (λ x. inl x, λ x. ⊎-elim (λ y. y) (λ y. absurd y) x) }
-  went (e ∷ es) s t l w =
-      let r = went-by es s t l (λ f p. went es s (at f p)) (readElement e s (t .at)) (small e s (t .at)) w in
-      record { reads = r .reads; keeps = r .keeps }
+pub went : (es s : List ℕ) (t : State) → length (t .facts .said) ≡ kinds → t .at ≤ length s → Whole (readAll es s t) → Went es s t
+unfolding readAll stepOn onward allRead factsFrom stays Says
+went [] s t l h w = record { reads = refl; keeps = λ k n. (λ x. inl x, λ x. ⊎-elim (λ y. y) (λ y. absurd y) x) }
+went (e ∷ es) s t l h w =
+    let r = went-by es s t l (λ f p. went es s (at f p)) (readElement e s (t .at)) (sound s (t .at) h e) w in
+    record { reads = r .reads; keeps = r .keeps }
 
-  pub goes-through : (es s : List ℕ) (t : State) → length (t .facts .said) ≡ kinds → allRead es s (t .at) ≡ true
-      → OneEach (t .facts) (factsFrom es s (t .at)) → Whole (readAll es s t)
-  unfolding readAll stepOn onward allRead factsFrom stays isRead
-  goes-through [] s t l r c = refl
-  goes-through (e ∷ es) s t l r c =
-      goes-by es s t l (λ f p. goes-through es s (at f p)) (readElement e s (t .at)) (small e s (t .at)) r c
+pub goes-through : (es s : List ℕ) (t : State) → length (t .facts .said) ≡ kinds → t .at ≤ length s → allRead es s (t .at) ≡ true
+    → OneEach (t .facts) (factsFrom es s (t .at)) → Whole (readAll es s t)
+unfolding readAll stepOn onward allRead factsFrom stays isRead
+goes-through [] s t l h r c = refl
+goes-through (e ∷ es) s t l h r c =
+    goes-by es s t l (λ f p. goes-through es s (at f p)) (readElement e s (t .at)) (sound s (t .at) h e) r c

@@ -25,7 +25,7 @@ use Rattle.strptime.specs.declared.Reading.{Reading}
 use Rattle.strptime.specs.declared.State.{State}
 use Rattle.strptime.proofs.Walk.{Placed, Within, step-placed}
 
-all-within : (es s : List ℕ) (t : State) → t .at ≤ length s → Within s (readAll es s t)
+pub all-within : (es s : List ℕ) (t : State) → t .at ≤ length s → Within s (readAll es s t)
 unfolding readAll stays Placed
 all-within [] s t h = (h, tt)
 all-within (e ∷ es) s t h =
