@@ -1,1 +1,1 @@
-// Theorems about the writer and the reader together; no code.
+// The demands: theorems about the writer and the reader together, and the starred cases of paper 01; no code.
