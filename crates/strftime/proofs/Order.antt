@@ -24,6 +24,7 @@ use Rattle.strftime.specs.Writing.{forMoment, forFields, writing, elemen
 use Rattle.strftime.specs.declared.Fields.{Fields}
 use Rattle.strftime.specs.declared.Writing.{Writing}
 use Rattle.strftime.specs.declared.Written.the-variants.{Done, FormatTooLong, BadMoment, BadConversion, BufferTooSmall}
+use Rattle.strftime.proofs.Lengths.{counted-within}
 
 -- the answer is a, and the buffer is left as c
 abbrev pub Gives : Writing → List ℕ → Result → Type 0
@@ -98,11 +99,14 @@ module _ (t : Fields) {r : MomentFields} (e : r ≡ momentOf (t .year) (t .month
     bad-fields q = rw (with-fields (byElements es b) b q) (refl, refl)
 
     module _ {m : Moment} {good : ℕ} (q : r ≡ Valid m) (k : good ≡ elementsIn mostElements es) where
-      pub bad-entry : (good ≡ length es → ⊥) → Gives (writingOf (BadConversion good)) b (elementsWriting es t b)
+      pub bad-entry : good < length es → Gives (writingOf (BadConversion good)) b (elementsWriting es t b)
       unfolding elementsWriting forMoment byElements refused writingOf
-      bad-entry h = rw (with-fields (byElements es b) b q, ← k, ne-eqb good (length es) h) (refl, refl)
+      bad-entry h =
+          rw (with-fields (byElements es b) b q, ← k, ne-eqb good (length es) (λ (e : good ≡ length es). omega arith)) (refl, refl)
 
-      pub all-elements : {a : Writing} {c : List ℕ} → good ≡ length es → Gives a c (put (text m es) b)
+      pub all-elements : {a : Writing} {c : List ℕ} → length es ≤ good → Gives a c (put (text m es) b)
           → Gives a c (elementsWriting es t b)
       unfolding elementsWriting forMoment byElements
-      all-elements h g = rw (with-fields (byElements es b) b q, ← k, eq-eqb good (length es) h) g
+      all-elements h g =
+          rw
+          (with-fields (byElements es b) b q, ← k, eq-eqb good (length es) (omega (arith, k, counted-within mostElements es))) g
