@@ -90,14 +90,21 @@ unfolding text
 text-most m [] = omega arith
 text-most m (e ∷ es) = rw length-append (omega (arith, element-most m e, text-most m es))
 
--- ---- at most the most elements
+-- ---- entries that count as elements: no more than are looked at, nor than there are
 
-pub few-counted : (n : ℕ) (es : List ℕ) → elementsIn n es ≤ n
-few-counted n es =
-    elim (decLe (elementsIn n es) n) [
+at-most : (k n : ℕ) → (n < k → n < n) → k ≤ n
+at-most k n f =
+    elim (decLe k n) [
       | yes h ↦ h
-      | no h ↦ absurd (omega (arith, counted n es n (lt-of-not-le h) .0))
+      | no h ↦ absurd (omega (arith, f (lt-of-not-le h)))
     ]
+
+module _ (n : ℕ) (es : List ℕ) where
+  pub counted-few : elementsIn n es ≤ n
+  counted-few = at-most (elementsIn n es) n (λ h. counted n es n h .0)
+
+  pub counted-within : elementsIn n es ≤ length es
+  counted-within = at-most (elementsIn n es) (length es) (λ h. counted n es (length es) h .1)
 
 -- ---- the elements from a place on
 
