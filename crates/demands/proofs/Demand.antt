@@ -1,14 +1,14 @@
 -- Demand 3: how a matched text is answered, by all the facts that it says and by what the writer would write.
 -- Assumes nothing.
 use Prim.Native.Nat.{ℕ, zero, suc, _-_, _≤_}
-use mathlib.Core.Bool.{Bool, true, false, cond, _&&_, and-eq-true-iff}
+use mathlib.Core.Bool.{true, _&&_, and-eq-true-iff}
 use mathlib.Core.List.{List, [], _∷_, List·Memᴰ as Member, List·Memᴰ·head, List·Memᴰ·tail, List·Memᴰ·not-nil, List·Memᴰ·cases-cons}
 use mathlib.Core.Logic.{_⊎_, _↔_, inl, inr, ⊎-elim}
 use mathlib.Core.Path.{_≡_, refl, sym, ap, _∙_}
 use native.Mathlib.Decide.{ℕ-discrete}
 use native.Mathlib.Omega.{arith}
 use borrow.Author.Tests.{ne-eqb, leb-true}
-use lib.Dec.{eqb, leb}
+use lib.Dec.{leb}
 use Rattle.laws.proofs.Cases.{clash}
 use Rattle.kinds.specs.Kinds.{dayKinds, hourKinds, minute, second, computes}
 use Rattle.laws.specs.Lists.{every}
@@ -28,14 +28,10 @@ use Rattle.strptime.specs.declared.Day.{Day}
 use Rattle.strptime.specs.declared.Day.the-variants.{NoDate, On}
 use Rattle.strptime.specs.declared.Said.{Said}
 use Rattle.strptime.specs.declared.Said.the-variants.{Unsaid, Is}
-use Rattle.strptime.specs.declared.Shown.the-variants.{Days, Hours}
-use Rattle.strptime.specs.declared.State.{State}
 use Rattle.demands.specs.Facts.{Fact, Says, facts, Matched}
-use Rattle.demands.specs.Writes.{WouldWrite, onDay, atHour}
 use Rattle.demands.specs.Demand.{SomeSaid, NoneSaid, DayAgrees, HourAgrees, DayIs, HourIs, NumberIs, DayStands, Answered}
 use Rattle.demands.proofs.Matched.{read, matched-is, handed}
 use Rattle.demands.proofs.Verdicts.{Leaves, LeavesHour, day-none, day-two, then-none, then-two, then-done}
-use Rattle.demands.proofs.Walk.{Kept}
 use Rattle.demands.proofs.Written.{day-would, hour-would}
 
 -- ---- the same words over other facts and another agreement
@@ -161,7 +157,10 @@ module _ (f s : List ℕ) (m : Matched f s) where
   day-left (Agreed k) j NoDate = (λ e. clash (cc), λ z. clash (cc (j .unsaid .1 z)))
   day-left (Agreed k) j (On x) = (
     λ e. let r = j .agreed k .0 refl in (some-said dayKinds (r .0), (k, (cc), r .1)),
-    λ z. let q = j .agreed (z .1 .0) .1 (not-none dayKinds (z .0), z .1 .2) in let d : k ≡ z .1 .0 = cc in ap On (z .1 .1 ∙ ap dateOf (sym d)),
+    λ z.
+        let q = j .agreed (z .1 .0) .1 (not-none dayKinds (z .0), z .1 .2) in
+        let d : k ≡ z .1 .0 = cc in
+        ap On (z .1 .1 ∙ ap dateOf (sym d)),
   )
 
   hour-left : (w : Verdict) → Judged (NoneSaid f s hourKinds) IsHour (HourAgrees f s) w → (h : Said) → LeavesHour w h ↔ HourIs f s h

@@ -1,30 +1,27 @@
 -- A text is matched exactly if the answer's number is none of those before 9, and then the judge is handed exactly the facts that it says.
 -- Assumes nothing.
-use Prim.Native.Nat.{ℕ, zero, suc, _≤_, _<_}
-use mathlib.Core.Bool.{Bool, true, false, cond, false≢true, true≢false}
-use mathlib.Core.List.{List, [], _∷_}
-use mathlib.Core.Logic.{_⊎_, _↔_, inl, inr, ⊎-elim}
-use mathlib.Core.Path.{_≡_, refl, sym, ap, _∙_}
+use Prim.Native.Nat.{ℕ, zero, suc}
+use mathlib.Core.Bool.{Bool, true, false, false≢true, true≢false}
+use mathlib.Core.List.{List}
+use mathlib.Core.Logic.{_⊎_, _↔_, inr, ⊎-elim}
+use mathlib.Core.Path.{_≡_, refl, sym, _∙_}
 use native.Mathlib.Omega.{arith}
 use borrow.Author.Tests.{le-leb, leb-true}
 use lib.Dec.{leb}
 use lib.ListN.{length, getD, replicate}
-use Rattle.laws.proofs.Cases.{clash}
 use Rattle.format.specs.Conversions.{among}
 use Rattle.format.specs.Opening.{Ended, Whole, BadAt, opening, longest}
-use Rattle.judge.specs.Agreement.{said}
-use Rattle.judge.specs.Verdicts.{dayVerdict, hourVerdict}
 use Rattle.judge.specs.declared.Verdict.{Verdict}
 use Rattle.judge.specs.declared.Verdict.the-variants.{Unsaid, Impossible, Open, Agreed}
 use Rattle.strptime.specs.Answers.{showing, refused, finished, done, withHour, withDay, judged, concluded, readBy, byFormat, reading}
-use Rattle.strptime.specs.Reading.{unsaid, start, stays, isRead, readAll}
+use Rattle.strptime.specs.Reading.{unsaid, start, isRead, readAll}
 use Rattle.strptime.specs.declared.Day.{Day}
 use Rattle.strptime.specs.declared.Outcome.{Outcome}
 use Rattle.strptime.specs.declared.Outcome.the-variants.{Read, Mismatch, Range, Conflict}
 use Rattle.strptime.specs.declared.Reading.{Reading}
 use Rattle.strptime.specs.declared.State.{State}
 use Rattle.strptime.specs.declared.Stepped.{Stepped}
-use Rattle.demands.specs.Facts.{Says, facts, allRead, Consistent, Matched}
+use Rattle.demands.specs.Facts.{Says, facts, Consistent, Matched}
 use Rattle.demands.specs.Demand.{beforeNine}
 use Rattle.demands.proofs.Walk.{Kept, Went, went, goes-through}
 

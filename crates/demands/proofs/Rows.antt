@@ -1,14 +1,14 @@
 -- Demand 1: every answer is a row of the table.
 -- Assumes nothing.
-use Prim.Native.Nat.{ℕ, zero, suc, _≤_, _<_}
-use mathlib.Core.Bool.{Bool, true, false, cond, false≢true}
+use Prim.Native.Nat.{ℕ, zero, _≤_, _<_}
+use mathlib.Core.Bool.{true, false, false≢true}
 use mathlib.Core.List.{List, [], _∷_, _++_}
-use mathlib.Core.Path.{_≡_, refl, sym, ap, _∙_}
+use mathlib.Core.Path.{_≡_, refl, sym, _∙_}
 use native.Mathlib.Nat.{zero-add}
 use native.Mathlib.Omega.{arith}
 use borrow.Author.Tests.{leb-true, leb-false}
-use lib.Dec.{eqb, leb, lit≤}
-use lib.ListN.{length, drop, length-append}
+use lib.Dec.{eqb, leb}
+use lib.ListN.{length, drop}
 use lib.Seq.{sets, sets-eq, length-sets, drop-append-seam}
 use Rattle.laws.proofs.Cases.{either, picked}
 use Rattle.format.specs.Conversions.{among}
@@ -18,10 +18,8 @@ use Rattle.calendar.specs.Calendar.{within, lastYear, monthLength, dateFault}
 use Rattle.values.specs.Moments.{momentFault, momentOf}
 use Rattle.values.specs.declared.Moment.{Moment}
 use Rattle.values.specs.declared.MomentFields.{MomentFields}
-use Rattle.values.specs.declared.MomentFields.the-variants.{Valid, Bad}
-use Rattle.strftime.specs.Writing.{Result, numbered, text, refused, put, byFormat, forMoment, forFields, writing}
+use Rattle.strftime.specs.Writing.{numbered, text, refused, put, byFormat, forMoment, forFields, writing}
 use Rattle.strftime.specs.declared.Fields.{Fields}
-use Rattle.judge.specs.Verdicts.{dayVerdict, hourVerdict}
 use Rattle.judge.specs.declared.Verdict.{Verdict}
 use Rattle.judge.specs.declared.Verdict.the-variants.{Unsaid as NotSaid, Impossible, Open, Agreed}
 use Rattle.strptime.specs.Answers as reader
@@ -30,12 +28,10 @@ use Rattle.strptime.specs.Reading.{start, readAll}
 use Rattle.strptime.specs.declared.Day.{Day}
 use Rattle.strptime.specs.declared.Outcome.{Outcome}
 use Rattle.strptime.specs.declared.Outcome.the-variants.{Read as AllRead, Mismatch, Range, Conflict}
-use Rattle.strptime.specs.declared.Reading.{Reading}
 use Rattle.strptime.specs.declared.Said.{Said}
 use Rattle.strptime.specs.declared.Shown.{Shown}
-use Rattle.strptime.specs.declared.Shown.the-variants.{Nothing, Days, Hours}
+use Rattle.strptime.specs.declared.Shown.the-variants.{Nothing, Hours}
 use Rattle.strptime.specs.declared.State.{State}
-use Rattle.strptime.specs.declared.Stepped.{Stepped}
 use Rattle.strptime.proofs.Places.{all-within}
 use Rattle.strptime.proofs.Walk.{Placed}
 use Rattle.demands.specs.Rows.{OneOf, Written, Read}
@@ -221,9 +217,9 @@ module _ (f s : List ℕ) where
   unfolding reading reader.refused among
   reading-rows =
       let zero : (n : ℕ) → OneOf (0 ∷ 1 ∷ 3 ∷ 5 ∷ 6 ∷ 7 ∷ 8 ∷ 9 ∷ 10 ∷ []) n → (n ≡ 3 → ⊥) → among n (0 ∷ 6 ∷ 7 ∷ 8 ∷ []) ≡ false
-          → among n (9 ∷ 10 ∷ []) ≡ false → Read f s (showing n 0 Nothing) = λ n l three text nine.
-          shown-read n 0 Nothing l (λ z. refl) (λ z. refl) (λ z. absurd (three z)) (λ z. absurd (false≢true (sym text ∙ z)))
-          (λ z. absurd (false≢true (sym nine ∙ z))) in
+      → among n (9 ∷ 10 ∷ []) ≡ false → Read f s (showing n 0 Nothing) = λ n l three text nine.
+      shown-read n 0 Nothing l (λ z. refl) (λ z. refl) (λ z. absurd (three z)) (λ z. absurd (false≢true (sym text ∙ z)))
+      (λ z. absurd (false≢true (sym nine ∙ z))) in
       picked (Read f s) (leb (length f) longest)
       (picked (Read f s) (leb (length s) longest) format-read (zero 5 refl (λ z. omega (arith, z)) refl refl))
       (zero 1 refl (λ z. omega (arith, z)) refl refl)

@@ -24,5 +24,7 @@ use Rattle.demands.specs.Starred as cases
 use Rattle.demands.specs.Starred.{Case, starred}
 
 pub all-hold : map (λ (c : Case). c .0) starred ≡ map (λ (c : Case). c .1) starred
-unfolding cases.computes fold leading filled isDigit digitRun decimal goesOn firstName orElse readName isSpace spaces calendar.computes moments.computes values.computes names.computes naming.computes conversions.computes opening.computes writer.computes agreement.computes search.computes verdicts.computes elements.computes reading.computes answers.computes
+unfolding cases.computes fold leading filled isDigit digitRun decimal goesOn firstName orElse readName isSpace spaces
+    calendar.computes moments.computes values.computes names.computes naming.computes conversions.computes opening.computes
+    writer.computes agreement.computes search.computes verdicts.computes elements.computes reading.computes answers.computes
 all-hold = refl

@@ -1,8 +1,8 @@
 -- What an answer made of two verdicts tells of them: each number and place stands for one verdict on the day, or on the hour.
 -- Assumes nothing.
 use Prim.Native.Nat.{ℕ}
-use mathlib.Core.Logic.{_⊎_, _↔_, inl, inr, ⊎-elim}
-use mathlib.Core.Path.{_≡_, refl, sym, ap, _∙_}
+use mathlib.Core.Logic.{_↔_}
+use mathlib.Core.Path.{_≡_, refl, sym, _∙_}
 use native.Mathlib.Omega.{arith}
 use Rattle.laws.proofs.Cases.{clash}
 use Rattle.kinds.specs.Kinds as kinds
@@ -18,7 +18,7 @@ use Rattle.strptime.specs.declared.Reading.{Reading}
 use Rattle.strptime.specs.declared.Said.{Said}
 use Rattle.strptime.specs.declared.Said.the-variants.{Unsaid, Is}
 use Rattle.strptime.specs.declared.Shown.{Shown}
-use Rattle.strptime.specs.declared.Shown.the-variants.{Nothing, Days, Hours}
+use Rattle.strptime.specs.declared.Shown.the-variants.{Days, Hours}
 use Rattle.strptime.specs.declared.State.{State}
 
 -- the day that a verdict leaves, where it does not refuse
@@ -113,14 +113,18 @@ module _ (t : State) where
   then-none NotSaid w = (λ e. ((NoDate, refl), hour-none NoDate w .0 e), λ e. hour-none NoDate w .1 (e .1))
   then-none Impossible w = (λ e. absurd (omega (arith, e .1)), λ e. absurd (e .0 .1))
   then-none (Open a b) w = (λ e. absurd (omega (arith, e .0)), λ e. absurd (e .0 .1))
-  then-none (Agreed k) w = (λ e. ((On (dateOf k), refl), hour-none (On (dateOf k)) w .0 e), λ e. hour-none (On (dateOf k)) w .1 (e .1))
+  then-none (Agreed k) w =
+      let g = hour-none (On (dateOf k)) w in
+      (λ e. ((On (dateOf k), refl), g .0 e), λ e. g .1 (e .1))
 
   pub then-two : (v w : Verdict) (a b : ℕ) → Shows 2 (Hours a b) (withDay t v w) ↔ (((x : Day) × Leaves v x) × (w ≡ Open a b))
   unfolding withDay refused showing
   then-two NotSaid w a b = (λ e. ((NoDate, refl), hour-two NoDate w a b .0 e), λ e. hour-two NoDate w a b .1 (e .1))
   then-two Impossible w a b = (λ e. absurd (omega (arith, e .0)), λ e. absurd (e .0 .1))
   then-two (Open x y) w a b = (λ e. absurd (omega (arith, e .1)), λ e. absurd (e .0 .1))
-  then-two (Agreed k) w a b = (λ e. ((On (dateOf k), refl), hour-two (On (dateOf k)) w a b .0 e), λ e. hour-two (On (dateOf k)) w a b .1 (e .1))
+  then-two (Agreed k) w a b =
+      let g = hour-two (On (dateOf k)) w a b in
+      (λ e. ((On (dateOf k), refl), g .0 e), λ e. g .1 (e .1))
 
   pub then-done : (v w : Verdict) (x : Day) (h m c : Said)
       → Finishes x h m c (withDay t v w) ↔ (Leaves v x × LeavesHour w h × (minute ≡ m) × (second ≡ c))

@@ -10,15 +10,13 @@ use native.Mathlib.Decide.{ℕ-discrete}
 use native.Mathlib.Omega.{arith}
 use borrow.Author.Tests.{eq-eqb, ne-eqb, eqb-true}
 use lib.Dec.{eqb}
-use lib.ListN.{length, set, length-set}
+use lib.ListN.{length, length-set}
 use lib.Seq.{getD-set-same, getD-set-other}
 use Rattle.kinds.specs.Kinds.{kinds}
 use Rattle.judge.specs.Agreement.{said}
 use Rattle.judge.specs.declared.Facts.{Facts}
 use Rattle.strptime.specs.Elements.{readElement}
 use Rattle.strptime.specs.Reading.{goes, stays, noted, tell, taken, stepOn, isRead, readAll}
-use Rattle.strptime.specs.declared.Outcome.{Outcome}
-use Rattle.strptime.specs.declared.Outcome.the-variants.{Read, Mismatch, Range, Conflict}
 use Rattle.strptime.specs.declared.State.{State}
 use Rattle.strptime.specs.declared.Stepped.{Stepped}
 use Rattle.strptime.specs.declared.elements.Item.{Item}
@@ -99,7 +97,8 @@ free-of x n e = go (eqb x 0) refl e
 module _ (es s : List ℕ) (t : State) (l : length (t .facts .said) ≡ kinds)
     (rest : (f : Facts) (p : ℕ) → length (f .said) ≡ kinds → p ≤ length s → Whole (readAll es s (at f p)) → Went es s (at f p)) where
   -- a fact, by whether it is free to be kept
-  kept-by : (k n from next : ℕ) → k < kinds → next ≤ length s → (b : Bool) → (eqb (said (t .facts) k) 0 || eqb (said (t .facts) k) (suc n)) ≡ b
+  kept-by : (k n from next : ℕ) → k < kinds → next ≤ length s
+      → (b : Bool) → (eqb (said (t .facts) k) 0 || eqb (said (t .facts) k) (suc n)) ≡ b
       → Whole (onward es s t (Reads k n from next)) → WentBy es s t (Reads k n from next)
   unfolding onward taken tell goes stays isRead going saying Says
   kept-by k n from next h q true e w =
@@ -137,7 +136,7 @@ module _ (es s : List ℕ) (t : State) (l : length (t .facts .said) ≡ kinds)
 -- the other way: elements that all find what they want, with one number for each kind, are read through
 module _ (es s : List ℕ) (t : State) (l : length (t .facts .said) ≡ kinds)
     (rest : (f : Facts) (p : ℕ) → length (f .said) ≡ kinds → p ≤ length s → allRead es s p ≡ true → OneEach f (factsFrom es s p)
-        → Whole (readAll es s (at f p))) where
+    → Whole (readAll es s (at f p))) where
   goes-by : (i : Item) → Sound s i → going (λ next. allRead es s next) i ≡ true
       → OneEach (t .facts) (saying (λ next. factsFrom es s next) i) → Whole (onward es s t i)
   unfolding onward taken tell goes stays isRead going saying Says Finds
@@ -148,11 +147,11 @@ module _ (es s : List ℕ) (t : State) (l : length (t .facts .said) ≡ kinds)
       let long : length (noted f k n .said) ≡ kinds = unfold noted in length-set (f .said) k (suc n) ∙ l in
       let free : (said f k ≡ 0) ⊎ (said f k ≡ suc n) = one (said f k) refl in
       let on : (j m : ℕ) → Kept (noted f k n) j m ⊎ Says (factsFrom es s next) j m
-          → Kept f j m ⊎ (((k ≡ j) × (n ≡ m)) ⊎ Says (factsFrom es s next) j m) = λ j m x.
-          ⊎-elim
-          (λ y. ⊎-elim (λ z. inl z) (λ z. inr (inl z)) (kept-noted f k n inside free j m y))
-          (λ y. inr (inr y))
-          x in
+      → Kept f j m ⊎ (((k ≡ j) × (n ≡ m)) ⊎ Says (factsFrom es s next) j m) = λ j m x.
+      ⊎-elim
+      (λ y. ⊎-elim (λ z. inl z) (λ z. inr (inl z)) (kept-noted f k n inside free j m y))
+      (λ y. inr (inr y))
+      x in
       rw (is-free (said f k) n free) (rest (noted f k n) next long (h .2) r (λ j a b x y. c j a b (on j a x) (on j b y)))
     where
       one : (x : ℕ) → said (t .facts) k ≡ x → (x ≡ 0) ⊎ (x ≡ suc n)

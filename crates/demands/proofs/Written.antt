@@ -2,27 +2,25 @@
 -- Assumes nothing.
 use Prim.Native.Char.{code}
 use Prim.Native.Nat.{ℕ, zero, suc, _+_, _-_, _^_, _≤_, _<_}
-use mathlib.Core.Bool.{Bool, true, false, cond, _&&_, and-eq-true-iff}
-use mathlib.Core.List.{List, [], _∷_, _++_, map, append-nil}
+use mathlib.Core.Bool.{Bool, true, _&&_, and-eq-true-iff}
+use mathlib.Core.List.{List, [], _∷_, map, append-nil}
 use mathlib.Core.Logic.{_⊎_, _↔_, inl, inr, ⊎-elim}
 use mathlib.Core.Path.{_≡_, refl, sym, ap, _∙_}
 use native.Mathlib.Nat.{eq-or-lt-of-le}
 use native.Mathlib.Omega.{arith}
 use borrow.Author.Tests.{le-leb, lt-leb, le-ltb, ltb-true, leb-true}
-use lib.Dec.{eqb, leb, ltb, lit<, lit≤}
-use lib.ListN.{length, getD, take, drop, replicate}
+use lib.Dec.{leb, ltb, lit≤}
+use lib.ListN.{length, getD, replicate}
 use lib.Seq.{sets, sets-eq, take-append-seam}
 use Rattle.kinds.specs.Kinds.{halfOfDay}
-use Rattle.calendar.specs.Calendar.{dateFault, dateOf, days, computes}
+use Rattle.calendar.specs.Calendar.{dateOf, days, computes}
 use Rattle.calendar.proofs.Dates.{valid-no-fault, number-of-date}
-use Rattle.calendar.specs.declared.Date.{Date}
 use Rattle.format.specs.Conversions as conversions
 use Rattle.format.specs.Conversions.{conversionOf}
 use Rattle.format.specs.Opening as opening
-use Rattle.format.specs.Opening.{Opening, Whole, opening, longest, conversionAt, letterOf, isByte}
+use Rattle.format.specs.Opening.{Opening, Whole, opening, conversionAt, letterOf}
 use Rattle.format.specs.declared.conversions.Conversion.{Conversion}
-use Rattle.format.specs.declared.conversions.Form.{Form}
-use Rattle.format.specs.declared.conversions.Form.the-variants.{Zeros, Full}
+use Rattle.format.specs.declared.conversions.Form.the-variants.{Zeros}
 use Rattle.text.specs.declared.names.Names.the-variants.{Halves}
 use Rattle.laws.specs.Lists.{range}
 use Rattle.laws.proofs.Cases.{clash}
@@ -36,10 +34,10 @@ use Rattle.values.specs.Moments.{momentOf, momentFault}
 use Rattle.values.specs.Values.{value, dateValue, hourValue}
 use Rattle.values.specs.declared.Moment.{Moment}
 use Rattle.values.specs.declared.MomentFields.the-variants.{Valid}
-use Rattle.values.proofs.Ranges.{lowest, highest, Ranged, date-ranged, hour-ranged}
+use Rattle.values.proofs.Ranges.{highest, date-ranged, hour-ranged}
 use Rattle.strftime.specs.Writing.{numbered, formed, converted, element, text, put, byFormat, forMoment, forFields, writing}
 use Rattle.strftime.specs.declared.Fields.{Fields}
-use Rattle.demands.specs.Writes.{letters, letterFor, wrote, written, IsNumber, IsHalf, WouldWrite, onDay, atHour, halves}
+use Rattle.demands.specs.Writes.{letters, letterFor, wrote, written, WouldWrite, onDay, atHour, halves}
 
 -- ---- one conversion, written
 
@@ -114,14 +112,18 @@ forms k p q =
     zeros = unfold conversions.computes letterFor letters range in refl
 
 -- the highest value of a kind fits the width of its conversion
+roomy : ℕ → Bool
+roomy k = ltb (getD highest k 0) (10 ^ (rowFor k .width)) && leb (rowFor k .width) 9
+
 fits : (k : ℕ) → 1 ≤ k → k ≤ 14 → (getD highest k 0 < 10 ^ (rowFor k .width)) × (rowFor k .width ≤ 9)
+unfolding roomy
 fits k p q =
     let t = and-eq-true-iff (ltb (getD highest k 0) (10 ^ (rowFor k .width))) (leb (rowFor k .width) 9) .0
-        (same-at (λ j. ltb (getD highest j 0) (10 ^ (rowFor j .width)) && leb (rowFor j .width) 9) (λ j. true) 14 1 computed k p (omega arith)) in
+    (same-at roomy (λ j. true) 14 1 computed k p (omega arith)) in
     (ltb-true _ _ (t .0), leb-true _ _ (t .1))
   where
-    computed : map (λ j. ltb (getD highest j 0) (10 ^ (rowFor j .width)) && leb (rowFor j .width) 9) (range 1 14) ≡ map (λ j. true) (range 1 14)
-    computed = unfold conversions.computes letterFor letters range highest in refl
+    computed : map roomy (range 1 14) ≡ map (λ j. true) (range 1 14)
+    computed = unfold roomy conversions.computes letterFor letters range highest in refl
 
 -- ---- kinds 1 to 14
 

@@ -1,5 +1,5 @@
--- Demand 3 in the paper's numbers: the day, then the hour, judged by all facts that bear on it: unsaid, impossible, open with the two earliest
--- shown, or the one that agrees. Days go by their day numbers.
+-- Demand 3 in the paper's numbers: the day, then the hour, judged by all facts that bear on it: unsaid, impossible, open with the two
+-- earliest shown, or the one that agrees. Days go by their day numbers.
 use Prim.Native.Nat.{ℕ}
 use mathlib.Core.List.{List, [], _∷_, List·Memᴰ as Member}
 use mathlib.Core.Logic.{_↔_}

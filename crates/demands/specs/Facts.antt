@@ -55,10 +55,12 @@ allRead (e ∷ es) s at = going (λ next. allRead es s next) (readElement e s at
 abbrev pub Consistent : List Fact → Type 0
 Consistent xs = (k m n : ℕ) → Says xs k m → Says xs k n → m ≡ n
 
--- "A text is matched to its format exactly if these rules call for none of the numbers that the reader's order puts before 9": 1, 5, 3, 6, 7, 8
+-- "A text is matched to its format exactly if these rules call for none of the numbers that the reader's order puts before 9"
 pub record Matched (f s : List ℕ) : Type 0 where
+  -- not 1, not 5, not 3
   pub format-short : length f ≤ longest
   pub text-short : length s ≤ longest
   pub format-whole : opening f .ended ≡ Whole
+  -- not 6 or 7, not 8
   pub all-read : allRead (opening f .elements) s 0 ≡ true
   pub consistent : Consistent (facts f s)

@@ -1,5 +1,5 @@
--- "The writer would write a fact for a day or an hour exactly if the conversion of its kind has that number, or that half, for it by the rules
--- under 'What is written'; filling and case do not count." What is written is what the writer leaves in a buffer.
+-- "The writer would write a fact for a day or an hour exactly if the conversion of its kind has that number, or that half, for it by the
+-- rules under 'What is written'; filling and case do not count." What is written is what the writer leaves in a buffer.
 use Prim.Native.Char.{code}
 use Prim.Native.Nat.{ℕ, _-_}
 use mathlib.Core.Bool.{true}
