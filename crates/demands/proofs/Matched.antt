@@ -21,7 +21,7 @@ use Rattle.strptime.specs.declared.Outcome.the-variants.{Read, Mismatch, Range,
 use Rattle.strptime.specs.declared.Reading.{Reading}
 use Rattle.strptime.specs.declared.State.{State}
 use Rattle.strptime.specs.declared.Stepped.{Stepped}
-use Rattle.demands.specs.Facts.{Says, facts, Consistent, Matched}
+use Rattle.demands.specs.Facts.{Says, facts, endFrom, Consistent, Matched}
 use Rattle.demands.specs.Demand.{beforeNine}
 use Rattle.demands.proofs.Walk.{Kept, Went, went, goes-through}
 
@@ -133,3 +133,8 @@ module _ (f s : List ℕ) where
   -- what the judge is handed: a kind has a number exactly if that fact is among those that the text says
   pub handed : Matched f s → (k n : ℕ) → Kept (read f s .state .facts) k n ↔ Says (facts f s) k n
   handed m = kept-said (matched-read m)
+
+  -- and where the elements end
+  pub ends-at : Matched f s → read f s .state .at ≡ endFrom (opening f .elements) s 0
+  unfolding start
+  ends-at m = read-went (matched-read m) .ends
