@@ -13,7 +13,8 @@ use Rattle.format.specs.Conversions.{among}
 use Rattle.format.specs.Opening.{Ended, Whole, BadAt, opening, longest}
 use Rattle.judge.specs.declared.Verdict.{Verdict}
 use Rattle.judge.specs.declared.Verdict.the-variants.{Unsaid, Impossible, Open, Agreed}
-use Rattle.strptime.specs.Answers.{showing, refused, finished, done, withHour, withDay, judged, concluded, readBy, byFormat, unlessLong, reading}
+use Rattle.strptime.specs.Answers.{showing, refused, finished, done, withHour, withDay}
+use Rattle.strptime.specs.Answers.{judged, concluded, readBy, byFormat, unlessLong, reading}
 use Rattle.strptime.specs.Reading.{unsaid, start, isRead, readAll}
 use Rattle.strptime.specs.declared.Day.{Day}
 use Rattle.strptime.specs.declared.Outcome.{Outcome}
