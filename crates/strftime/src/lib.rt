@@ -104,7 +104,7 @@ pub fn strftime(format: &[u8], fields: Fields, out: &mut [u8]) -> Written
     }
 }
 
-// Writes a moment by the elements of a format that was opened before.
+// Writes a moment by the elements of a format that was opened before, whose entries are looked at first.
 pub fn write_elements(elements: &[u32], fields: Fields, out: &mut [u8]) -> Written
     ensures { λ r. ⌜ writingOf r ≡ elementsWriting (now (elements .entry)) fields (now (out .entry)) .answer ⌝ }
     ensures { λ _. ⌜ now (out .exit) ≡ elementsWriting (now (elements .entry)) fields (now (out .entry)) .buffer ⌝ }
@@ -121,6 +121,7 @@ pub fn write_elements(elements: &[u32], fields: Fields, out: &mut [u8]) -> Writt
     }
 }
 
+// The moment with these fields, or the first bad one.
 fn moment_of(t: Fields) -> MomentFields
     ensures { λ r. ⌜ r ≡ momentOf (t .year) (t .month) (t .day) (t .hour) (t .minute) (t .second) ⌝ }
 {
@@ -153,7 +154,6 @@ fn write_opened(elements: &[u32], moment: Moment, out: &mut [u8]) -> Written
             return Written::BufferTooSmall { needed };
         }
     }
-    Written::Done {
-        count: put_elements(out, elements, moment),
-    }
+    let n = put_elements(out, elements, moment);
+    Written::Done { count: n }
 }
