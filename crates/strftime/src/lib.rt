@@ -41,7 +41,7 @@ pub enum Written {
     BufferTooSmall { needed: usize },
 }
 
-// The same in the paper's numbers.
+// The paper's number and place for an answer.
 pub struct Writing {
     pub number: u32,
     pub place: usize,
@@ -84,6 +84,7 @@ pub fn strftime(format: &[u8], fields: Fields, out: &mut [u8]) -> Written
 {
     match moment_of(fields) {
         MomentFields::Bad(field) => {
+            // 1 is judged before 2.
             if LONGEST < format.len() {
                 return Written::FormatTooLong;
             }
