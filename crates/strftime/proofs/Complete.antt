@@ -3,10 +3,10 @@
 use Prim.Native.Nat.{ℕ, _≤_}
 use mathlib.Core.Bool.{true}
 use mathlib.Core.List.{List, _++_}
-use mathlib.Core.Path.{_≡_, refl}
+use mathlib.Core.Path.{_≡_, refl, ap, _∙_}
 use borrow.Author.Tests.{le-leb, eq-eqb}
 use lib.ListN.{length, drop}
-use lib.Seq.{take-all}
+use lib.Seq.{sets, take-all}
 use Rattle.laws.specs.Lists.{every}
 use Rattle.laws.proofs.Stores.{sets-start}
 use Rattle.format.specs.Opening.{opening, longest, mostElements, elementsIn, isByte}
@@ -16,7 +16,7 @@ use Rattle.values.specs.Moments.{momentOf}
 use Rattle.values.specs.declared.Moment.{Moment}
 use Rattle.values.specs.declared.MomentFields.{MomentFields}
 use Rattle.values.specs.declared.MomentFields.the-variants.{Valid, Bad}
-use Rattle.strftime.specs.Writing.{text, numbered, put, byFormat, byElements, forMoment, forFields, writing, elementsWriting}
+use Rattle.strftime.specs.Writing.{Result, text, numbered, put, byFormat, byElements, forMoment, forFields, writing, elementsWriting}
 use Rattle.strftime.specs.declared.Fields.{Fields}
 
 -- a format that opens whole, and fields that are a moment
@@ -30,15 +30,17 @@ module _ (f : List ℕ) (t : Fields) (b : List ℕ) {m : Moment} (short : length
   unfolding writing forFields forMoment byFormat
   puts-text = rw (le-leb (length f) longest short, valid, whole)
 
-  -- where there is room: 0, the bytes written, and the rest of the buffer as it came
+  -- where there is room: 0, the bytes written, and every other byte of the buffer as it came
   module _ (room : length written ≤ length b) where
-    pub done : writing f t b .answer ≡ numbered 0 (length written)
+    pub done : writing f t b ≡ record { answer = numbered 0 (length written); buffer = sets b 0 written }
     unfolding put
     done = rw (puts-text, le-leb (length written) (length b) room)
 
+    pub answers : writing f t b .answer ≡ numbered 0 (length written)
+    answers = ap (λ (w : Result). w .answer) done
+
     pub holds : writing f t b .buffer ≡ written ++ drop (length written) b
-    unfolding put
-    holds = rw (puts-text, le-leb (length written) (length b) room, sets-start b written, take-all (length b) written room)
+    holds = ap (λ (w : Result). w .buffer) done ∙ rw (sets-start b written, take-all (length b) written room)
 
 -- ---- elements opened before
 

@@ -9,7 +9,6 @@ use borrow.Author.Tests.{le-leb, lt-leb, eq-eqb, ne-eqb}
 use lib.ListN.{length, take, length-take}
 use Rattle.laws.specs.Stores.{Puts}
 use Rattle.format.specs.Opening.{opening, opened, openedInto, longest, mostElements, elementsIn}
-use Rattle.format.specs.Opening.Ended.{Whole}
 use Rattle.format.specs.declared.opening.Opened.{Opened}
 use Rattle.format.specs.declared.opening.Opened.the-variants.{Done as Opened-to}
 use Rattle.format.proofs.Bound.{bound}

@@ -11,7 +11,7 @@ use Rattle.text.specs.Digits.{filled}
 use Rattle.text.specs.Names.{short}
 use Rattle.text.specs.Naming.{nameFor}
 use Rattle.format.specs.Conversions.{conversionOf}
-use Rattle.format.specs.Opening.{Opening, Ended, Whole, BadAt, opening, longest, isByte, letterOf, mostElements, elementsIn}
+use Rattle.format.specs.Opening.{Ended, Whole, BadAt, opening, longest, isByte, letterOf, mostElements, elementsIn}
 use Rattle.format.specs.declared.conversions.Conversion.{Conversion}
 use Rattle.format.specs.declared.conversions.Form.{Form}
 use Rattle.format.specs.declared.conversions.Form.the-variants.{Zeros, Blanks, FromSunday, Short, Full, Lower, Unknown}

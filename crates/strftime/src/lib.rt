@@ -41,7 +41,7 @@ pub enum Written {
     BufferTooSmall { needed: usize },
 }
 
-// The same in the paper's numbers.
+// The paper's number and place for an answer.
 pub struct Writing {
     pub number: u32,
     pub place: usize,
@@ -84,6 +84,7 @@ pub fn strftime(format: &[u8], fields: Fields, out: &mut [u8]) -> Written
 {
     match moment_of(fields) {
         MomentFields::Bad(field) => {
+            // 1 is judged before 2.
             if LONGEST < format.len() {
                 return Written::FormatTooLong;
             }
@@ -104,7 +105,7 @@ pub fn strftime(format: &[u8], fields: Fields, out: &mut [u8]) -> Written
     }
 }
 
-// Writes a moment by the elements of a format that was opened before.
+// Writes a moment by the elements of a format that was opened before, whose entries are looked at first.
 pub fn write_elements(elements: &[u32], fields: Fields, out: &mut [u8]) -> Written
     ensures { λ r. ⌜ writingOf r ≡ elementsWriting (now (elements .entry)) fields (now (out .entry)) .answer ⌝ }
     ensures { λ _. ⌜ now (out .exit) ≡ elementsWriting (now (elements .entry)) fields (now (out .entry)) .buffer ⌝ }
@@ -121,6 +122,7 @@ pub fn write_elements(elements: &[u32], fields: Fields, out: &mut [u8]) -> Writt
     }
 }
 
+// The moment with these fields, or the first bad one.
 fn moment_of(t: Fields) -> MomentFields
     ensures { λ r. ⌜ r ≡ momentOf (t .year) (t .month) (t .day) (t .hour) (t .minute) (t .second) ⌝ }
 {
@@ -153,7 +155,6 @@ fn write_opened(elements: &[u32], moment: Moment, out: &mut [u8]) -> Written
             return Written::BufferTooSmall { needed };
         }
     }
-    Written::Done {
-        count: put_elements(out, elements, moment),
-    }
+    let n = put_elements(out, elements, moment);
+    Written::Done { count: n }
 }

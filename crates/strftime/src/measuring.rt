@@ -7,7 +7,7 @@ use text::name_length;
 use text::place_for;
 use values::Moment;
 ghost use mathlib.Core.Path.{_≡_};
-ghost use Prim.Native.Nat.{min, _≤_};
+ghost use Prim.Native.Nat.{_≤_};
 ghost use lib.ListN.{length};
 ghost use Rattle.text.specs.Names.{short};
 ghost use Rattle.text.specs.Naming.{nameFor};
@@ -59,14 +59,13 @@ fn full_length(t: Names, value: u32) -> usize
     name_length(t, place_for(t, value))
 }
 
-fn at_most_three(n: usize) -> usize
-    ensures { λ r. ⌜ r ≡ min 3 n ⌝ }
-{
-    if 3 < n { 3 } else { n }
-}
-
+// The short form has three letters, or as many as the name.
 pub(crate) fn short_length(t: Names, value: u32) -> usize
     ensures { λ r. ⌜ r ≡ length (short (nameFor t value)) ⌝ }
 {
-    at_most_three(full_length(t, value))
+    let n = full_length(t, value);
+    if 3 < n {
+        return 3;
+    }
+    n
 }

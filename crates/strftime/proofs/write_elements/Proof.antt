@@ -22,7 +22,9 @@ elements-in-requires c κs = search needs
 returns : tie.Need-returns
 returns c =
     let m = c .before .before .before in
-    bad-entry _ (m .before .before .moment-of .ensures) _ _ (m .moment .given .1) (c .before .elements-in .ensures) (omega arith)
+    let a = m .before .before .before .before .before .args in
+    bad-entry (a .fields) (m .before .before .moment-of .ensures) (a .elements .now) (a .out .now) (m .moment .given .1)
+    (c .before .elements-in .ensures) (omega arith)
 
 write-opened-requires : tie.Need-write-opened-requires
 write-opened-requires c κs =

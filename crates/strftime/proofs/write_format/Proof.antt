@@ -64,7 +64,9 @@ same-length-4 c = search needs
 returns-3 : tie.Need-returns-3
 returns-3 c =
     let o = c .before .before .before .before .before in
-    bad-format _ _ _ (opened-bad _ (o .«open» .ensures .0) (c .before .at .given .1))
+    let a = o .before .before .before .before .before .args in
+    bad-format (a .format .now) (a .moment) (a .out .now)
+    (opened-bad (a .format .now) (o .«open» .ensures .0) (c .before .at .given .1))
 
 pub write-format-spec : {M : Type 1} → statement M
 write-format-spec =

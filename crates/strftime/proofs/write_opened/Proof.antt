@@ -28,7 +28,9 @@ measure-requires : tie.Need-measure-requires
 measure-requires c κs = search needs
 
 returns : tie.Need-returns
-returns c = too-small _ _ (c .before .measure .ensures) (omega arith)
+returns c =
+    let a = c .before .before .before .before .before .args in
+    too-small (text (a .moment) (a .elements .now)) (a .out .now) (c .before .measure .ensures) (omega arith)
 
 put-elements-requires : tie.Need-put-elements-requires
 put-elements-requires c κs = room (c .before)
