@@ -166,7 +166,7 @@ module _ (s : List ℕ) (at : ℕ) (h : at ≤ length s) where
     where
       go : (t : List ℕ) → length t ≡ length s - at → Sound s (ordinary b t at)
       go [] e = h
-      go (c ∷ t) e = picked (Sound s) (eqb c b) (omega arith) h
+      go (c ∷ t) e = picked (Sound s) (eqb c b) (omega arith) (omega arith)
 
   module _ (P : ℕ → ℕ → Type 0) (c : Conversion) (p : (v : ℕ) → c .low ≤ v → v ≤ c .high → P (c .kind) v) where
     finds-ranged : (ds : List ℕ) (from : ℕ) → from + length ds ≤ length s → Finds P s (ranged c ds from)
