@@ -1,6 +1,10 @@
+-- Laws of the reader. `Places`, `Sound`, `Told` and `Walk` are for the crates above: the places that are answered, what an element
+-- says and where, the range of each kind, and how the elements are read one after the other.
 pub mod Days
-pub mod Sound
-pub mod Ways
-pub mod Walk
+pub mod Lengths
 pub mod Opens
 pub mod Places
+pub mod Sound
+pub mod Told
+pub mod Walk
+pub mod Ways

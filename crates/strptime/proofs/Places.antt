@@ -12,7 +12,6 @@ use Rattle.laws.proofs.Cases.{either, picked}
 use Rattle.format.specs.Opening.{Ended, opening, longest, mostElements, isElement, elementsIn}
 use Rattle.format.specs.Opening.Ended.{Whole, BadAt}
 use Rattle.format.proofs.Refused.{bad-within}
-use Rattle.judge.specs.Verdicts.{dayVerdict, hourVerdict}
 use Rattle.judge.specs.declared.Verdict.{Verdict}
 use Rattle.judge.specs.declared.Verdict.the-variants.{Unsaid, Impossible, Open, Agreed}
 use Rattle.strptime.specs.Answers.{showing, refused, finished, done, withHour, withDay, judged, concluded}
@@ -50,7 +49,7 @@ module _ (t : State) (h : t .at ≤ longest) where
 module _ (s : List ℕ) (short : length s ≤ longest) where
   concluded-place : (t : State) (o : Outcome) → t .at ≤ length s → Placed s o → concluded t o .place ≤ longest
   unfolding concluded judged showing refused Placed
-  concluded-place t Read h p = day-place t (omega arith) (dayVerdict (t .facts)) (hourVerdict (t .facts))
+  concluded-place t Read h p = day-place t (omega arith) _ _
   concluded-place t (Mismatch q) h p = omega arith
   concluded-place t (Range q) h p = omega arith
   concluded-place t (Conflict q) h p = omega arith

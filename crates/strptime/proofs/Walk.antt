@@ -5,6 +5,7 @@ use mathlib.Core.Bool.{Bool, true, false, cond, not, _||_}
 use mathlib.Core.List.{List, [], _∷_}
 use mathlib.Core.Path.{_≡_, refl, sym, _∙_}
 use native.Mathlib.Numerals.{add-one}
+use native.Mathlib.Omega.{arith}
 use borrow.Author.Tests.{not-true, not-false}
 use denote.Enum.Declared.{tagOf}
 use lib.Dec.{eqb}
@@ -42,7 +43,7 @@ taken-within : (s : List ℕ) (t : State) → t .at ≤ length s → (i : Item) 
 unfolding taken goes stays tell Finds Placed
 taken-within s t h (Skip n) p = (p, tt)
 taken-within s t h (Fact k n from next) p =
-    picked (Within s) (consistent t k n) (p .2, tt) (h, p .1)
+    picked (Within s) (consistent t k n) (p .2, tt) (h, omega (arith, p .1, p .2))
 taken-within s t h (NoMatch q) p = (h, p)
 taken-within s t h (OutOfRange q) p = (h, p)
 

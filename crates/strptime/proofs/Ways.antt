@@ -23,7 +23,7 @@ use Rattle.text.specs.declared.digits.Digits.{Digits}
 use Rattle.text.specs.declared.names.NameRead.{NameRead}
 use Rattle.text.specs.declared.names.NameRead.the-variants.{Found, Nothing}
 use Rattle.text.specs.declared.names.Names.{Names}
-use Rattle.strptime.proofs.Sound.{spaces-most, run-most}
+use Rattle.strptime.proofs.Lengths.{spaces-most, run-most}
 
 -- ---- a byte of the format
 module _ (b : ℕ) (s : List ℕ) (at : ℕ) {t : Bool} (e : t ≡ isSpace b) where

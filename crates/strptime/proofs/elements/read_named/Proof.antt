@@ -4,7 +4,7 @@ use mathlib.Core.Path.{sym, _∙_}
 use native.Mathlib.Omega.{arith}
 use lib.ListN.{length-drop}
 use denote.Ref.{now}
-use Rattle.strptime.proofs.Sound.{few-names, name-named}
+use Rattle.strptime.proofs.Lengths.{few-names, name-named}
 use Rattle.strptime.proofs.Ways.{name-found, name-none}
 use Rattle.strptime.proofs.elements.read_named.Statement.{statement}
 use Rattle.strptime.proofs.elements.read_named.Tie as tie

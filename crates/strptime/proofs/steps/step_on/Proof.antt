@@ -2,7 +2,8 @@
 use native.Mathlib.Omega.{arith}
 use borrow.Author.Needs.{needs}
 use denote.Ref.{now}
-use Rattle.strptime.proofs.Sound.{Told, told-small, fact-told}
+use Rattle.strptime.proofs.Sound.{fact-told}
+use Rattle.strptime.proofs.Told.{Told, told-small}
 use Rattle.strptime.proofs.Walk.{on-skip, on-mismatch, on-range, on-conflict, on-fact}
 use Rattle.strptime.proofs.steps.step_on.Statement.{statement}
 use Rattle.strptime.proofs.steps.step_on.Tie as tie
