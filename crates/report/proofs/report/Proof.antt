@@ -1,56 +1,64 @@
--- `report::report` meets its contract.
-use mathlib.Core.Path.{sym}
-use native.Mathlib.Omega.{arith}
 use borrow.Author.Needs.{needs}
-use denote.Ref.{now}
-use lib.Seq.{length-take-le}
-use Rattle.laws.specs.Bytes.{bytes}
-use Rattle.report.proofs.Splitting.{within}
-use Rattle.report.proofs.Whole.{too-long, whole}
 use Rattle.report.proofs.report.Statement.{statement}
 use Rattle.report.proofs.report.Tie as tie
+use Rattle.report.proofs.report.Reads as reads
+use Rattle.report.proofs.report.Lts as lts
+use Rattle.format.proofs.open.Reads as open-reads
+use Rattle.report.proofs.line.put_bytes.Reads as put-bytes-reads
+use Rattle.report.proofs.lines.line_end.Reads as line-end-reads
+use Rattle.report.proofs.put_lines.Reads as put-lines-reads
 
+-- src/lib.rt:57:34
 slice-aggregate-put-bytes : tie.Need-slice-aggregate-put-bytes
 slice-aggregate-put-bytes c = search needs
 
+-- src/lib.rt:57:9
 put-bytes-requires : tie.Need-put-bytes-requires
 put-bytes-requires c κs = search needs
 
+-- src/lib.rt:57:9
 returns : tie.Need-returns
-unfolding bytes
-returns c = too-long (now (c .before .before .before .before .before .args .input)) (omega arith) (c .put-bytes .ensures) (omega arith)
+returns c = ?
 
+-- src/lib.rt:59:35
 slice-aggregate-put-bytes-2 : tie.Need-slice-aggregate-put-bytes-2
 slice-aggregate-put-bytes-2 c = search needs
 
+-- src/lib.rt:59:9
 put-bytes-requires-2 : tie.Need-put-bytes-requires-2
 put-bytes-requires-2 c κs = search needs
 
+-- src/lib.rt:60:9
 line-end-requires : tie.Need-line-end-requires
 line-end-requires c κs = search needs
 
-slice-aggregate-open-format : tie.Need-slice-aggregate-open-format
-slice-aggregate-open-format c = sym (length-take-le _ _ (within (now (c .before .before .before .before .before .before .before .args .input)) 0 (omega arith) (c .before .line-end .ensures) .1))
+-- src/lib.rt:62:23
+slice-aggregate-open : tie.Need-slice-aggregate-open
+slice-aggregate-open c = ?
 
-slice-aggregate-open-format-2 : tie.Need-slice-aggregate-open-format-2
-slice-aggregate-open-format-2 c = search needs
+-- src/lib.rt:62:38
+slice-aggregate-open-2 : tie.Need-slice-aggregate-open-2
+slice-aggregate-open-2 c = search needs
 
-open-format-requires : tie.Need-open-format-requires
-open-format-requires c κs = search needs
+-- src/lib.rt:62:9
+open-requires : tie.Need-open-requires
+open-requires c κs = search needs
 
+-- src/lib.rt:63:23
 slice-aggregate-put-lines : tie.Need-slice-aggregate-put-lines
 slice-aggregate-put-lines c = search needs
 
+-- src/lib.rt:63:41
 add-put-lines : tie.Need-add-put-lines
-add-put-lines c = omega (arith, within (now (c .before .before .before .before .before .before .before .before .before .before .before .args .input)) 0 (omega arith) (c .before .before .before .before .before .line-end .ensures) .1)
+add-put-lines c = ?
 
+-- src/lib.rt:63:5
 put-lines-requires : tie.Need-put-lines-requires
-put-lines-requires c κs = search needs
+put-lines-requires c κs = ?
 
+-- src/lib.rt:53:1
 returns-2 : tie.Need-returns-2
-unfolding bytes
-returns-2 c =
-    whole (now (c .before .before .before .before .before .before .before .before .before .before .before .before .before .args .input)) (omega arith) (c .before .before .before .before .before .before .before .line-end .ensures) (c .before .before .before .before .open-format .ensures .1) (c .before .before .before .before .before .before .before .before .put-bytes2 .ensures) (c .put-lines .ensures .0) (c .put-lines .ensures .1)
+returns-2 c = ?
 
 pub report-spec : {M : Type 1} → statement M
 report-spec =
@@ -62,9 +70,9 @@ report-spec =
     slice-aggregate-put-bytes-2
     put-bytes-requires-2
     line-end-requires
-    slice-aggregate-open-format
-    slice-aggregate-open-format-2
-    open-format-requires
+    slice-aggregate-open
+    slice-aggregate-open-2
+    open-requires
     slice-aggregate-put-lines
     add-put-lines
     put-lines-requires
