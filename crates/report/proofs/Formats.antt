@@ -1,18 +1,19 @@
 -- A format that was opened once answers each text as the reader does, over plain variables.
 -- Assumes nothing.
-use Prim.Native.Nat.{ℕ, _≤_}
+use Prim.Native.Nat.{ℕ, _≤_, _<_}
 use mathlib.Core.Bool.{true, cond}
 use mathlib.Core.List.{List}
 use mathlib.Core.Path.{_≡_, refl}
 use native.Mathlib.Omega.{arith}
 use borrow.Author.Tests.{le-leb, lt-leb, eq-eqb}
 use lib.Dec.{leb}
-use lib.ListN.{length}
+use lib.ListN.{length, getD, take, length-take}
+use lib.Seq.{getD-take}
 use Rattle.laws.specs.Lists.{every}
 use Rattle.format.specs.Opening.{Whole, BadAt, longest, mostElements, isByte, opening, opened, openedInto}
 use Rattle.format.specs.declared.opening.Opened.{Opened}
 use Rattle.format.specs.declared.opening.Opened.the-variants.{Done, TooLong, Bad}
-use Rattle.format.proofs.Elements.{all-elements}
+use Rattle.format.proofs.Elements.{all-elements, are-bytes}
 use Rattle.format.proofs.Opened.{opened-done, opened-bad, opened-long, stored}
 use Rattle.report.specs.Private.{readingBy, Usable}
 use Rattle.strptime.specs.Answers.{refused, readBy, byFormat, byElements, reading, elementsReading}
@@ -33,6 +34,11 @@ module _ (f s : List ℕ) (short : length f ≤ longest) where
   whole-read b e =
       let es = opening f .elements in
       rw (in-order, e, all-elements f short b, eq-eqb (length es) (length es) refl)
+
+-- the first bytes of a slice
+pub first-bytes : (s : List ℕ) (n : ℕ) → ((k : ℕ) → getD s k 0 < 256) → every isByte (take n s) ≡ true
+first-bytes s n f =
+    are-bytes (take n s) (λ k h. let l : k < n = omega (arith, length-take n s) in rw (getD-take n s k 0 l) (f k))
 
 -- ---- the format f is answered by r and the elements es
 abbrev pub Answers : List ℕ → Opened → List ℕ → Type 0

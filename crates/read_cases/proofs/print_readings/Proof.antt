@@ -1,11 +1,11 @@
--- `read_cases::print_answers` is safe and ends: lines end within the input, and each turn begins after the lines of the one before.
+-- `read_cases::print_readings` is safe and ends: lines end within the input, and each turn begins after the lines of the one before.
 use Prim.Native.Nat.{_-_}
 use native.Mathlib.Omega.{arith}
 use denote.Ref.{now}
 use lib.ListN.{length}
 use Rattle.report.proofs.Splitting.{within}
-use Rattle.read_cases.proofs.print_answers.Statement.{statement}
-use Rattle.read_cases.proofs.print_answers.Tie as tie
+use Rattle.read_cases.proofs.print_readings.Statement.{statement}
+use Rattle.read_cases.proofs.print_readings.Tie as tie
 
 abbrev Inv-loop : tie.InvT-loop
 Inv-loop input at₀ at = Unit {0}
@@ -46,8 +46,8 @@ part-strptime-end-2 c = within (now (c .before .before .before .before .before .
 strptime-requires : tie.Need-strptime-requires Inv-loop μ-loop
 strptime-requires c κs = tt
 
-print-answer-requires : tie.Need-print-answer-requires Inv-loop μ-loop
-print-answer-requires c κs = tt
+print-reading-requires : tie.Need-print-reading-requires Inv-loop μ-loop
+print-reading-requires c κs = tt
 
 next-line-requires-2 : tie.Need-next-line-requires-2 Inv-loop μ-loop
 next-line-requires-2 c κs = tt
@@ -61,8 +61,8 @@ loop-again c = tt
 returns : tie.Need-returns Inv-loop μ-loop
 returns c = tt
 
-pub print-answers-spec : {M : Type 1} → statement M
-print-answers-spec =
+pub print-readings-spec : {M : Type 1} → statement M
+print-readings-spec =
     tie.close
     (tie.spec
     Inv-loop
@@ -78,7 +78,7 @@ print-answers-spec =
     part-strptime-start-2
     part-strptime-end-2
     strptime-requires
-    print-answer-requires
+    print-reading-requires
     next-line-requires-2
     loop-less
     loop-again
