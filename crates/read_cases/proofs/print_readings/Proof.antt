@@ -1,5 +1,5 @@
 -- `read_cases::print_readings` is safe and ends: lines end within the input, and each turn begins after the lines of the one before.
-use Prim.Native.Nat.{_-_}
+use Prim.Native.Nat.{_-_, _≤_}
 use native.Mathlib.Omega.{arith}
 use denote.Ref.{now}
 use lib.ListN.{length}
@@ -25,26 +25,45 @@ next-line-requires c κs = tt
 line-end-requires-2 : tie.Need-line-end-requires-2 Inv-loop μ-loop
 line-end-requires-2 c κs = tt
 
+-- the format's line lies in the input
+format-line : (c : tie.After-line-end Inv-loop μ-loop) →
+    let s = c .before .before .before .before in
+    (c .before .before .loop .at ≤ c .line-end .result) × (c .line-end .result ≤ length (now (s .args .input)))
+format-line c =
+    let s = c .before .before .before .before in
+    within (now (s .args .input)) (c .before .before .loop .at) (omega arith) (c .line-end .ensures)
+
+-- and so does the text's
+text-line : (c : tie.After-line-end2 Inv-loop μ-loop) →
+    let s = c .before .before .before .before .before .before in
+    (c .before .next-line .result ≤ c .line-end2 .result) × (c .line-end2 .result ≤ length (now (s .args .input)))
+text-line c =
+    let s = c .before .before .before .before .before .before in
+    within (now (s .args .input)) (c .before .next-line .result) (omega arith) (c .line-end2 .ensures)
+
 sub-strptime : tie.Need-sub-strptime Inv-loop μ-loop
-sub-strptime c = within (now (c .before .before .before .before .before .before .args .input)) (c .before .before .before .before .loop .at) (omega arith) (c .before .before .line-end .ensures) .0
+sub-strptime c = format-line (c .before .before) .0
 
 part-strptime-start : tie.Need-part-strptime-start Inv-loop μ-loop
-part-strptime-start c = within (now (c .before .before .before .before .before .before .args .input)) (c .before .before .before .before .loop .at) (omega arith) (c .before .before .line-end .ensures) .0
+part-strptime-start c = format-line (c .before .before) .0
 
 part-strptime-end : tie.Need-part-strptime-end Inv-loop μ-loop
-part-strptime-end c = within (now (c .before .before .before .before .before .before .args .input)) (c .before .before .before .before .loop .at) (omega arith) (c .before .before .line-end .ensures) .1
+part-strptime-end c = format-line (c .before .before) .1
 
 sub-strptime-2 : tie.Need-sub-strptime-2 Inv-loop μ-loop
-sub-strptime-2 c = within (now (c .before .before .before .before .before .before .before .args .input)) (c .before .before .next-line .result) (omega arith) (c .before .line-end2 .ensures) .0
+sub-strptime-2 c = text-line (c .before) .0
 
 part-strptime-start-2 : tie.Need-part-strptime-start-2 Inv-loop μ-loop
-part-strptime-start-2 c = within (now (c .before .before .before .before .before .before .before .args .input)) (c .before .before .next-line .result) (omega arith) (c .before .line-end2 .ensures) .0
+part-strptime-start-2 c = text-line (c .before) .0
 
 part-strptime-end-2 : tie.Need-part-strptime-end-2 Inv-loop μ-loop
-part-strptime-end-2 c = within (now (c .before .before .before .before .before .before .before .args .input)) (c .before .before .next-line .result) (omega arith) (c .before .line-end2 .ensures) .1
+part-strptime-end-2 c = text-line (c .before) .1
 
 strptime-requires : tie.Need-strptime-requires Inv-loop μ-loop
 strptime-requires c κs = tt
+
+reading-of-requires : tie.Need-reading-of-requires Inv-loop μ-loop
+reading-of-requires c κs = tt
 
 print-reading-requires : tie.Need-print-reading-requires Inv-loop μ-loop
 print-reading-requires c κs = tt
@@ -53,7 +72,10 @@ next-line-requires-2 : tie.Need-next-line-requires-2 Inv-loop μ-loop
 next-line-requires-2 c κs = tt
 
 loop-less : tie.Need-loop-less Inv-loop μ-loop
-loop-less c = omega (arith, within (now (c .before .before .before .before .before .before .before .before .before .before .before .args .input)) (c .before .before .before .before .before .before .before .before .before .loop .at) (omega arith) (c .before .before .before .before .before .before .before .line-end .ensures), within (now (c .before .before .before .before .before .before .before .before .before .before .before .args .input)) (c .before .before .before .before .before .before .next-line .result) (omega arith) (c .before .before .before .before .before .line-end2 .ensures), c .before .before .before .before .before .before .next-line .ensures, c .next-line2 .ensures)
+loop-less c =
+    let t = c .before .before .before .before .before .before in
+    let f = t .before .before in
+    omega (arith, format-line f, text-line t, t .before .next-line .ensures, c .next-line2 .ensures)
 
 loop-again : tie.Need-loop-again Inv-loop μ-loop
 loop-again c = tt
@@ -78,6 +100,7 @@ print-readings-spec =
     part-strptime-start-2
     part-strptime-end-2
     strptime-requires
+    reading-of-requires
     print-reading-requires
     next-line-requires-2
     loop-less
