@@ -14,7 +14,7 @@ use Rattle.judge.specs.declared.Verdict.{Verdict}
 use Rattle.judge.specs.declared.Verdict.the-variants.{Unsaid, Impossible, Open, Agreed}
 use Rattle.report.specs.Private.{readingBy, Usable}
 use Rattle.strptime.specs.Answers.{showing, refused, finished, done, withHour, withDay, judged, concluded}
-use Rattle.strptime.specs.Answers.{readBy, byElements, elementsReading}
+use Rattle.strptime.specs.Answers.{readBy, byElements, unlessLong, elementsReading}
 use Rattle.strptime.specs.Reading.{start, readAll}
 use Rattle.strptime.specs.declared.Day.{Day}
 use Rattle.strptime.specs.declared.Outcome.{Outcome}
@@ -46,21 +46,23 @@ module _ (t : State) where
   concluded-number (Range p) = lit≤ tt
   concluded-number (Conflict p) = lit≤ tt
 
-elements-number : (es s : List ℕ) → elementsReading es s .number ≤ 10
-unfolding elementsReading byElements readBy showing refused
-elements-number es s =
+by-number : (es s : List ℕ) → byElements es s .number ≤ 10
+unfolding byElements readBy showing refused
+by-number es s =
     let r = readAll es s start in
-    picked (λ (r : Reading). r .number ≤ 10) (leb (length s) longest)
-    (picked (λ (r : Reading). r .number ≤ 10) (eqb (elementsIn mostElements es) (length es))
-    (concluded-number (r .state) (r .outcome)) (lit≤ tt))
-    (lit≤ tt)
+    picked (λ (x : Reading). x .number ≤ 10) (eqb (elementsIn mostElements es) (length es))
+    (concluded-number (r .state) (r .outcome)) (lit≤ tt)
 
--- ---- and its place at most the most elements
+elements-number : (es s : List ℕ) → elementsReading es s .number ≤ 10
+unfolding elementsReading unlessLong showing refused
+elements-number es s = picked (λ (x : Reading). x .number ≤ 10) (leb (length s) longest) (by-number es s) (lit≤ tt)
+
+-- ---- its place is at most the most elements
 abbrev Short : Reading → Type 0
 Short r = (r .number < 10000) × (r .place < 10000)
 
 pub short : (o : Opened) (es s : List ℕ) → Usable o es → Short (readingBy o es s)
-unfolding readingBy Usable showing refused
+unfolding readingBy Usable unlessLong showing refused
 short (Done n) es s u = (omega (arith, elements-number (take n es) s), omega (arith, elements-place (take n es) s))
 short TooLong es s u = (lit≤ tt, lit≤ tt)
 short (Bad p) es s u = picked Short (leb (length s) longest) (lit≤ tt, omega arith) (lit≤ tt, lit≤ tt)

@@ -1,39 +1,27 @@
 -- A format that was opened once answers each text as the reader does, over plain variables.
 -- Assumes nothing.
 use Prim.Native.Nat.{ℕ, _≤_, _<_}
-use mathlib.Core.Bool.{true, cond}
+use mathlib.Core.Bool.{true}
 use mathlib.Core.List.{List}
-use mathlib.Core.Path.{_≡_, refl}
+use mathlib.Core.Path.{_≡_, refl, sym, _∙_}
 use native.Mathlib.Omega.{arith}
-use borrow.Author.Tests.{le-leb, lt-leb, eq-eqb}
-use lib.Dec.{leb}
 use lib.ListN.{length, getD, take, length-take}
 use lib.Seq.{getD-take}
 use Rattle.laws.specs.Lists.{every}
-use Rattle.format.specs.Opening.{Whole, BadAt, longest, mostElements, isByte, opening, opened, openedInto}
+use Rattle.format.specs.Opening.{mostElements, isByte, opening, opened, openedInto}
 use Rattle.format.specs.declared.opening.Opened.{Opened}
 use Rattle.format.specs.declared.opening.Opened.the-variants.{Done, TooLong, Bad}
 use Rattle.format.proofs.Elements.{all-elements, are-bytes}
-use Rattle.format.proofs.Opened.{opened-done, opened-bad, opened-long, stored}
+use Rattle.format.proofs.Opened.{Opens, opened-done, opened-bad, opened-long, stored}
 use Rattle.report.specs.Private.{readingBy, Usable}
-use Rattle.strptime.specs.Answers.{refused, readBy, byFormat, byElements, reading, elementsReading}
+use Rattle.strptime.specs.Answers.{reading, elementsReading}
+use Rattle.strptime.proofs.Opens.{format-long, conversion-bad, format-read, entries-read}
 
--- ---- a format that is not too long
-module _ (f s : List ℕ) (short : length f ≤ longest) where
-  in-order : reading f s ≡ cond (leb (length s) longest) (byFormat f s) (refused 5 0)
-  unfolding reading
-  in-order = rw (le-leb (length f) longest short)
-
-  bad-read : {p : ℕ} → opening f .ended ≡ BadAt p → cond (leb (length s) longest) (refused 3 p) (refused 5 0) ≡ reading f s
-  unfolding byFormat
-  bad-read e = rw (in-order, e)
-
-  -- its elements read as it does
-  whole-read : every isByte f ≡ true → opening f .ended ≡ Whole → elementsReading (opening f .elements) s ≡ reading f s
-  unfolding elementsReading byElements byFormat
-  whole-read b e =
-      let es = opening f .elements in
-      rw (in-order, e, all-elements f short b, eq-eqb (length es) (length es) refl)
+-- the elements of a format of bytes read as it does
+whole-read : (f s : List ℕ) {n : ℕ} → every isByte f ≡ true → Opens f n → elementsReading (opening f .elements) s ≡ reading f s
+whole-read f s b o =
+    let es = opening f .elements in
+    sym (entries-read es s (sym (all-elements f (o .short) b)) refl) ∙ format-read f s (o .short) (o .whole)
 
 -- the first bytes of a slice
 pub first-bytes : (s : List ℕ) (n : ℕ) → ((k : ℕ) → getD s k 0 < 256) → every isByte (take n s) ≡ true
@@ -47,14 +35,14 @@ Answers f r es = Usable r es × ((s : List ℕ) → readingBy r es s ≡ reading
 -- it is opened into entries that have room for all its elements
 pub answers : (f room : List ℕ) {r : Opened} {es : List ℕ} → every isByte f ≡ true → mostElements ≤ length room → mostElements ≤ length es
     → r ≡ opened f → es ≡ openedInto f room → Answers f r es
-unfolding Usable readingBy reading
+unfolding Usable readingBy
 answers f room {r} {es} b h k e g = go r refl
   where
     go : (q : Opened) → r ≡ q → Answers f q es
     go (Done n) d =
         let o = opened-done f e d in
-        (omega (arith, o .few), λ s. rw (stored f room g o (omega (arith, o .few))) (whole-read f s (o .short) b (o .whole)))
-    go TooLong d = (tt, λ s. rw (lt-leb (length f) longest (opened-long f e d)))
+        (omega (arith, o .few), λ s. rw (stored f room g o (omega (arith, o .few))) (whole-read f s b o))
+    go TooLong d = (tt, λ s. format-long f s (opened-long f e d))
     go (Bad p) d =
         let o = opened-bad f e d in
-        (omega (arith, o .within, o .short), λ s. bad-read f s (o .short) (o .bad))
+        (omega (arith, o .within, o .short), λ s. conversion-bad f s (o .short) (o .bad))

@@ -2,13 +2,11 @@
 use mathlib.Core.Path.{sym}
 use native.Mathlib.Omega.{arith}
 use borrow.Author.Needs.{needs}
-use borrow.Author.Tests.{le-leb, lt-leb}
 use denote.Ref.{now}
-use lib.ListN.{length}
 use lib.Seq.{length-take-le}
-use Rattle.format.specs.Opening.{longest}
 use Rattle.report.specs.Private.{readingBy, Usable}
 use Rattle.strptime.specs.Answers.{readingOf}
+use Rattle.strptime.proofs.Opens.{text-long, text-short}
 use Rattle.report.proofs.answers.answer_to.Statement.{statement}
 use Rattle.report.proofs.answers.answer_to.Tie as tie
 
@@ -34,7 +32,7 @@ returns : tie.Need-returns
 unfolding readingOf readingBy
 returns c =
     let t = now (c .before .before .before .before .before .before .args .text) in
-    rw (c .before .before .opened2 .given .1, lt-leb (length t) longest (omega arith))
+    rw (c .before .before .opened2 .given .1) (text-long t _ (omega arith))
 
 returns-2 : tie.Need-returns-2
 unfolding readingBy
@@ -48,7 +46,7 @@ returns-4 : tie.Need-returns-4
 unfolding readingOf readingBy
 returns-4 c =
     let t = now (c .before .before .before .before .before .before .args .text) in
-    rw (c .before .before .opened2 .given .1, le-leb (length t) longest (omega arith))
+    rw (c .before .before .opened2 .given .1) (text-short t _ (omega arith))
 
 pub answer-to-spec : {M : Type 1} → statement M
 answer-to-spec =

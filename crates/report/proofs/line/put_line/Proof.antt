@@ -2,7 +2,7 @@
 use native.Mathlib.Omega.{arith}
 use borrow.Author.Needs.{needs}
 use Rattle.laws.specs.Bytes.{bytes}
-use Rattle.report.specs.Line.{lineOf}
+use Rattle.report.specs.Line.{momentShown, lineOf}
 use Rattle.report.proofs.Putting.{then}
 use Rattle.report.proofs.line.put_line.Statement.{statement}
 use Rattle.report.proofs.line.put_line.Tie as tie
@@ -39,11 +39,13 @@ returns c =
     let d = m .before .before .before .before in
     let p = d .before .before .before .before in
     let b = p .before .before .before .before .before in
-    let n = b .before .before .before .before in (
+    let n = b .before .before .before .before in
+    let r = n .before .before .before .args .reading in
+    let x = momentShown (r .day) (r .hour) (r .minute) (r .second) in (
       then (n .put-plain .ensures .0)
           (then (b .put-byte .ensures .0)
           (then (p .put-plain2 .ensures .0)
-          (then (d .put-byte2 .ensures .0) (then (m .put-moment .ensures .0) (z .put-byte3 .ensures .0))))),
+          (then (d .put-byte2 .ensures .0) (then {x = x} (m .put-moment .ensures .0) (z .put-byte3 .ensures .0))))),
       omega (arith, z, m, d, p, b, n),
     )
 
