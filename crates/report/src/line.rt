@@ -132,13 +132,15 @@ pub(crate) fn put_line(out: &mut [u8], at: usize, reading: Reading) -> usize
     ensures { λ r. ⌜ Puts (lineOf reading) (now (out .entry)) at (now (out .exit)) r ⌝ }
     ensures { λ r. ⌜ r ≤ at + 30 ⌝ }
 {
+    let number = reading.number;
+    let place = reading.place as u32;
     let day = reading.day;
     let hour = reading.hour;
     let minute = reading.minute;
     let second = reading.second;
-    let at = put_plain(out, at, reading.number);
+    let at = put_plain(out, at, number);
     let at = put_byte(out, at, b' ');
-    let at = put_plain(out, at, reading.place as u32);
+    let at = put_plain(out, at, place);
     let at = put_byte(out, at, b' ');
     let at = put_moment(out, at, day, hour, minute, second);
     put_byte(out, at, b'\n')

@@ -7,14 +7,14 @@ use Rattle.report.proofs.Putting.{then}
 use Rattle.report.proofs.line.put_line.Statement.{statement}
 use Rattle.report.proofs.line.put_line.Tie as tie
 
+cast-place : tie.Need-cast-place
+cast-place c = search needs
+
 put-plain-requires : tie.Need-put-plain-requires
 put-plain-requires c κs = search needs
 
 put-byte-requires : tie.Need-put-byte-requires
 put-byte-requires c κs = omega arith
-
-cast-put-plain : tie.Need-cast-put-plain
-cast-put-plain c = search needs
 
 put-plain-requires-2 : tie.Need-put-plain-requires-2
 put-plain-requires-2 c κs = omega arith
@@ -38,9 +38,9 @@ returns c =
     let m = z .before .before .before .before in
     let d = m .before .before .before .before in
     let p = d .before .before .before .before in
-    let b = p .before .before .before .before .before in
+    let b = p .before .before .before .before in
     let n = b .before .before .before .before in
-    let r = n .before .before .before .args .reading in
+    let r = n .before .before .before .before .args .reading in
     let x = momentShown (r .day) (r .hour) (r .minute) (r .second) in (
       then (n .put-plain .ensures .0)
           (then (b .put-byte .ensures .0)
@@ -53,9 +53,9 @@ pub put-line-spec : {M : Type 1} → statement M
 put-line-spec =
     tie.close
     (tie.spec
+    cast-place
     put-plain-requires
     put-byte-requires
-    cast-put-plain
     put-plain-requires-2
     put-byte-requires-2
     put-moment-requires
