@@ -4,7 +4,7 @@ use libc::STDOUT_FILENO;
 
 fn main() {
     // One byte more than the longest input decides whether there is more.
-    let mut input = [0u8; report::MOST + 1];
+    let mut input = [0u8; report::LONGEST_INPUT + 1];
     let n = io::read_full(STDIN_FILENO, &mut input);
     let mut out = [0u8; report::ROOM];
     let count = report::report(&input[..n], &mut out);

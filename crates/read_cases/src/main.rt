@@ -3,9 +3,12 @@
 use calendar::Date;
 use libc::STDOUT_FILENO;
 use report::line_end;
-use strptime::Answer;
 use strptime::Day;
+use strptime::Reading;
 use strptime::Said;
+use strptime::Shown;
+use strptime::reading_of;
+use strptime::strptime;
 ghost use mathlib.Core.Path.{_≡_};
 ghost use Prim.Native.Nat.{_+_, min};
 ghost use lib.ListN.{length};
@@ -49,45 +52,39 @@ fn print_said(said: Said) {
     }
 }
 
-fn print_days(first: Date, second: Date) {
-    print_date(first);
-    print(b" ");
-    print_date(second);
-}
-
-fn print_hours(first: u32, second: u32) {
-    print_number(first);
-    print(b" ");
-    print_number(second);
-}
-
-fn print_rest(answer: Answer) {
-    match answer {
-        Answer::Done(_, day, hour, minute, second) => {
-            print_day(day);
-            print_said(hour);
-            print_said(minute);
-            print_said(second);
-            print(b" | ");
+// The first two days or hours.
+fn print_shown(shown: Shown) {
+    match shown {
+        Shown::Nothing => {}
+        Shown::Days { first, second } => {
+            print_date(first);
+            print(b" ");
+            print_date(second);
         }
-        Answer::OpenDay(first, second) => {
-            print(b"- - - - | ");
-            print_days(first, second);
+        Shown::Hours { first, second } => {
+            print_number(first);
+            print(b" ");
+            print_number(second);
         }
-        Answer::OpenHour(first, second) => {
-            print(b"- - - - | ");
-            print_hours(first, second);
-        }
-        _ => print(b"- - - - | "),
     }
 }
 
-fn print_answer(answer: Answer) {
-    print_number(strptime::number_of(answer));
+fn print_reading(reading: Reading) {
+    let day = reading.day;
+    let hour = reading.hour;
+    let minute = reading.minute;
+    let second = reading.second;
+    let shown = reading.shown;
+    print_number(reading.number);
     print(b" ");
-    io::print_decimal(STDOUT_FILENO, strptime::place_of(answer) as u64);
+    io::print_decimal(STDOUT_FILENO, reading.place as u64);
     print(b" ");
-    print_rest(answer);
+    print_day(day);
+    print_said(hour);
+    print_said(minute);
+    print_said(second);
+    print(b" | ");
+    print_shown(shown);
     print(b"\n");
 }
 
@@ -102,13 +99,14 @@ fn next_line(input: &[u8], end: usize) -> usize
     }
 }
 
-fn print_answers(input: &[u8]) {
+fn print_readings(input: &[u8]) {
     let mut at = 0;
     while at < input.len() {
         let middle = line_end(input, at);
         let from = next_line(input, middle);
         let end = line_end(input, from);
-        print_answer(strptime::strptime(&input[at..middle], &input[from..end]));
+        let answer = strptime(&input[at..middle], &input[from..end]);
+        print_reading(reading_of(answer));
         at = next_line(input, end);
     }
 }
@@ -116,5 +114,5 @@ fn print_answers(input: &[u8]) {
 fn main() {
     let mut input = [0u8; 131072];
     let n = io::read_full(0, &mut input);
-    print_answers(&input[..n]);
+    print_readings(&input[..n]);
 }

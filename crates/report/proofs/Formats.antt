@@ -1,46 +1,48 @@
 -- A format that was opened once answers each text as the reader does, over plain variables.
 -- Assumes nothing.
-use Prim.Native.Nat.{ℕ, _*_, _≤_, _<_}
-use mathlib.Core.Bool.{cond}
+use Prim.Native.Nat.{ℕ, _≤_, _<_}
+use mathlib.Core.Bool.{true}
 use mathlib.Core.List.{List}
-use mathlib.Core.Path.{_≡_, refl}
+use mathlib.Core.Path.{_≡_, refl, sym, _∙_}
 use native.Mathlib.Omega.{arith}
-use borrow.Author.Tests.{le-leb, lt-leb}
-use lib.Dec.{leb}
-use lib.ListN.{length}
-use Rattle.laws.specs.Lists.{overlaid}
-use Rattle.format.specs.Opening.{opening, answer, most}
-use Rattle.format.specs.declared.opening.Opened.the-variants.{Done, Bad, Full}
+use lib.ListN.{length, getD, take, length-take}
+use lib.Seq.{getD-take}
+use Rattle.laws.specs.Lists.{every}
+use Rattle.format.specs.Opening.{mostElements, isByte, opening, opened, openedInto}
 use Rattle.format.specs.declared.opening.Opened.{Opened}
-use Rattle.report.specs.Private.{answerBy, Usable}
-use Rattle.strptime.specs.Answers.{readElements, readOpened, reading}
-use Rattle.strptime.specs.declared.Answer.the-variants.{TextTooLong}
-use Rattle.format.proofs.Opened.{opened-done, opened-bad, never-full}
-use Rattle.format.proofs.Refused.{bad-within}
-use Rattle.strptime.proofs.Opens.{whole-read, bad-read}
+use Rattle.format.specs.declared.opening.Opened.the-variants.{Done, TooLong, Bad}
+use Rattle.format.proofs.Elements.{all-elements, are-bytes}
+use Rattle.format.proofs.Opened.{Opens, opened-done, opened-bad, opened-long, stored}
+use Rattle.report.specs.Private.{readingBy, Usable}
+use Rattle.strptime.specs.Answers.{reading, elementsReading}
+use Rattle.strptime.proofs.Opens.{format-long, conversion-bad, format-read, entries-read}
 
--- it is answered by r and the elements es
+-- the elements of a format of bytes read as it does
+whole-read : (f s : List ℕ) {n : ℕ} → every isByte f ≡ true → Opens f n → elementsReading (opening f .elements) s ≡ reading f s
+whole-read f s b o =
+    let es = opening f .elements in
+    sym (entries-read es s (sym (all-elements f (o .short) b)) refl) ∙ format-read f s (o .short) (o .whole)
+
+-- the first bytes of a slice
+pub first-bytes : (s : List ℕ) (n : ℕ) → ((k : ℕ) → getD s k 0 < 256) → every isByte (take n s) ≡ true
+first-bytes s n f =
+    are-bytes (take n s) (λ k h. let l : k < n = omega (arith, length-take n s) in rw (getD-take n s k 0 l) (f k))
+
+-- ---- the format f is answered by r and the elements es
 abbrev pub Answers : List ℕ → Opened → List ℕ → Type 0
-Answers f r es = Usable r es × ((s : List ℕ) → answerBy r es s ≡ reading f s)
+Answers f r es = Usable r es × ((s : List ℕ) → readingBy r es s ≡ reading f s)
 
-pub too-long : (f es : List ℕ) → most < length f → Answers f Full es
-unfolding Usable answerBy reading
-too-long f es h = (tt, λ s. rw (lt-leb (length f) most h))
-
-module _ (f room : List ℕ) (short : length f ≤ most) (h : 13 * length f ≤ 2 * length room) where
-  short-reading : (s : List ℕ) → reading f s ≡ cond (leb (length s) most) (readOpened (opening f) s) TextTooLong
-  unfolding reading
-  short-reading s = rw (le-leb (length f) most short)
-
-  pub opened : {r : Opened} {es : List ℕ} → r ≡ answer (length room) (opening f) → es ≡ overlaid (opening f .elements) room → Answers f r es
-  unfolding Usable answerBy answer readElements
-  opened {r} {es} e g = go r refl
-    where
-      go : (q : Opened) → r ≡ q → Answers f q es
-      go (Done n) d =
-          let w = opened-done f room e g d in
-          (w .room, λ s. rw (short-reading s, w .first, whole-read f s (w .whole)))
-      go (Bad p) d =
-          let b = opened-bad f room e d in
-          (omega (arith, bad-within f b), λ s. rw (short-reading s, bad-read f s b))
-      go Full d = absurd (never-full f room e h d)
+-- it is opened into entries that have room for all its elements
+pub answers : (f room : List ℕ) {r : Opened} {es : List ℕ} → every isByte f ≡ true → mostElements ≤ length room → mostElements ≤ length es
+    → r ≡ opened f → es ≡ openedInto f room → Answers f r es
+unfolding Usable readingBy
+answers f room {r} {es} b h k e g = go r refl
+  where
+    go : (q : Opened) → r ≡ q → Answers f q es
+    go (Done n) d =
+        let o = opened-done f e d in
+        (omega (arith, o .few), λ s. rw (stored f room g o (omega (arith, o .few))) (whole-read f s b o))
+    go TooLong d = (tt, λ s. format-long f s (opened-long f e d))
+    go (Bad p) d =
+        let o = opened-bad f e d in
+        (omega (arith, o .within, o .short), λ s. conversion-bad f s (o .short) (o .bad))

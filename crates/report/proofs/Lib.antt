@@ -1,6 +1,6 @@
 -- Laws that the proofs of several functions cite.
-pub mod Refusals
 pub mod Decimal
+pub mod Figures
 pub mod Formats
 pub mod Listing
 pub mod Putting

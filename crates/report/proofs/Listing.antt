@@ -12,9 +12,9 @@ use lib.Seq.{sets, drop-drop, length-sets}
 use Rattle.laws.proofs.Stores.{sets-append}
 use Rattle.report.specs.Line.{lineOf}
 use Rattle.report.specs.Lines.{newline, onto, lines, lineLength}
-use Rattle.report.specs.Private.{Puts}
+use Rattle.laws.specs.Stores.{Puts}
 use Rattle.report.specs.Report.{answered}
-use Rattle.strptime.specs.declared.Answer.{Answer}
+use Rattle.strptime.specs.declared.Reading.{Reading}
 
 -- a byte at the front of the first line
 onto-first : (b : ℕ) (s : List ℕ) → onto b (lines s) ≡ (b ∷ take (lineLength s) s) ∷ lines (drop (suc (lineLength s)) s)
@@ -53,13 +53,13 @@ module _ (s : List ℕ) (i : ℕ) where
       rw (p, q, ← drop-drop (suc n) i s) (first-line (drop i s) (omega (arith, length-drop i s)))
 
 -- to put what is left of the lines from `next` on gives what is to be shown
-pub record Listing (read : List ℕ → Answer) (s before : List ℕ) (at from : ℕ) (out : List ℕ) (end next : ℕ) : Type 0 where
+pub record Listing (read : List ℕ → Reading) (s before : List ℕ) (at from : ℕ) (out : List ℕ) (end next : ℕ) : Type 0 where
   pub kept : length out ≡ length before
   pub room : end + 30 * (length s - next) ≤ length out
   pub count : end + length (answered read (lines (drop next s))) ≡ at + length (answered read (lines (drop from s)))
   pub rest : sets out end (answered read (lines (drop next s))) ≡ sets before at (answered read (lines (drop from s)))
 
-module _ (read : List ℕ → Answer) (s before : List ℕ) (at from : ℕ) where
+module _ (read : List ℕ → Reading) (s before : List ℕ) (at from : ℕ) where
   pub list-start : at + 30 * (length s - from) ≤ length before → Listing read s before at from before at from
   list-start h = record { kept = refl; room = h; count = refl; rest = refl }
 

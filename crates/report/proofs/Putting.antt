@@ -9,11 +9,12 @@ use native.Mathlib.Omega.{arith}
 use lib.ListN.{length, take, drop, set, getD, length-append, length-take, length-drop, length-set, drop-of-length-le}
 use lib.Seq.{sets, sets-eq, drop-drop, drop-cons}
 use Rattle.laws.proofs.Stores.{sets-append}
-use Rattle.report.specs.Private.{Puts}
-use Rattle.text.specs.Digits.{number}
+use Rattle.laws.specs.Stores.{Puts}
+use Rattle.text.specs.Digits.{filled}
 
 -- one text after the other
-pub then : {x y before between after : List ℕ} {at middle end : ℕ} → Puts x before at between middle → Puts y between middle after end → Puts (x ++ y) before at after end
+pub then : {x y before between after : List ℕ} {at middle end : ℕ} → Puts x before at between middle → Puts y between middle after end
+    → Puts (x ++ y) before at after end
 then {x} {y} {before} {at = at} p q =
     record {
       ends = omega (arith, p .ends, q .ends, length-append x y);
@@ -48,14 +49,15 @@ module _ (b : List ℕ) (at w n : ℕ) (h : at + w ≤ length b) where
   abbrev part : List ℕ
   part = take (at + w - at) (drop at b)
 
-  pub numbered : {y : List ℕ} → length y ≡ length part → y ≡ number 48 (length part) n
-      → Puts (number 48 w n) b at (take at b ++ (y ++ drop (at + w - at) (drop at b))) (at + w)
+  pub numbered : {y : List ℕ} → length y ≡ length part → y ≡ filled 48 (length part) n
+      → Puts (filled 48 w n) b at (take at b ++ (y ++ drop (at + w - at) (drop at b))) (at + w)
   numbered {y} k e =
+      let x = filled 48 w n in
       let p : length part ≡ w = simp (length-take, length-drop) (omega arith) in
-      let q : y ≡ number 48 w n = rw p at e in
-      let l : length (number 48 w n) ≡ w = rw (q, p) at k in
+      let q : y ≡ x = rw p at e in
+      let l : length x ≡ w = rw (q, p) at k in
       let d : at + w - at ≡ w = omega arith in
       record {
         ends = rw l;
-        stores = rw (sets-eq (number 48 w n) b at (rw l h), l, q, d, drop-drop w at b) (sym (append-assoc (take at b) (number 48 w n) (drop (at + w) b)));
+        stores = rw (sets-eq x b at (rw l h), l, q, d, drop-drop w at b) (sym (append-assoc (take at b) x (drop (at + w) b)));
       }

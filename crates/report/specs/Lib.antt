@@ -1,5 +1,5 @@
 -- What the report on a list of texts says.
 pub mod Lines
 pub mod Line
-pub mod Private
 pub mod Report
+pub mod Private

@@ -1,15 +1,16 @@
 // The report on a list of texts: a header, and a line for each text as it is read by the list's first line, the format.
 use answers::answer_to;
-use answers::open_format;
 use format::MOST_ELEMENTS;
 use format::Opened;
+use format::open;
 use line::put_bytes;
 use line::put_line;
+use strptime::reading_of;
 ghost use Prim.Native.Nat.{_+_, _-_, _*_, _≤_};
-ghost use lib.ListN.{length, drop};
-ghost use Rattle.report.specs.Lines.{lines};
-ghost use Rattle.report.specs.Private.{Puts, answerBy, Usable};
-ghost use Rattle.report.specs.Report.{answered, Reported};
+ghost use lib.ListN.{length};
+ghost use Rattle.laws.specs.Stores.{Puts};
+ghost use Rattle.report.specs.Private.{linesBy, Usable};
+ghost use Rattle.report.specs.Report.{Reported};
 
 mod answers;
 mod line;
@@ -18,10 +19,10 @@ mod lines;
 pub use lines::line_end;
 
 // The bytes of the longest input.
-pub const MOST: usize = 32768;
+pub const LONGEST_INPUT: usize = 32768;
 
 // The bytes of a buffer in which every report has room: the header's 23, and at most 30 to a line.
-pub const ROOM: usize = 23 + 30 * MOST;
+pub const ROOM: usize = 23 + 30 * LONGEST_INPUT;
 
 // Puts the lines for the texts of `input` from `from` on into `out` from `at` on, and answers the place after them.
 fn put_lines(
@@ -34,14 +35,15 @@ fn put_lines(
 ) -> usize
     requires { ⌜ Usable opened (now elements) ⌝ }
     requires { ⌜ at + 30 * (length (now input) - from) ≤ length (now out) ⌝ }
-    ensures { λ r. ⌜ Puts (answered (answerBy opened (now (elements .entry))) (lines (drop from (now (input .entry))))) (now (out .entry)) at (now (out .exit)) r ⌝ }
+    ensures { λ r. ⌜ Puts (linesBy opened (now (elements .entry)) (now (input .entry)) from) (now (out .entry)) at (now (out .exit)) r ⌝ }
     ensures { λ r. ⌜ r ≤ length (now (out .exit)) ⌝ }
 {
     let mut next = from;
     let mut end = at;
     while next < input.len() {
         let stop = line_end(input, next);
-        end = put_line(out, end, answer_to(opened, elements, &input[next..stop]));
+        let answer = answer_to(opened, elements, &input[next..stop]);
+        end = put_line(out, end, reading_of(answer));
         next = stop + 1;
     }
     end
@@ -51,12 +53,12 @@ fn put_lines(
 pub fn report(input: &[u8], out: &mut [u8; ROOM]) -> usize
     ensures { λ r. ⌜ Reported (now (input .entry)) (now (out .entry)) (now (out .exit)) r ⌝ }
 {
-    if MOST < input.len() {
+    if LONGEST_INPUT < input.len() {
         return put_bytes(out, 0, b"too long\n");
     }
     let start = put_bytes(out, 0, b"number place date time\n");
     let end = line_end(input, 0);
     let mut elements = [0; MOST_ELEMENTS];
-    let opened = open_format(&input[..end], &mut elements);
+    let opened = open(&input[..end], &mut elements);
     put_lines(opened, &elements, input, end + 1, out, start)
 }

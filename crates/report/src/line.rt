@@ -1,19 +1,16 @@
 // What a line says.
 use calendar::Date;
-use strptime::Answer;
 use strptime::Day;
+use strptime::Reading;
 use strptime::Said;
-use strptime::number_of;
-use strptime::place_of;
 use text::write_number;
 ghost use mathlib.Core.Path.{_≡_};
 ghost use mathlib.Core.List.{[], _∷_};
 ghost use Prim.Native.Nat.{_+_, _≤_, _<_};
 ghost use lib.ListN.{length};
-ghost use Rattle.text.specs.Digits.{number};
-ghost use Rattle.strptime.specs.Answers.{placeOf};
-ghost use Rattle.report.specs.Line.{plain, dateShown, dayShown, saidShown, momentShown, answerShown, lineOf};
-ghost use Rattle.report.specs.Private.{Puts};
+ghost use Rattle.laws.specs.Stores.{Puts};
+ghost use Rattle.text.specs.Digits.{filled};
+ghost use Rattle.report.specs.Line.{plain, dateShown, dayShown, saidShown, momentShown, lineOf};
 
 // Each function here puts some bytes into `out` from `at` on, and answers the place after them.
 
@@ -42,7 +39,7 @@ pub(crate) fn put_bytes(out: &mut [u8], at: usize, bytes: &[u8]) -> usize
 // A number on `width` places, filled with zeros.
 fn put_number(out: &mut [u8], at: usize, width: usize, n: u32) -> usize
     requires { ⌜ at + width ≤ length (now out) ⌝ }
-    ensures { λ r. ⌜ Puts (number 48 width n) (now (out .entry)) at (now (out .exit)) r ⌝ }
+    ensures { λ r. ⌜ Puts (filled 48 width n) (now (out .entry)) at (now (out .exit)) r ⌝ }
     ensures { λ r. ⌜ r ≡ at + width ⌝ }
 {
     let end = at + width;
@@ -53,7 +50,7 @@ fn put_number(out: &mut [u8], at: usize, width: usize, n: u32) -> usize
 // How many digits a number has.
 fn digit_count(n: u32) -> usize
     requires { ⌜ n < 10000 ⌝ }
-    ensures { λ r. ⌜ (r ≤ 4) × (number 48 r n ≡ plain n) ⌝ }
+    ensures { λ r. ⌜ (r ≤ 4) × (filled 48 r n ≡ plain n) ⌝ }
 {
     if n < 10 {
         return 1;
@@ -128,36 +125,23 @@ fn put_moment(out: &mut [u8], at: usize, day: Day, hour: Said, minute: Said, sec
     put_said(out, at, second)
 }
 
-fn put_answer(out: &mut [u8], at: usize, answer: Answer) -> usize
-    requires { ⌜ at + 19 ≤ length (now out) ⌝ }
-    ensures { λ r. ⌜ Puts (answerShown answer) (now (out .entry)) at (now (out .exit)) r ⌝ }
-    ensures { λ r. ⌜ r ≤ at + 19 ⌝ }
-{
-    let Answer::Done(_, day, hour, minute, second) = answer else {
-        return put_moment(
-            out,
-            at,
-            Day::NoDate,
-            Said::Unsaid,
-            Said::Unsaid,
-            Said::Unsaid,
-        );
-    };
-    put_moment(out, at, day, hour, minute, second)
-}
-
 // The whole line.
-pub(crate) fn put_line(out: &mut [u8], at: usize, answer: Answer) -> usize
-    requires { ⌜ (placeOf answer < 10000) × (at + 30 ≤ length (now out)) ⌝ }
-    ensures { λ r. ⌜ Puts (lineOf answer) (now (out .entry)) at (now (out .exit)) r ⌝ }
+pub(crate) fn put_line(out: &mut [u8], at: usize, reading: Reading) -> usize
+    requires { ⌜ (reading .number < 10000) × (reading .place < 10000) ⌝ }
+    requires { ⌜ at + 30 ≤ length (now out) ⌝ }
+    ensures { λ r. ⌜ Puts (lineOf reading) (now (out .entry)) at (now (out .exit)) r ⌝ }
     ensures { λ r. ⌜ r ≤ at + 30 ⌝ }
 {
-    let number = number_of(answer);
-    let place = place_of(answer) as u32;
+    let number = reading.number;
+    let place = reading.place as u32;
+    let day = reading.day;
+    let hour = reading.hour;
+    let minute = reading.minute;
+    let second = reading.second;
     let at = put_plain(out, at, number);
     let at = put_byte(out, at, b' ');
     let at = put_plain(out, at, place);
     let at = put_byte(out, at, b' ');
-    let at = put_answer(out, at, answer);
+    let at = put_moment(out, at, day, hour, minute, second);
     put_byte(out, at, b'\n')
 }

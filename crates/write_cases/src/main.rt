@@ -3,6 +3,8 @@
 // buffer, which held # before.
 use libc::STDOUT_FILENO;
 use strftime::Fields;
+use strftime::strftime;
+use strftime::writing_of;
 ghost use Prim.Native.Nat.{_≤_};
 ghost use lib.ListN.{length};
 
@@ -59,10 +61,10 @@ fn write_case(line: &[u8]) {
 }
 
 fn write_answer(format: &[u8], fields: Fields, buffer: &mut [u8]) {
-    let answer = strftime::strftime(format, fields, buffer);
-    io::print_decimal(STDOUT_FILENO, strftime::number_of(answer) as u64);
+    let writing = writing_of(strftime(format, fields, buffer));
+    io::print_decimal(STDOUT_FILENO, writing.number as u64);
     io::write_all(STDOUT_FILENO, b" ");
-    io::print_decimal(STDOUT_FILENO, strftime::place_of(answer) as u64);
+    io::print_decimal(STDOUT_FILENO, writing.place as u64);
     io::write_all(STDOUT_FILENO, b" [");
     io::write_all(STDOUT_FILENO, buffer);
     io::write_all(STDOUT_FILENO, b"]\n");

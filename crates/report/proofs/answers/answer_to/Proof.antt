@@ -2,14 +2,11 @@
 use mathlib.Core.Path.{sym}
 use native.Mathlib.Omega.{arith}
 use borrow.Author.Needs.{needs}
-use borrow.Author.Tests.{le-leb, lt-leb}
 use denote.Ref.{now}
-use lib.ListN.{length}
 use lib.Seq.{length-take-le}
-use Rattle.format.specs.Opening.{most}
-use Rattle.report.specs.Private.{answerBy, Usable}
-use Rattle.strptime.specs.Answers.{placeOf}
-use Rattle.strptime.proofs.Places.{elements-most}
+use Rattle.report.specs.Private.{readingBy, Usable}
+use Rattle.strptime.specs.Answers.{readingOf}
+use Rattle.strptime.proofs.Opens.{text-long, text-short}
 use Rattle.report.proofs.answers.answer_to.Statement.{statement}
 use Rattle.report.proofs.answers.answer_to.Tie as tie
 
@@ -18,38 +15,38 @@ enum-known-opened c = search needs
 
 slice-aggregate-read-elements : tie.Need-slice-aggregate-read-elements
 unfolding Usable
-slice-aggregate-read-elements c = sym (length-take-le _ _ (rw (c .before .before .opened .given .1) at (c .before .before .before .before .before .before .pre)))
+slice-aggregate-read-elements c =
+    let s = c .before .before .before .before .before .before in
+    sym (length-take-le _ _ (rw (c .before .before .opened .given .1) at (s .pre)))
 
 read-elements-requires : tie.Need-read-elements-requires
 read-elements-requires c κs = search needs
+
+enum-told : tie.Need-enum-told
+enum-told c = search needs
 
 enum-known-opened-2 : tie.Need-enum-known-opened-2
 enum-known-opened-2 c = search needs
 
 returns : tie.Need-returns
-unfolding answerBy placeOf
+unfolding readingOf readingBy
 returns c =
     let t = now (c .before .before .before .before .before .before .args .text) in
-    (rw (c .before .before .opened2 .given .1, lt-leb (length t) most (omega arith)), omega arith)
-
-enum-told : tie.Need-enum-told
-enum-told c = search needs
+    rw (c .before .before .opened2 .given .1) (text-long t _ (omega arith))
 
 returns-2 : tie.Need-returns-2
-unfolding answerBy
-returns-2 c =
-    let a = c .before .before .before .before .before .before .before .args in
-    (rw (c .before .before .before .opened .given .1) (c .read-elements .ensures), rw (c .read-elements .ensures) (elements-most _ (now (a .text))))
+unfolding readingBy
+returns-2 c = rw (c .before .before .before .opened .given .1) (c .read-elements .ensures)
 
 returns-3 : tie.Need-returns-3
-unfolding answerBy placeOf Usable
-returns-3 c =
-    let t = now (c .before .before .before .before .before .before .args .text) in
-    (rw (c .before .before .opened2 .given .1, le-leb (length t) most (omega arith)), rw (c .before .before .opened2 .given .1) at (c .before .before .before .before .before .before .pre))
+unfolding readingOf readingBy
+returns-3 c = rw (c .enum-told .given .1)
 
 returns-4 : tie.Need-returns-4
-unfolding answerBy placeOf
-returns-4 c = (rw (c .enum-told .given .1), omega arith)
+unfolding readingOf readingBy
+returns-4 c =
+    let t = now (c .before .before .before .before .before .before .args .text) in
+    rw (c .before .before .opened2 .given .1) (text-short t _ (omega arith))
 
 pub answer-to-spec : {M : Type 1} → statement M
 answer-to-spec =
@@ -58,9 +55,9 @@ answer-to-spec =
     enum-known-opened
     slice-aggregate-read-elements
     read-elements-requires
+    enum-told
     enum-known-opened-2
     returns
-    enum-told
     returns-2
     returns-3
     returns-4)

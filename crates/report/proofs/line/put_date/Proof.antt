@@ -43,8 +43,9 @@ returns c =
     let first = month .before .before .before .before .before in
     let year = first .before .before .before .before in (
       then (year .put-number .ensures .0)
-          (then (first .put-byte .ensures .0) (then (month .put-number2 .ensures .0) (then (dash .put-byte2 .ensures .0) (day .put-number3 .ensures .0)))),
-      omega (arith, day .put-number3 .ensures .1, dash .put-byte2 .ensures .1, month .put-number2 .ensures .1, first .put-byte .ensures .1, year .put-number .ensures .1),
+          (then (first .put-byte .ensures .0)
+          (then (month .put-number2 .ensures .0) (then (dash .put-byte2 .ensures .0) (day .put-number3 .ensures .0)))),
+      omega (arith, day, dash, month, first, year),
     )
 
 pub put-date-spec : {M : Type 1} → statement M

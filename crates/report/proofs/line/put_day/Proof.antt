@@ -23,14 +23,18 @@ same-length c = search needs
 
 returns : tie.Need-returns
 unfolding dayShown bytes
-returns c = (rw (c .before .before .before .before .enum-told .given .1) (c .before .before .put-byte .ensures .0), omega (arith, c .before .before .put-byte .ensures .1))
+returns c =
+    let p = c .before .before .put-byte .ensures in
+    (rw (c .before .before .before .before .enum-told .given .1) (p .0), omega (arith, p .1))
 
 same-length-2 : tie.Need-same-length-2
 same-length-2 c = search needs
 
 returns-2 : tie.Need-returns-2
 unfolding dayShown bytes
-returns-2 c = (rw (c .before .before .before .before .before .day .given .1) (c .before .before .put-date .ensures .0), omega (arith, c .before .before .put-date .ensures .1))
+returns-2 c =
+    let p = c .before .before .put-date .ensures in
+    (rw (c .before .before .before .before .before .day .given .1) (p .0), omega (arith, p .1))
 
 pub put-day-spec : {M : Type 1} → statement M
 put-day-spec =

@@ -44,7 +44,8 @@ returns c =
       then (a .put-day .ensures .0)
           (then (b .put-byte .ensures .0)
           (then (h .put-said .ensures .0)
-          (then (d .put-byte2 .ensures .0) (then (e .put-said2 .ensures .0) (then (f .put-byte3 .ensures .0) (g .put-said3 .ensures .0)))))),
+          (then (d .put-byte2 .ensures .0)
+          (then (e .put-said2 .ensures .0) (then (f .put-byte3 .ensures .0) (g .put-said3 .ensures .0)))))),
       omega (arith, g, f, e, d, h, b, a),
     )
 

@@ -30,14 +30,17 @@ unfolding saidShown bytes
 returns c =
     let last = c .before .before in
     let first = last .before .before .before .before in
-    (rw (first .before .before .enum-told .given .1) (then (first .put-byte .ensures .0) (last .put-byte2 .ensures .0)), omega (arith, last .put-byte2 .ensures .1, first .put-byte .ensures .1))
+    let p = then (first .put-byte .ensures .0) (last .put-byte2 .ensures .0) in
+    (rw (first .before .before .enum-told .given .1) p, omega (arith, last, first))
 
 same-length-2 : tie.Need-same-length-2
 same-length-2 c = search needs
 
 returns-2 : tie.Need-returns-2
 unfolding saidShown bytes
-returns-2 c = (rw (c .before .before .before .before .before .said .given .1) (c .before .before .put-number .ensures .0), c .before .before .put-number .ensures .1)
+returns-2 c =
+    let p = c .before .before .put-number .ensures in
+    (rw (c .before .before .before .before .before .said .given .1) (p .0), p .1)
 
 pub put-said-spec : {M : Type 1} → statement M
 put-said-spec =

@@ -1,4 +1,5 @@
--- `report::lines::line_end` meets its contract. The invariant: the place reached and the line's bytes from there on come to what is to be shown.
+-- `report::lines::line_end` meets its contract. The invariant: the place reached and the line's bytes from there on come to what is to be
+-- shown.
 use Prim.Native.Nat.{_+_, _-_}
 use mathlib.Core.Path.{_≡_, refl}
 use native.Mathlib.Numerals.{add-one}

@@ -1,0 +1,68 @@
+-- A line's number and place have at most four digits, over plain variables.
+-- Assumes nothing.
+use Prim.Native.Nat.{ℕ, _≤_, _<_}
+use mathlib.Core.List.{List}
+use native.Mathlib.Omega.{arith}
+use lib.Dec.{eqb, leb, lit≤}
+use lib.ListN.{length, take}
+use Rattle.laws.proofs.Cases.{picked}
+use Rattle.format.specs.Opening.{longest, mostElements, elementsIn}
+use Rattle.format.specs.declared.opening.Opened.{Opened}
+use Rattle.format.specs.declared.opening.Opened.the-variants.{Done, TooLong, Bad}
+use Rattle.judge.specs.Verdicts.{dayVerdict, hourVerdict}
+use Rattle.judge.specs.declared.Verdict.{Verdict}
+use Rattle.judge.specs.declared.Verdict.the-variants.{Unsaid, Impossible, Open, Agreed}
+use Rattle.report.specs.Private.{readingBy, Usable}
+use Rattle.strptime.specs.Answers.{showing, refused, finished, done, withHour, withDay, judged, concluded}
+use Rattle.strptime.specs.Answers.{readBy, byElements, unlessLong, elementsReading}
+use Rattle.strptime.specs.Reading.{start, readAll}
+use Rattle.strptime.specs.declared.Day.{Day}
+use Rattle.strptime.specs.declared.Outcome.{Outcome}
+use Rattle.strptime.specs.declared.Outcome.the-variants.{Read, Mismatch, Range, Conflict}
+use Rattle.strptime.specs.declared.Reading.{Reading}
+use Rattle.strptime.specs.declared.State.{State}
+use Rattle.strptime.proofs.Places.{elements-place}
+
+-- ---- a reading's number is at most 10
+module _ (t : State) where
+  hour-number : (d : Day) (v : Verdict) → withHour t d v .number ≤ 10
+  unfolding withHour done showing refused finished
+  hour-number d Unsaid = lit≤ tt
+  hour-number d Impossible = lit≤ tt
+  hour-number d (Open a b) = lit≤ tt
+  hour-number d (Agreed k) = lit≤ tt
+
+  day-number : (v w : Verdict) → withDay t v w .number ≤ 10
+  unfolding withDay showing refused
+  day-number Unsaid w = hour-number _ w
+  day-number Impossible w = lit≤ tt
+  day-number (Open a b) w = lit≤ tt
+  day-number (Agreed k) w = hour-number _ w
+
+  concluded-number : (o : Outcome) → concluded t o .number ≤ 10
+  unfolding concluded judged showing refused
+  concluded-number Read = day-number (dayVerdict (t .facts)) (hourVerdict (t .facts))
+  concluded-number (Mismatch p) = lit≤ tt
+  concluded-number (Range p) = lit≤ tt
+  concluded-number (Conflict p) = lit≤ tt
+
+by-number : (es s : List ℕ) → byElements es s .number ≤ 10
+unfolding byElements readBy showing refused
+by-number es s =
+    let r = readAll es s start in
+    picked (λ (x : Reading). x .number ≤ 10) (eqb (elementsIn mostElements es) (length es))
+    (concluded-number (r .state) (r .outcome)) (lit≤ tt)
+
+elements-number : (es s : List ℕ) → elementsReading es s .number ≤ 10
+unfolding elementsReading unlessLong showing refused
+elements-number es s = picked (λ (x : Reading). x .number ≤ 10) (leb (length s) longest) (by-number es s) (lit≤ tt)
+
+-- ---- its place is at most the most elements
+abbrev Short : Reading → Type 0
+Short r = (r .number < 10000) × (r .place < 10000)
+
+pub short : (o : Opened) (es s : List ℕ) → Usable o es → Short (readingBy o es s)
+unfolding readingBy Usable unlessLong showing refused
+short (Done n) es s u = (omega (arith, elements-number (take n es) s), omega (arith, elements-place (take n es) s))
+short TooLong es s u = (lit≤ tt, lit≤ tt)
+short (Bad p) es s u = picked Short (leb (length s) longest) (lit≤ tt, omega arith) (lit≤ tt, lit≤ tt)
