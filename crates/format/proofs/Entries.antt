@@ -1,16 +1,17 @@
 -- How many entries of a slice are elements, counted at each of its places.
 -- Assumes nothing.
 use Prim.Native.Nat.{ℕ, zero, suc, _+_, _-_, _≤_, _<_, min}
-use mathlib.Core.Bool.{Bool, true, false, not}
+use mathlib.Core.Bool.{Bool, true, false, not, cond, and-eq-true-iff}
 use mathlib.Core.List.{List, [], _∷_}
-use mathlib.Core.Path.{_≡_, refl}
+use mathlib.Core.Path.{_≡_, refl, ap}
 use native.Mathlib.Decide.{decLe}
-use native.Mathlib.Nat.{zero-add, sub-zero, lt-of-not-le}
+use native.Mathlib.Nat.{zero-add, sub-zero, lt-of-not-le, le-of-suc-le-suc}
 use native.Mathlib.Numerals.{add-one}
 use native.Mathlib.Omega.{arith}
 use borrow.Author.Tests.{not-true, not-false}
 use lib.ListN.{length, getD, drop, drop-of-length-le}
 use lib.Seq.{drop-cons}
+use Rattle.laws.specs.Lists.{every}
 use Rattle.format.specs.Opening.{isElement, elementsIn}
 
 none : (n : ℕ) → elementsIn n [] ≡ 0
@@ -42,3 +43,27 @@ module _ (es : List ℕ) (n : ℕ) where
       one-more f =
           let q : n - k ≡ suc (n - (k + 1)) = omega arith in
           rw (q, drop-cons es k 0 (omega arith), ← e, not-false t f, add-one k)
+
+-- where all are elements, all count, as far as they are looked at
+pub all-in : (n : ℕ) (es : List ℕ) → every isElement es ≡ true → length es ≤ n → elementsIn n es ≡ length es
+unfolding elementsIn every
+all-in n [] t h = none n
+all-in zero (e ∷ es) t h = absurd (omega arith)
+all-in (suc n) (e ∷ es) t h =
+    let u = and-eq-true-iff (isElement e) (every isElement es) .0 t in
+    rw (u .0) (ap suc (all-in n es (u .1) (le-of-suc-le-suc h)))
+
+-- what counts is an element and lies within the entries, of which no more than n count
+taken : (t : Bool) (m k : ℕ) → k < cond t (suc m) 0 → (t ≡ true) × (k < suc m)
+taken true m k h = (refl, h)
+taken false m k h = absurd (omega arith)
+
+pub counted : (n : ℕ) (es : List ℕ) (k : ℕ) → k < elementsIn n es → (k < n) × (k < length es) × (isElement (getD es k 0) ≡ true)
+unfolding elementsIn
+counted zero es k h = absurd (omega arith)
+counted (suc n) [] k h = absurd (omega arith)
+counted (suc n) (e ∷ es) zero h = (omega arith, omega arith, taken (isElement e) (elementsIn n es) 0 h .0)
+counted (suc n) (e ∷ es) (suc k) h =
+    let u = taken (isElement e) (elementsIn n es) (suc k) h in
+    let v = counted n es k (omega (arith, u .1)) in
+    (omega (arith, v .0), omega (arith, v .1), v .2)

@@ -23,11 +23,11 @@ same→eq false true t = absurd t
 same→eq false false t = refl
 
 -- all of a list is below n
-abbrev below : ℕ → List ℕ → Bool
+abbrev pub below : ℕ → List ℕ → Bool
 below n [] = true
 below n (a ∷ s) = ltb a n && below n s
 
-among-past : (n : ℕ) (s : List ℕ) → T (below n s) → (b : ℕ) → n ≤ b → among b s ≡ false
+pub among-past : (n : ℕ) (s : List ℕ) → T (below n s) → (b : ℕ) → n ≤ b → among b s ≡ false
 unfolding among
 among-past n [] t b h = refl
 among-past n (a ∷ s) t b h =

@@ -10,6 +10,7 @@ use borrow.Author.Tests.{eqb-true, eqb-false, ne-eqb}
 use lib.Dec.{eqb}
 use lib.ListN.{length, getD, take, length-map}
 use Rattle.laws.specs.Lists.{every}
+use Rattle.laws.proofs.Lists.{each}
 use Rattle.text.specs.Case.{fold}
 use Rattle.text.specs.Names.{namesOf, nameAt, short, goesOn, firstName, orElse, readName, computes}
 use Rattle.text.specs.Distinct.{apart, distinct, shortLength}
@@ -17,7 +18,7 @@ use Rattle.text.specs.declared.names.Names.{Names}
 use Rattle.text.specs.declared.names.Names.the-variants.{Weekdays, Months, Halves}
 use Rattle.text.specs.declared.names.NameRead.{NameRead}
 use Rattle.text.specs.declared.names.NameRead.the-variants.{Found, Nothing}
-use Rattle.text.proofs.Table.{entry, each}
+use Rattle.text.proofs.Table.{entry}
 
 -- ---- any table
 
@@ -53,7 +54,7 @@ module _ (n : List ℕ) (ns : List (List ℕ)) (d : distinct (n ∷ ns) ≡ true
   unfolding distinct
   no-later s g i h =
       let a = and-eq-true-iff (every (apart n) ns) (distinct ns) .0 d .0 in
-      never-both n (getD ns i []) s (each (apart n) ns a i (λ l. absurd (omega arith))) g
+      never-both n (getD ns i []) s (each (apart n) [] ns a i (λ l. absurd (omega arith))) g
 
 -- at most one name of a distinct table goes on in any text
 pub one-at-most : (ns : List (List ℕ)) (s : List ℕ) → distinct ns ≡ true → (i j : ℕ) → i < length ns → j < length ns
@@ -106,7 +107,7 @@ pub short-length : (t : Names) (i : ℕ) → i < length (namesOf t) → length (
 unfolding nameAt
 short-length t i h =
     eqb-true (length (short (nameAt t i))) (shortLength t)
-    (each (λ (n : List ℕ). eqb (length (short n)) (shortLength t)) (namesOf t) (short-lengths t) i
+    (each (λ (n : List ℕ). eqb (length (short n)) (shortLength t)) [] (namesOf t) (short-lengths t) i
     (λ l. absurd (omega arith)))
 
 -- ---- reading

@@ -11,13 +11,14 @@ use lib.ListN.{length, getD, take, drop, set, replicate, length-append, length-t
 use lib.ListN.{drop-of-length-le, List·getD-map}
 use lib.Seq.{sets, drop-cons, take-take, take-append-seam}
 use Rattle.laws.specs.Lists.{every}
+use Rattle.laws.proofs.Lists.{each}
 use Rattle.laws.proofs.Stores.{sets-past}
 use Rattle.text.specs.Case.{fold, lowered}
 use Rattle.text.specs.Names.{namesOf, nameAt, computes}
 use Rattle.text.specs.Rows.{padded, agreeing}
 use Rattle.text.specs.declared.names.Names.{Names}
 use Rattle.text.specs.declared.names.Names.the-variants.{Weekdays, Months, Halves}
-use Rattle.text.proofs.Table.{entry, each}
+use Rattle.text.proofs.Table.{entry}
 
 -- ---- a name in its row
 
@@ -31,7 +32,7 @@ at-most-nine : (t : Names) (i : ℕ) → length (nameAt t i) ≤ 9
 unfolding nameAt
 at-most-nine t i =
     leb-true (length (nameAt t i)) 9
-    (each (λ (n : List ℕ). leb (length n) 9) (namesOf t) (nine-letters t) i (λ l. refl))
+    (each (λ (n : List ℕ). leb (length n) 9) [] (namesOf t) (nine-letters t) i (λ l. refl))
 
 padded-length : (x : List ℕ) → length (padded x) ≡ 9
 unfolding padded

@@ -1,11 +1,9 @@
--- Tables of names: what a table of the code holds that is made of the names one by one, and a test of a whole table at each of its places.
-use Prim.Native.Nat.{ℕ, zero, suc, _≤_, _<_, zero-le, suc-le-suc}
+-- Tables of names: what a table of the code holds that is made of the names one by one.
+use Prim.Native.Nat.{ℕ, zero, suc, _≤_, _<_}
 use mathlib.Core.Path.{_≡_, refl, sym, ap}
-use mathlib.Core.Bool.{Bool, true, and-eq-true-iff}
 use mathlib.Core.List.{List, [], _∷_, map}
 use native.Mathlib.Nat.{le-of-suc-le-suc, not-suc-le-zero}
 use lib.ListN.{length, getD, List·getD-eq-default}
-use Rattle.laws.specs.Lists.{every}
 use Rattle.text.specs.Names.{namesOf}
 use Rattle.text.specs.declared.names.Names.{Names}
 
@@ -17,15 +15,6 @@ module _ {A : Type 0} (f : List ℕ → A) where
 
   pub past : (ns : List (List ℕ)) (i : ℕ) → length ns ≤ i → f [] ≡ f (getD ns i [])
   past ns i h = ap f (sym (List·getD-eq-default ns [] h))
-
--- what stands past the end is the empty name
-pub each : (p : List ℕ → Bool) (ns : List (List ℕ)) → every p ns ≡ true → (i : ℕ) → (length ns ≤ i → p [] ≡ true)
-    → p (getD ns i []) ≡ true
-unfolding every
-each p [] e i h = h zero-le
-each p (n ∷ ns) e zero h = and-eq-true-iff (p n) (every p ns) .0 e .0
-each p (n ∷ ns) e (suc i) h =
-    each p ns (and-eq-true-iff (p n) (every p ns) .0 e .1) i (λ l. h (suc-le-suc l))
 
 -- a place that a test found within a table lies within it, whichever it turns out to be
 pub within : {t u : Names} {n i : ℕ} → n ≡ length (namesOf t) → i < n → t ≡ u → i < length (namesOf u)

@@ -1,0 +1,57 @@
+-- The first bad % of a format lies within it.
+-- Assumes nothing.
+use Prim.Native.Nat.{ℕ, zero, suc, _+_, _-_, _<_}
+use mathlib.Core.List.{List, [], _∷_}
+use mathlib.Core.Path.{_≡_}
+use native.Mathlib.Omega.{arith}
+use lib.ListN.{length}
+use Rattle.format.specs.Conversions.{ownFormat}
+use Rattle.format.specs.Opening.{Ended, Opening, pieceOf, nothing, before, composed, acted, signAt, openFrom, compositeTo, openTo, opening}
+use Rattle.format.specs.Opening.Ended.{Whole, BadAt}
+use Rattle.format.specs.declared.opening.Act.{Act}
+use Rattle.format.specs.declared.opening.Act.the-variants.{Byte, Convert, Open, Refuse}
+use Rattle.format.specs.declared.opening.Sign.{Sign}
+use Rattle.format.specs.declared.opening.Sign.the-variants.{Own, Of}
+
+-- an opening that ended badly ended before n
+unfoldable Before : ℕ → Ended → Type 0
+Before n Whole = Unit {0}
+Before n (BadAt p) = p < n
+
+composed-before : (n : ℕ) (e : List ℕ) (d : Ended) (rest : Opening) → Before n d → Before n (rest .ended)
+    → Before n (composed (record { elements = e; ended = d }) rest .ended)
+unfolding composed before
+composed-before n e Whole rest f g = g
+composed-before n e (BadAt p) rest f g = f
+
+module _ (n : ℕ) (inner : ℕ → ℕ → Opening) (f : (sign c : ℕ) → sign < n → Before n (inner sign c .ended)) (g : Sign) where
+  acted-before : (sign : ℕ) (rest : Opening) → sign < n → Before n (rest .ended) → (a : Act) → Before n (acted inner sign rest a .ended)
+  unfolding acted before nothing Before
+  acted-before sign rest h r (Byte b) = r
+  acted-before sign rest h r (Convert c) = r
+  acted-before sign rest h r (Open c) =
+      let o = inner sign c in
+      composed-before n (o .elements) (o .ended) rest (f sign c h) r
+  acted-before sign rest h r Refuse = h
+
+  open-before : (s : List ℕ) (i past : ℕ) → ((k : ℕ) → k < i + length s → signAt g k < n) → Before n (openFrom inner g i past s .ended)
+  unfolding openFrom nothing Before
+  open-before [] i past h = tt
+  open-before (b ∷ s) i (suc past) h = open-before s (i + 1) past (λ k l. h k (omega arith))
+  open-before (b ∷ s) i zero h =
+      let p = pieceOf b s in
+      acted-before (signAt g i) (openFrom inner g (i + 1) (p .length - 1) s) (h i (omega arith))
+      (open-before s (i + 1) (p .length - 1) (λ k l. h k (omega arith)))
+      (p .act)
+
+composite-before : (depth n sign c : ℕ) → sign < n → Before n (compositeTo depth sign c .ended)
+unfolding compositeTo nothing Before signAt
+composite-before zero n sign c h = h
+composite-before (suc depth) n sign c h =
+    open-before n (compositeTo depth) (composite-before depth n) (Of sign) (ownFormat c) 0 0 (λ k l. h)
+
+pub bad-within : (f : List ℕ) {p : ℕ} → opening f .ended ≡ BadAt p → p < length f
+unfolding opening openTo Before signAt
+bad-within f e =
+    let n = length f in
+    rw e at (open-before n (compositeTo 2) (composite-before 2 n) Own f 0 0 (λ k l. omega arith))
