@@ -6,7 +6,8 @@ use mathlib.Core.Path.{_≡_}
 use native.Mathlib.Omega.{arith}
 use lib.ListN.{length}
 use Rattle.format.specs.Conversions.{ownFormat}
-use Rattle.format.specs.Opening.{Ended, Opening, pieceOf, nothing, before, composed, acted, signAt, openFrom, compositeTo, openTo, opening}
+use Rattle.format.specs.Opening.{Ended, Opening, pieceOf, nothing, before, composed, acted, signAt}
+use Rattle.format.specs.Opening.{openFrom, compositeTo, openTo, opening}
 use Rattle.format.specs.Opening.Ended.{Whole, BadAt}
 use Rattle.format.specs.declared.opening.Act.{Act}
 use Rattle.format.specs.declared.opening.Act.the-variants.{Byte, Convert, Open, Refuse}

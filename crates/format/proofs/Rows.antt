@@ -9,29 +9,30 @@ use lib.Dec.{T, eqb}
 use Rattle.laws.specs.Lists.{every}
 use Rattle.laws.proofs.Cases.{either, picked, clash}
 use Rattle.laws.proofs.Table.{both}
-use Rattle.format.specs.Conversions.{Row, Composite, among, find, rows, conversionOf, isConversion, composites, formatOf, ownFormat, computes}
+use Rattle.format.specs.Conversions.{Row, Composite, among, find, rows, conversionOf, isConversion}
+use Rattle.format.specs.Conversions.{composites, formatOf, ownFormat, computes}
 use Rattle.format.specs.declared.conversions.Conversion.{Conversion}
 use Rattle.format.specs.declared.conversions.Form.{Form}
 use Rattle.format.specs.declared.conversions.Form.the-variants.{Zeros, Blanks, FromSunday, Short, Full, Lower, Unknown}
 
+-- A letter is none of some letters, as a `match` on these says it in its last arm: what held before, and that it is not this one, one after
+-- the other.
+abbrev pub NoneOf : Type 0 → ℕ → List ℕ → Type 0
+NoneOf before c [] = before
+NoneOf before c (a ∷ s) = NoneOf (before × (c ≡ a → ⊥)) c s
+
+earlier : (before : Type 0) (c : ℕ) (s : List ℕ) → NoneOf before c s → before
+earlier before c [] h = h
+earlier before c (a ∷ s) h = earlier (before × (c ≡ a → ⊥)) c s h .0
+
 -- ---- conversions
 
--- A letter stands in none of some rows, as a `match` on their letters says it in its last arm: what held before, and that the letter is
--- none of theirs, one after the other.
-abbrev pub InNone : Type 0 → ℕ → List Row → Type 0
-InNone before c [] = before
-InNone before c (r ∷ rs) = InNone (before × (c ≡ r .letter → ⊥)) c rs
-
-earlier : (before : Type 0) (c : ℕ) (rs : List Row) → InNone before c rs → before
-earlier before c [] h = h
-earlier before c (r ∷ rs) h = earlier (before × (c ≡ r .letter → ⊥)) c rs h .0
-
-pub no-row : (before : Type 0) (c : ℕ) (rs : List Row) → InNone before c rs → find c rs ≡ find c []
+pub no-row : (before : Type 0) (c : ℕ) (rs : List Row) → NoneOf before c (map (λ (r : Row). r .letter) rs) → find c rs ≡ find c []
 unfolding find
 no-row before c [] h = refl
 no-row before c (r ∷ rs) h =
     let both = before × (c ≡ r .letter → ⊥) in
-    rw (ne-eqb c (r .letter) (earlier both c rs h .1)) (no-row both c rs h)
+    rw (ne-eqb c (r .letter) (earlier both c (map (λ (r : Row). r .letter) rs) h .1)) (no-row both c rs h)
 
 -- a test that passes at each row, and at none where the letter stands in no row, passes at what is found
 found-passes : (p : Conversion → Bool) (c : ℕ) (rs : List Row) → T (every (λ (r : Row). p (r .row)) rs)
@@ -42,7 +43,8 @@ found-passes p c (r ∷ rs) t n =
     let u = both (p (r .row)) (every (λ (r : Row). p (r .row)) rs) t in
     either (λ x. T (p x)) (eqb c (r .letter)) (λ e. u .0) (λ e. found-passes p c rs (u .1) (λ f. n (rw e f)))
 
-pub conversion-passes : (p : Conversion → Bool) (c : ℕ) → T (every (λ (r : Row). p (r .row)) rows) → T (p (find c [])) → T (p (conversionOf c))
+pub conversion-passes : (p : Conversion → Bool) (c : ℕ) → T (every (λ (r : Row). p (r .row)) rows) → T (p (find c []))
+    → T (p (conversionOf c))
 unfolding conversionOf
 conversion-passes p c t n = found-passes p c rows t (λ e. n)
 
@@ -63,6 +65,14 @@ conversion-known c e u =
     unfold find in rw u at t
 
 -- ---- composites
+
+pub no-format : (before : Type 0) (c : ℕ) (xs : List Composite) → NoneOf before c (map (λ (x : Composite). x .letter) xs)
+    → formatOf c xs ≡ []
+unfolding formatOf
+no-format before c [] h = refl
+no-format before c (x ∷ xs) h =
+    let both = before × (c ≡ x .letter → ⊥) in
+    rw (ne-eqb c (x .letter) (earlier both c (map (λ (x : Composite). x .letter) xs) h .1)) (no-format both c xs h)
 
 -- a test that passes at each own format, and at the empty one, passes at what is found
 format-passes : (p : List ℕ → Bool) (c : ℕ) (xs : List Composite) → T (every (λ (x : Composite). p (x .format)) xs) → T (p [])

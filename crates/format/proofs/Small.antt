@@ -2,7 +2,7 @@
 -- Assumes nothing.
 use Prim.Native.Nat.{ℕ, _≤_, _<_}
 use mathlib.Core.Bool.{Bool, _&&_}
-use lib.Dec.{T, leb, ltb, leb→le, ltb→lt}
+use lib.Dec.{leb, ltb, leb→le, ltb→lt}
 use Rattle.laws.specs.Lists.{every}
 use Rattle.laws.proofs.Table.{both}
 use Rattle.kinds.specs.Kinds.{kinds}

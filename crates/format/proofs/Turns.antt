@@ -1,7 +1,7 @@
 -- Opening a format one element at a time: the loop's invariant, and what each turn makes of it.
 -- Assumes nothing.
 use Prim.Native.Nat.{ℕ, zero, suc, _+_, _-_, _≤_, _<_}
-use mathlib.Core.List.{List, [], _∷_, _++_}
+use mathlib.Core.List.{List, [], _∷_}
 use mathlib.Core.Path.{_≡_, refl, sym, ap, _∙_}
 use native.Mathlib.Nat.{add-zero}
 use native.Mathlib.Numerals.{add-one}
@@ -12,13 +12,13 @@ use Rattle.laws.proofs.Cases.{clash}
 use Rattle.laws.proofs.Stores.{sets-append}
 use Rattle.format.specs.Conversions.{ownFormat}
 use Rattle.format.specs.Opening.{Ended, Opening, conversionAt, pieceOf, nothing, before, composed, acted, signAt}
-use Rattle.format.specs.Opening.{openFrom, compositeTo, openTo, closed, longest, mostElements}
+use Rattle.format.specs.Opening.{openFrom, compositeTo, openTo, closed, longest}
 use Rattle.format.specs.Opening.Ended.{Whole, BadAt}
-use Rattle.format.specs.Private.{Opens, answered}
+use Rattle.format.specs.Private.{CanOpen, answered}
 use Rattle.format.specs.declared.opening.Act.{Act}
 use Rattle.format.specs.declared.opening.Act.the-variants.{Byte, Convert, Open, Refuse}
 use Rattle.format.specs.declared.opening.Opened.{Opened}
-use Rattle.format.specs.declared.opening.Opened.the-variants.{Done, TooLong, Bad}
+use Rattle.format.specs.declared.opening.Opened.the-variants.{Done, Bad}
 use Rattle.format.specs.declared.opening.Piece.{Piece}
 use Rattle.format.specs.declared.opening.Sign.{Sign}
 use Rattle.format.specs.declared.opening.Sign.the-variants.{Own, Of}
@@ -111,7 +111,8 @@ module _ {xs : List ℕ} {n : ℕ} {ys : List ℕ} {m : ℕ} {t : Opening} where
   stored-one e rest w = record { counts = omega (arith, w .counts); ends = w .ends; contents = rw add-one (w .contents) }
 
   -- a composite that opens to o was stored: r was the answer, and zs is what the slice then holds
-  module _ (o : Opening) {r : Opened} {zs : List ℕ} (inside : Gives r zs xs n o) (rest : Opening) (w : Same xs n (composed o rest) ys m t) where
+  module _ (o : Opening) {r : Opened} {zs : List ℕ} (inside : Gives r zs xs n o) (rest : Opening)
+      (w : Same xs n (composed o rest) ys m t) where
     inner-done : (k : ℕ) → r ≡ Done k → Same zs k rest ys m t
     unfolding before
     inner-done k q =
@@ -174,8 +175,8 @@ module _ {depth : ℕ} {g : Sign} {s : List ℕ} {i : ℕ} {xs : List ℕ} {n : 
           → Going depth g s (i + p .length) zs (n + 1) ys m
       unfolding acted
       stores-conversion {c} {e} q k z =
-          rw (z, k, at)
-          (record { kept = length-set xs n (conversionAt (signAt g i) c) ∙ going .kept; same = stored-one (conversionAt (signAt g i) c) rest (turn q) })
+          let v = conversionAt (signAt g i) c in
+          rw (z, k, at) (record { kept = length-set xs n v ∙ going .kept; same = stored-one v rest (turn q) })
 
       pub refuses : p .act ≡ Refuse → Gives (Bad sign) xs ys m (openTo depth g s)
       unfolding acted closed
@@ -195,7 +196,7 @@ module _ {depth : ℕ} {g : Sign} {s : List ℕ} {i : ℕ} {xs : List ℕ} {n : 
 
         -- its own format is opened one less deep
         module _ (d : depth ≡ 0 → ⊥) {own : List ℕ} (holds : own ≡ ownFormat c) where
-          pub asks : Opens depth g s m → length own ≤ 14 → Opens (depth - 1) (Of sign) own n
+          pub asks : CanOpen depth g s m → length own ≤ 14 → CanOpen (depth - 1) (Of sign) own n
           unfolding signAt
           asks a l =
               let o = compositeTo depth sign c in

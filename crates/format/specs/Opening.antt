@@ -168,5 +168,6 @@ elementsIn (suc n) (e ∷ es) = let more = suc (elementsIn n es) in cond (isElem
 
 -- everything here, for proofs that compute
 unfoldable pub computes : Unit {0}
-unfolding after-E after-O letter paired conversion pieceOf nothing before composed acted signAt openFrom compositeTo openTo opening closed opened openedInto isElement elementsIn
+unfolding after-E after-O letter paired conversion pieceOf nothing before composed acted signAt openFrom
+    compositeTo openTo opening closed opened openedInto isElement elementsIn
 computes = tt

@@ -20,7 +20,7 @@ SetOf set letters = (b : ℕ) → holds set b ≡ among b letters
 
 -- a format can be opened where n elements stand already: it is not too long, nor is the one that holds the composite's %, and the
 -- elements can be counted
-pub record Opens (depth : ℕ) (g : Sign) (s : List ℕ) (n : ℕ) : Type 0 where
+pub record CanOpen (depth : ℕ) (g : Sign) (s : List ℕ) (n : ℕ) : Type 0 where
   pub short : length s ≤ longest
   pub sign : signAt g 0 < longest
   pub few : n + length (openTo depth g s .elements) ≤ mostElements

@@ -6,7 +6,7 @@ ghost use lib.Seq.{sets};
 ghost use Rattle.format.specs.Conversions.{ownFormat};
 ghost use Rattle.format.specs.Opening.{longest, conversionAt, letter, paired, conversion, pieceOf, signAt, openTo};
 ghost use Rattle.format.specs.Opening.{opened, openedInto, mostElements, isElement, elementsIn};
-ghost use Rattle.format.specs.Private.{holds, SetOf, Opens, answered};
+ghost use Rattle.format.specs.Private.{holds, SetOf, CanOpen, answered};
 
 // The most bytes of a format, and of a text.
 pub const LONGEST: usize = 1024;
@@ -193,9 +193,9 @@ fn store(out: &mut [u32], n: usize, e: u32)
     }
 }
 
-// Opens a format, its composites at most `depth` deep: counts its elements from `from` on, and stores those that fit.
+// CanOpen a format, its composites at most `depth` deep: counts its elements from `from` on, and stores those that fit.
 fn open_to(depth: u32, sign: Sign, format: &[u8], out: &mut [u32], from: usize) -> Opened
-    requires { ⌜ Opens depth sign (now format) from ⌝ }
+    requires { ⌜ CanOpen depth sign (now format) from ⌝ }
     ensures { λ r. ⌜ r ≡ answered from (openTo depth sign (now (format .entry))) ⌝ }
     ensures { λ _. ⌜ now (out .exit) ≡ sets (now (out .entry)) from (openTo depth sign (now (format .entry)) .elements) ⌝ }
 {
@@ -239,7 +239,7 @@ fn open_to(depth: u32, sign: Sign, format: &[u8], out: &mut [u32], from: usize) 
     Opened::Done { count: n }
 }
 
-// Opens a format: counts its elements, those before its first bad % or all, and stores as many of them as fit at the front of `out`.
+// CanOpen a format: counts its elements, those before its first bad % or all, and stores as many of them as fit at the front of `out`.
 pub fn open(format: &[u8], out: &mut [u32]) -> Opened
     ensures { λ r. ⌜ r ≡ opened (now (format .entry)) ⌝ }
     ensures { λ _. ⌜ now (out .exit) ≡ openedInto (now (format .entry)) (now (out .entry)) ⌝ }

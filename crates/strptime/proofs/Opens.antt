@@ -1,27 +1,57 @@
 -- What the reading of elements, and the opening of a format, come to in an answer, over plain variables.
 -- Assumes nothing.
-use Prim.Native.Nat.{ℕ}
+use Prim.Native.Nat.{ℕ, _≤_, _<_}
 use mathlib.Core.List.{List}
 use mathlib.Core.Path.{_≡_, sym, ap, _∙_}
-use Rattle.format.specs.Opening.{Whole, BadAt, opening}
-use Rattle.strptime.specs.Answers.{concluded, readBy, readOpened}
+use borrow.Author.Tests.{le-leb, lt-leb, eq-eqb, ne-eqb}
+use lib.ListN.{length}
+use Rattle.format.specs.Opening.{Whole, BadAt, longest, opening, mostElements, elementsIn}
+use Rattle.strptime.specs.Answers.{refused, concluded, readBy, byFormat, byElements, reading, elementsReading}
 use Rattle.strptime.specs.Reading.{start, readAll}
-use Rattle.strptime.specs.declared.Answer.{Answer}
-use Rattle.strptime.specs.declared.Answer.the-variants.{BadConversion}
 use Rattle.strptime.specs.declared.Outcome.{Outcome}
+use Rattle.strptime.specs.declared.Reading.{Reading}
 use Rattle.strptime.specs.declared.Stepped.{Stepped}
 
 -- ---- what the elements' reading comes to
-pub by-outcome : (es s : List ℕ) {r : Stepped} {o : Outcome} {a : Answer} → r ≡ readAll es s start → r .outcome ≡ o → a ≡ concluded (r .state) o → a ≡ readBy es s
+pub by-outcome : (es s : List ℕ) {r : Stepped} {o : Outcome} {a : Reading}
+    → r ≡ readAll es s start → r .outcome ≡ o → a ≡ concluded (r .state) o → a ≡ readBy es s
 unfolding readBy
-by-outcome es s {r} {o} {a} e g h = h ∙ ap (concluded (r .state)) (sym g) ∙ ap (λ (x : Stepped). concluded (x .state) (x .outcome)) e
+by-outcome es s {r} e g h = h ∙ ap (concluded (r .state)) (sym g) ∙ ap (λ (x : Stepped). concluded (x .state) (x .outcome)) e
 
--- ---- how the format was opened: whole, or up to a bad %
-module _ (f s : List ℕ) where
-  pub whole-read : opening f .ended ≡ Whole → readBy (opening f .elements) s ≡ readOpened (opening f) s
-  unfolding readOpened
-  whole-read e = rw e
+-- ---- by a format: 1, 5, 3
+pub format-long : (f s : List ℕ) → longest < length f → refused 1 0 ≡ reading f s
+unfolding reading
+format-long f s h = rw (lt-leb (length f) longest h)
 
-  pub bad-read : {p : ℕ} → opening f .ended ≡ BadAt p → BadConversion p ≡ readOpened (opening f) s
-  unfolding readOpened
-  bad-read e = rw e
+module _ (f s : List ℕ) (h : length f ≤ longest) where
+  pub text-long : longest < length s → refused 5 0 ≡ reading f s
+  unfolding reading
+  text-long l = rw (le-leb (length f) longest h, lt-leb (length s) longest l)
+
+  module _ (l : length s ≤ longest) where
+    read-is : byFormat f s ≡ reading f s
+    unfolding reading
+    read-is = rw (le-leb (length f) longest h, le-leb (length s) longest l)
+
+    pub conversion-bad : {p : ℕ} → opening f .ended ≡ BadAt p → refused 3 p ≡ reading f s
+    unfolding byFormat
+    conversion-bad e = rw e at read-is
+
+    pub format-read : opening f .ended ≡ Whole → readBy (opening f .elements) s ≡ reading f s
+    unfolding byFormat
+    format-read e = rw e at read-is
+
+-- ---- by elements: 5, 3
+module _ (es s : List ℕ) where
+  pub text-long-by : longest < length s → refused 5 0 ≡ elementsReading es s
+  unfolding elementsReading
+  text-long-by l = rw (lt-leb (length s) longest l)
+
+  module _ {n : ℕ} (l : length s ≤ longest) (e : n ≡ elementsIn mostElements es) where
+    pub entry-bad : (n ≡ length es → ⊥) → refused 3 n ≡ elementsReading es s
+    unfolding elementsReading byElements
+    entry-bad d = rw (le-leb (length s) longest l, ← e, ne-eqb n (length es) d)
+
+    pub entries-read : n ≡ length es → readBy es s ≡ elementsReading es s
+    unfolding elementsReading byElements
+    entries-read d = rw (le-leb (length s) longest l, ← e, eq-eqb n (length es) d)

@@ -1,26 +1,27 @@
 -- Places that a reading answers are offsets of its text or its format, or 1 or 2: none is above 1,024.
 -- Assumes nothing.
-use Prim.Native.Nat.{ℕ, _≤_}
+use Prim.Native.Nat.{ℕ, zero, suc, _≤_}
 use mathlib.Core.Bool.{true}
 use mathlib.Core.List.{List, [], _∷_}
 use mathlib.Core.Path.{_≡_, refl}
 use native.Mathlib.Omega.{arith}
 use borrow.Author.Tests.{leb-true}
-use lib.Dec.{leb, lit≤}
+use lib.Dec.{eqb, leb, lit≤}
 use lib.ListN.{length}
 use Rattle.laws.proofs.Cases.{either, picked}
-use Rattle.format.specs.Opening.{Ended, opening, most}
+use Rattle.format.specs.Opening.{Ended, opening, longest, mostElements, isElement, elementsIn}
 use Rattle.format.specs.Opening.Ended.{Whole, BadAt}
 use Rattle.format.proofs.Refused.{bad-within}
 use Rattle.judge.specs.Verdicts.{dayVerdict, hourVerdict}
 use Rattle.judge.specs.declared.Verdict.{Verdict}
 use Rattle.judge.specs.declared.Verdict.the-variants.{Unsaid, Impossible, Open, Agreed}
-use Rattle.strptime.specs.Answers.{done, withHour, withDay, judged, concluded, readBy, readElements, readOpened, reading, placeOf}
+use Rattle.strptime.specs.Answers.{showing, refused, finished, done, withHour, withDay, judged, concluded}
+use Rattle.strptime.specs.Answers.{readBy, byFormat, byElements, reading, elementsReading}
 use Rattle.strptime.specs.Reading.{start, stays, stepOn, isRead, readAll}
-use Rattle.strptime.specs.declared.Answer.{Answer}
 use Rattle.strptime.specs.declared.Day.{Day}
 use Rattle.strptime.specs.declared.Outcome.{Outcome}
 use Rattle.strptime.specs.declared.Outcome.the-variants.{Read, Mismatch, Range, Conflict}
+use Rattle.strptime.specs.declared.Reading.{Reading}
 use Rattle.strptime.specs.declared.State.{State}
 use Rattle.strptime.proofs.Walk.{Placed, Within, step-placed}
 
@@ -31,57 +32,67 @@ all-within (e ∷ es) s t h =
     let w = step-placed e s t h in
     picked (Within s) (isRead (stepOn e s t .outcome)) (all-within es s (stepOn e s t .state) (w .0)) w
 
-module _ (t : State) (h : t .at ≤ most) where
-  hour-place : (d : Day) (v : Verdict) → placeOf (withHour t d v) ≤ most
-  unfolding withHour done placeOf
+module _ (t : State) (h : t .at ≤ longest) where
+  hour-place : (d : Day) (v : Verdict) → withHour t d v .place ≤ longest
+  unfolding withHour done showing refused finished
   hour-place d Unsaid = h
   hour-place d Impossible = lit≤ tt
   hour-place d (Open a b) = lit≤ tt
   hour-place d (Agreed k) = h
 
-  day-place : (v w : Verdict) → placeOf (withDay t v w) ≤ most
-  unfolding withDay placeOf
+  day-place : (v w : Verdict) → withDay t v w .place ≤ longest
+  unfolding withDay showing refused
   day-place Unsaid w = hour-place _ w
   day-place Impossible w = lit≤ tt
   day-place (Open a b) w = lit≤ tt
   day-place (Agreed k) w = hour-place _ w
 
-module _ (s : List ℕ) (short : length s ≤ most) where
-  concluded-place : (t : State) (o : Outcome) → t .at ≤ length s → Placed s o → placeOf (concluded t o) ≤ most
-  unfolding concluded judged placeOf Placed
+module _ (s : List ℕ) (short : length s ≤ longest) where
+  concluded-place : (t : State) (o : Outcome) → t .at ≤ length s → Placed s o → concluded t o .place ≤ longest
+  unfolding concluded judged showing refused Placed
   concluded-place t Read h p = day-place t (omega arith) (dayVerdict (t .facts)) (hourVerdict (t .facts))
   concluded-place t (Mismatch q) h p = omega arith
   concluded-place t (Range q) h p = omega arith
   concluded-place t (Conflict q) h p = omega arith
 
-  by-place : (es : List ℕ) → placeOf (readBy es s) ≤ most
+  by-place : (es : List ℕ) → readBy es s .place ≤ longest
   unfolding readBy start
   by-place es =
       let r = readAll es s start in
       let w = all-within es s start (omega arith) in
       concluded-place (r .state) (r .outcome) (w .0) (w .1)
 
-  opened-place : (f : List ℕ) → length f ≤ most → placeOf (readOpened (opening f) s) ≤ most
-  unfolding readOpened placeOf
-  opened-place f h = go (opening f .ended) refl
+  format-place : (f : List ℕ) → length f ≤ longest → byFormat f s .place ≤ longest
+  unfolding byFormat showing refused
+  format-place f h = go (opening f .ended) refl
     where
-      go : (d : Ended) → opening f .ended ≡ d → placeOf (readOpened (opening f) s) ≤ most
+      go : (d : Ended) → opening f .ended ≡ d → byFormat f s .place ≤ longest
       go Whole e = rw e (by-place (opening f .elements))
       go (BadAt p) e = rw e (omega (arith, bad-within f e))
 
-pub elements-most : (es s : List ℕ) → placeOf (readElements es s) ≤ most
-unfolding readElements placeOf
-elements-most es s =
-    either (λ (a : Answer). placeOf a ≤ most) (leb (length s) most)
-    (λ (e : leb (length s) most ≡ true). by-place s (leb-true (length s) most e) es)
-    (λ _. omega arith)
+pub reading-place : (f s : List ℕ) → reading f s .place ≤ longest
+unfolding reading showing refused
+reading-place f s =
+    either (λ (r : Reading). r .place ≤ longest) (leb (length f) longest)
+    (λ (e : leb (length f) longest ≡ true).
+    either (λ (r : Reading). r .place ≤ longest) (leb (length s) longest)
+    (λ (g : leb (length s) longest ≡ true). format-place s (leb-true (length s) longest g) f (leb-true (length f) longest e))
+    (λ _. lit≤ tt))
+    (λ _. lit≤ tt)
 
-pub reading-most : (f s : List ℕ) → placeOf (reading f s) ≤ most
-unfolding reading placeOf
-reading-most f s =
-    either (λ (a : Answer). placeOf a ≤ most) (leb (length f) most)
-    (λ (e : leb (length f) most ≡ true).
-    either (λ (a : Answer). placeOf a ≤ most) (leb (length s) most)
-    (λ (g : leb (length s) most ≡ true). opened-place s (leb-true (length s) most g) f (leb-true (length f) most e))
-    (λ _. omega arith))
-    (λ _. omega arith)
+elements-most : (n : ℕ) (es : List ℕ) → elementsIn n es ≤ n
+unfolding elementsIn
+elements-most zero es = lit≤ tt
+elements-most (suc n) [] = omega arith
+elements-most (suc n) (e ∷ es) = picked (λ k. k ≤ suc n) (isElement e) (omega (arith, elements-most n es)) (omega arith)
+
+pub elements-place : (es s : List ℕ) → elementsReading es s .place ≤ mostElements
+unfolding elementsReading byElements showing refused
+elements-place es s =
+    let good = elementsIn mostElements es in
+    either (λ (r : Reading). r .place ≤ mostElements) (leb (length s) longest)
+    (λ (e : leb (length s) longest ≡ true).
+    picked (λ (r : Reading). r .place ≤ mostElements) (eqb good (length es))
+    (omega (arith, by-place s (leb-true (length s) longest e) es))
+    (elements-most mostElements es))
+    (λ _. lit≤ tt)

@@ -17,7 +17,7 @@ use Rattle.strptime.specs.declared.elements.Item.{Item}
 use Rattle.strptime.specs.declared.elements.Item.the-variants.{Skip, Fact, NoMatch, OutOfRange}
 use Rattle.text.specs.Digits.{digitRun, readDigits}
 use Rattle.text.specs.Names.{readName}
-use Rattle.text.specs.Naming.{namesFor, valueAt}
+use Rattle.text.specs.Naming.{valueAt}
 use Rattle.text.specs.Space.{isSpace, spaces}
 use Rattle.text.specs.declared.digits.Digits.{Digits}
 use Rattle.text.specs.declared.names.NameRead.{NameRead}
@@ -71,16 +71,16 @@ module _ (c : Conversion) (s : List ℕ) (at : ℕ) {from : ℕ} {d : Digits} (e
       omega (arith, e, n, run-most (min (c .width) 9) (drop from s), length-drop from s, spaces-most (drop at s), length-drop at s)
 
 -- ---- a name
-module _ (c : Conversion) (s : List ℕ) (at : ℕ) {t : Names} {r : NameRead} (g : t ≡ namesFor (c .kind)) (e : r ≡ readName t (drop at s)) where
-  name-is : {x : NameRead} → r ≡ x → named (c .kind) x at ≡ readNamed c s at
+module _ (t : Names) (c : Conversion) (s : List ℕ) (at : ℕ) {r : NameRead} (e : r ≡ readName t (drop at s)) where
+  name-is : {x : NameRead} → r ≡ x → named t (c .kind) x at ≡ readNamed t c s at
   unfolding readNamed
-  name-is f = ap (λ (x : NameRead). named (c .kind) x at) (sym f ∙ e ∙ ap (λ (t : Names). readName t (drop at s)) g)
+  name-is f = ap (λ (x : NameRead). named t (c .kind) x at) (sym f ∙ e)
 
-  pub name-found : (i n : ℕ) {v : ℕ} → r ≡ Found i n → v ≡ valueAt (c .kind) i → Fact (c .kind) v at (at + n) ≡ readNamed c s at
+  pub name-found : (i n : ℕ) {v : ℕ} → r ≡ Found i n → v ≡ valueAt t i → Fact (c .kind) v at (at + n) ≡ readNamed t c s at
   unfolding named
   name-found i n f h = rw h (name-is f)
 
-  pub name-none : r ≡ Nothing → NoMatch at ≡ readNamed c s at
+  pub name-none : r ≡ Nothing → NoMatch at ≡ readNamed t c s at
   unfolding named
   name-none f = name-is f
 

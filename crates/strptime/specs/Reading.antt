@@ -22,6 +22,10 @@ unsaid = record { said = replicate kinds 0 }
 unfoldable pub start : State
 start = record { facts = unsaid; at = 0 }
 
+-- a reading with what was said so far, at an offset of the text
+abbrev pub here : List ℕ → ℕ → State
+here said at = record { facts = record { said = said }; at = at }
+
 -- a reading that goes on, and one that is refused and stays where it was
 unfoldable pub goes : Facts → ℕ → Stepped
 goes f at = record { state = record { facts = f; at = at }; outcome = Read }

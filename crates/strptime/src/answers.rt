@@ -2,18 +2,21 @@
 use crate::Answer;
 use crate::Day;
 use crate::Outcome;
+use crate::Reading;
 use crate::Said;
+use crate::Shown;
 use crate::State;
-use crate::reading::read_all;
+use crate::steps::read_all;
 use calendar::Date;
 use calendar::FromNumber;
+use format::LONGEST;
 use format::MIDDLE_BYTES;
 use format::MIDDLE_ELEMENTS;
-use format::MOST_BYTES;
 use format::MOST_ELEMENTS;
 use format::Opened;
 use format::SHORT_BYTES;
 use format::SHORT_ELEMENTS;
+use format::elements_in;
 use format::open;
 use judge::Verdict;
 use judge::judge_day;
@@ -22,9 +25,64 @@ ghost use mathlib.Core.Path.{_≡_};
 ghost use Prim.Native.Nat.{_*_, _≤_, _<_};
 ghost use lib.ListN.{length};
 ghost use Rattle.calendar.specs.Calendar.{days, dateOf};
-ghost use Rattle.format.specs.Opening.{opening};
+ghost use Rattle.format.specs.Opening.{longest};
 ghost use Rattle.judge.specs.Verdicts.{hourVerdict};
-ghost use Rattle.strptime.specs.Answers.{saidOf, done, withHour, judged, readBy, readElements, readOpened, reading};
+ghost use Rattle.strptime.specs.Answers.{showing, refused, readingOf, saidOf, done, withHour, judged, readBy};
+ghost use Rattle.strptime.specs.Answers.{elementsReading, reading};
+
+// A number and a place, and what is shown; all else is unsaid.
+fn showing(number: u32, place: usize, shown: Shown) -> Reading
+    ensures { λ r. ⌜ r ≡ showing number place shown ⌝ }
+{
+    Reading {
+        number,
+        place,
+        day: Day::NoDate,
+        hour: Said::Unsaid,
+        minute: Said::Unsaid,
+        second: Said::Unsaid,
+        shown,
+    }
+}
+
+fn refused(number: u32, place: usize) -> Reading
+    ensures { λ r. ⌜ r ≡ refused number place ⌝ }
+{
+    showing(number, place, Shown::Nothing)
+}
+
+// The paper's number, place and values for each answer.
+pub fn reading_of(answer: Answer) -> Reading
+    ensures { λ r. ⌜ r ≡ readingOf answer ⌝ }
+{
+    match answer {
+        Answer::Done {
+            unread,
+            day,
+            hour,
+            minute,
+            second,
+        } => Reading {
+            number: 0,
+            place: unread,
+            day,
+            hour,
+            minute,
+            second,
+            shown: Shown::Nothing,
+        },
+        Answer::FormatTooLong => refused(1, 0),
+        Answer::TextTooLong => refused(5, 0),
+        Answer::BadConversion { at } => refused(3, at),
+        Answer::NoMatch { at } => refused(6, at),
+        Answer::OutOfRange { at } => refused(7, at),
+        Answer::Contradiction { at } => refused(8, at),
+        Answer::NoDay => refused(9, 1),
+        Answer::NoHour => refused(9, 2),
+        Answer::OpenDay { first, second } => showing(10, 1, Shown::Days { first, second }),
+        Answer::OpenHour { first, second } => showing(10, 2, Shown::Hours { first, second }),
+    }
+}
 
 fn said_of(s: u32) -> Said
     ensures { λ r. ⌜ r ≡ saidOf s ⌝ }
@@ -35,99 +93,123 @@ fn said_of(s: u32) -> Said
     Said::Is(s - 1)
 }
 
-// The date of a day number that the search found.
-fn date_of(number: u32) -> Date
-    requires { ⌜ (0 < number) × (number ≤ days) ⌝ }
-    ensures { λ r. ⌜ r ≡ dateOf number ⌝ }
-{
-    match Date::from_day_number(number) {
-        FromNumber::Day(date) => date,
-        FromNumber::Outside => Date::FIRST,
-    }
-}
-
 fn done(state: State, day: Day, hour: Said) -> Answer
-    ensures { λ r. ⌜ r ≡ done state day hour ⌝ }
+    ensures { λ r. ⌜ readingOf r ≡ done state day hour ⌝ }
 {
     let facts = state.facts;
     let said = facts.said;
-    Answer::Done(state.at, day, hour, said_of(said[16]), said_of(said[17]))
+    Answer::Done {
+        unread: state.at,
+        day,
+        hour,
+        minute: said_of(said[kinds::MINUTE as usize]),
+        second: said_of(said[kinds::SECOND as usize]),
+    }
 }
 
 fn with_hour(state: State, day: Day) -> Answer
-    ensures { λ r. ⌜ r ≡ withHour state day (hourVerdict (state .facts)) ⌝ }
+    ensures { λ r. ⌜ readingOf r ≡ withHour state day (hourVerdict (state .facts)) ⌝ }
 {
     match judge_hour(state.facts) {
         Verdict::Unsaid => done(state, day, Said::Unsaid),
         Verdict::Impossible => Answer::NoHour,
-        Verdict::Open {
-            first: a,
-            second: b,
-        } => Answer::OpenHour(a, b),
+        Verdict::Open { first, second } => Answer::OpenHour { first, second },
         Verdict::Agreed(hour) => done(state, day, Said::Is(hour)),
     }
 }
 
+// The one day that agrees, by its number. A number of no day is refused; the search gives none.
+fn with_day(state: State, number: u32) -> Answer
+    requires { ⌜ (0 < number) × (number ≤ days) ⌝ }
+    ensures { λ r. ⌜ readingOf r ≡ withHour state (Day.On (dateOf number)) (hourVerdict (state .facts)) ⌝ }
+{
+    let FromNumber::Day(date) = Date::from_day_number(number) else {
+        return Answer::NoDay;
+    };
+    with_hour(state, Day::On(date))
+}
+
+// The first two days that agree, in the same way.
+fn open_day(first: u32, second: u32) -> Answer
+    requires { ⌜ (0 < first) × (first ≤ days) ⌝ }
+    requires { ⌜ (0 < second) × (second ≤ days) ⌝ }
+    ensures { λ r. ⌜ readingOf r ≡ showing 10 1 (Shown.Days (dateOf first) (dateOf second)) ⌝ }
+{
+    let FromNumber::Day(first) = Date::from_day_number(first) else {
+        return Answer::NoDay;
+    };
+    let FromNumber::Day(second) = Date::from_day_number(second) else {
+        return Answer::NoDay;
+    };
+    Answer::OpenDay { first, second }
+}
+
 fn judged(state: State) -> Answer
-    ensures { λ r. ⌜ r ≡ judged state ⌝ }
+    ensures { λ r. ⌜ readingOf r ≡ judged state ⌝ }
 {
     match judge_day(state.facts) {
         Verdict::Unsaid => with_hour(state, Day::NoDate),
         Verdict::Impossible => Answer::NoDay,
-        Verdict::Open {
-            first: a,
-            second: b,
-        } => Answer::OpenDay(date_of(a), date_of(b)),
-        Verdict::Agreed(day) => with_hour(state, Day::On(date_of(day))),
+        Verdict::Open { first, second } => open_day(first, second),
+        Verdict::Agreed(day) => with_day(state, day),
     }
 }
 
+// Reads a text by elements that opening a format stored.
 fn read_by(elements: &[u32], s: &[u8]) -> Answer
-    ensures { λ r. ⌜ r ≡ readBy (now (elements .entry)) (now (s .entry)) ⌝ }
+    ensures { λ r. ⌜ readingOf r ≡ readBy (now (elements .entry)) (now (s .entry)) ⌝ }
 {
     let stepped = read_all(elements, s);
     let outcome = stepped.outcome;
     match outcome {
         Outcome::Read => judged(stepped.state),
-        Outcome::Mismatch(p) => Answer::NoMatch(p),
-        Outcome::Range(p) => Answer::OutOfRange(p),
-        Outcome::Conflict(p) => Answer::Contradiction(p),
+        Outcome::Mismatch { at } => Answer::NoMatch { at },
+        Outcome::Range { at } => Answer::OutOfRange { at },
+        Outcome::Conflict { at } => Answer::Contradiction { at },
     }
 }
 
 // Reads a text by the elements of a format that was opened before.
 pub fn read_elements(elements: &[u32], text: &[u8]) -> Answer
-    ensures { λ r. ⌜ r ≡ readElements (now (elements .entry)) (now (text .entry)) ⌝ }
+    ensures { λ r. ⌜ readingOf r ≡ elementsReading (now (elements .entry)) (now (text .entry)) ⌝ }
 {
-    if MOST_BYTES < text.len() {
+    if LONGEST < text.len() {
         return Answer::TextTooLong;
+    }
+    let good = elements_in(elements);
+    if good != elements.len() {
+        return Answer::BadConversion { at: good };
     }
     read_by(elements, text)
 }
 
 // Opens the format into `room`, which has space for all its elements, and reads.
 fn read_opened(format: &[u8], text: &[u8], room: &mut [u32]) -> Answer
-    requires { ⌜ 13 * length (now format) ≤ 2 * length (now room) ⌝ }
-    ensures { λ r. ⌜ r ≡ readOpened (opening (now (format .entry))) (now (text .entry)) ⌝ }
+    requires { ⌜ (length (now format) ≤ longest → 13 * length (now format) ≤ 2 * length (now room)) ⌝ }
+    ensures { λ r. ⌜ readingOf r ≡ reading (now (format .entry)) (now (text .entry)) ⌝ }
 {
     match open(format, room) {
-        Opened::Done(n) => read_by(&room[..n], text),
-        Opened::Bad(p) => Answer::BadConversion(p),
-        Opened::Full => Answer::FormatTooLong,
+        Opened::TooLong => Answer::FormatTooLong,
+        Opened::Bad { at } => {
+            if LONGEST < text.len() {
+                return Answer::TextTooLong;
+            }
+            Answer::BadConversion { at }
+        }
+        Opened::Done { count } => {
+            if LONGEST < text.len() {
+                return Answer::TextTooLong;
+            }
+            read_by(&room[..count], text)
+        }
     }
 }
 
 // Reads a text by a format: the day and hour that all its facts fix, or the refusal with its place. The format is opened into the smallest
 // of three arrays that has room for it.
 pub fn strptime(format: &[u8], text: &[u8]) -> Answer
-    ensures { λ r. ⌜ r ≡ reading (now (format .entry)) (now (text .entry)) ⌝ }
+    ensures { λ r. ⌜ readingOf r ≡ reading (now (format .entry)) (now (text .entry)) ⌝ }
 {
-    if MOST_BYTES < format.len() {
-        return Answer::FormatTooLong;
-    }
-    if MOST_BYTES < text.len() {
-        return Answer::TextTooLong;
-    }
     if format.len() <= SHORT_BYTES {
         let mut elements = [0; SHORT_ELEMENTS];
         return read_opened(format, text, &mut elements);

@@ -4,13 +4,11 @@ use judge::Facts;
 
 mod answers;
 mod elements;
-mod numbers;
-mod reading;
+mod steps;
 
 pub use answers::read_elements;
+pub use answers::reading_of;
 pub use answers::strptime;
-pub use numbers::number_of;
-pub use numbers::place_of;
 
 // Where a reading stands: the facts so far, and the first unread offset of the text.
 pub struct State {
@@ -21,9 +19,9 @@ pub struct State {
 // How the reading of elements went: all are read, or one is refused, with its place.
 pub enum Outcome {
     Read,
-    Mismatch(usize),
-    Range(usize),
-    Conflict(usize),
+    Mismatch { at: usize },
+    Range { at: usize },
+    Conflict { at: usize },
 }
 
 pub struct Stepped {
@@ -43,18 +41,56 @@ pub enum Said {
     Is(u32),
 }
 
-// The answer to a reading: done, then the refusals 1, 5, 3, 6, 7, 8 in the order in which they are judged, then 9 and 10, each for the day and for the
-// hour. The day is judged before the hour.
+// The first two days, or hours, of an open reading.
+pub enum Shown {
+    Nothing,
+    Days { first: Date, second: Date },
+    Hours { first: u32, second: u32 },
+}
+
+// The answer to a reading: done, then the refusals 1, 5, 3, 6, 7, 8 in the order in which they are judged, then 9 and 10, each for the day and
+// for the hour. The day is judged before the hour.
 pub enum Answer {
-    Done(usize, Day, Said, Said, Said),
+    Done {
+        unread: usize,
+        day: Day,
+        hour: Said,
+        minute: Said,
+        second: Said,
+    },
     FormatTooLong,
     TextTooLong,
-    BadConversion(usize),
-    NoMatch(usize),
-    OutOfRange(usize),
-    Contradiction(usize),
+    BadConversion {
+        at: usize,
+    },
+    NoMatch {
+        at: usize,
+    },
+    OutOfRange {
+        at: usize,
+    },
+    Contradiction {
+        at: usize,
+    },
     NoDay,
     NoHour,
-    OpenDay(Date, Date),
-    OpenHour(u32, u32),
+    OpenDay {
+        first: Date,
+        second: Date,
+    },
+    OpenHour {
+        first: u32,
+        second: u32,
+    },
+}
+
+// An answer in the paper's number, place and values.
+pub struct Reading {
+    pub number: u32,
+    pub place: usize,
+    pub day: Day,
+    pub hour: Said,
+    pub minute: Said,
+    pub second: Said,
+    pub shown: Shown,
 }

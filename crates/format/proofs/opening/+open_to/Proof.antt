@@ -1,8 +1,8 @@
--- The proof of the cycle of calls {open_to}: each way through the loop is a turn of `proofs/Turns.antt`. The measure is the remaining depth,
--- and that of the loop what is left of the format.
+-- The proof of the cycle of calls {open_to}: each way through the loop is a turn of `proofs/Turns.antt`. The measure is the remaining
+-- depth, and that of the loop what is left of the format.
 use Prim.Native.Nat.{ℕ, _+_, _<_, _≤_, _-_}
 use mathlib.Core.List.{[], _∷_}
-use mathlib.Core.Path.{_≡_, sym, _∙_}
+use mathlib.Core.Path.{sym, _∙_}
 use native.Mathlib.Omega.{arith}
 use borrow.Author.Needs.{needs}
 use borrow.Fn.Kinds.{In}
@@ -79,7 +79,9 @@ loop-again : (t : ℕ) → open-to-lts.Need-loop-again (callees t) (given t) ope
 loop-again t c =
     let a = c .before .before .before .before .before in
     let p = a .before .before .before in
-    stores-byte (p .before .before .loop .inv) (p .before .loop-test .taken) (p .piece-at .ensures) (a .act .given .1) (c .before .before .store .ensures)
+    stores-byte (p .before .before .loop .inv) (p .before .loop-test .taken) (p .piece-at .ensures)
+    (a .act .given .1)
+    (c .before .before .store .ensures)
 
 loop-less : (t : ℕ) → open-to-lts.Need-loop-less (callees t) (given t) open-to.Post Inv-loop μ-loop
 loop-less t c = omega (arith, passed t (c .before .before .before .before .before .before .before .before))
@@ -120,7 +122,10 @@ returns : (t : ℕ) → open-to-lts.Need-returns (callees t) (given t) open-to.P
 returns t c =
     let a = c .before .before .before in
     let p = a .before .before .before in
-    too-deep (p .before .before .loop .inv) (p .before .loop-test .taken) (p .piece-at .ensures) (c .before .sign-at2 .ensures) (a .act3 .given .1) (c .if1 .taken)
+    too-deep (p .before .before .loop .inv) (p .before .loop-test .taken) (p .piece-at .ensures)
+    (c .before .sign-at2 .ensures)
+    (a .act3 .given .1)
+    (c .if1 .taken)
 
 open-to-requires : (t : ℕ) → open-to-lts.Need-open-to-requires (callees t) (given t) open-to.Post Inv-loop μ-loop
 open-to-requires t c κs =
@@ -128,13 +133,17 @@ open-to-requires t c κs =
     let d = w .before in
     let a = d .before .before .before in
     let p = a .before .before .before in
-    let s = p .before .before .before .before .before in (
+    let s = p .before .before .before .before .before in
+    let own = w .own-format in
+    let long = length-take-le (own .result .1) (own .result .0) (omega (arith, own .ensures)) in (
       omega (arith, s .pre .0),
-      asks (p .before .before .loop .inv) (p .before .loop-test .taken) (p .piece-at .ensures) (d .before .sign-at2 .ensures) (a .act3 .given .1)
+      asks (p .before .before .loop .inv) (p .before .loop-test .taken) (p .piece-at .ensures)
+          (d .before .sign-at2 .ensures)
+          (a .act3 .given .1)
           (d .if1 .left)
-          (w .own-format .ensures .2)
+          (own .ensures .2)
           (s .pre .1)
-          (omega (arith, length-take-le (w .own-format .result .1) (w .own-format .result .0) (omega (arith, w .own-format .ensures)), w .own-format .ensures)),
+          (omega (arith, long, own .ensures)),
     )
 
 returns-2 : (t : ℕ) → open-to-lts.Need-returns-2 (callees t) (given t) open-to.Post Inv-loop μ-loop
@@ -144,7 +153,9 @@ returns-2 t c =
     let d = w .before in
     let a = d .before .before .before in
     let p = a .before .before .before in
-    opens-bad (p .before .before .loop .inv) (p .before .loop-test .taken) (p .piece-at .ensures) (d .before .sign-at2 .ensures) (a .act3 .given .1)
+    opens-bad (p .before .before .loop .inv) (p .before .loop-test .taken) (p .piece-at .ensures)
+    (d .before .sign-at2 .ensures)
+    (a .act3 .given .1)
     (d .if1 .left)
     (w .own-format .ensures .2)
     (o .open-to .ensures)
@@ -153,7 +164,8 @@ returns-2 t c =
 same-length-2 : (t : ℕ) → open-to-lts.Need-same-length-2 (callees t) (given t) open-to.Post Inv-loop μ-loop
 same-length-2 t c =
     let o = c .before .before .before in
-    o .open-to .kept .1 .1 .1 .0 ∙ o .before .before .before .before .before .before .before .before .before .before .before .before .before .loop .inv .kept
+    let p = o .before .before .before .before .before .before .before .before .before .before .before in
+    o .open-to .kept .1 .1 .1 .0 ∙ p .before .before .loop .inv .kept
 
 loop-again-3 : (t : ℕ) → open-to-lts.Need-loop-again-3 (callees t) (given t) open-to.Post Inv-loop μ-loop
 loop-again-3 t c =
@@ -162,7 +174,9 @@ loop-again-3 t c =
     let d = w .before in
     let a = d .before .before .before in
     let p = a .before .before .before in
-    opens (p .before .before .loop .inv) (p .before .loop-test .taken) (p .piece-at .ensures) (d .before .sign-at2 .ensures) (a .act3 .given .1)
+    opens (p .before .before .loop .inv) (p .before .loop-test .taken) (p .piece-at .ensures)
+    (d .before .sign-at2 .ensures)
+    (a .act3 .given .1)
     (d .if1 .left)
     (w .own-format .ensures .2)
     (o .open-to .ensures)
@@ -178,7 +192,9 @@ loop-less-3 t c =
 returns-3 : (t : ℕ) → open-to-lts.Need-returns-3 (callees t) (given t) open-to.Post Inv-loop μ-loop
 returns-3 t c =
     let p = c .before .before .before .before in
-    refuses (p .before .before .loop .inv) (p .before .loop-test .taken) (p .piece-at .ensures) (c .sign-at3 .ensures) (c .before .enum-told .given .1)
+    refuses (p .before .before .loop .inv) (p .before .loop-test .taken) (p .piece-at .ensures)
+    (c .sign-at3 .ensures)
+    (c .before .enum-told .given .1)
 
 returns-4 : (t : ℕ) → open-to-lts.Need-returns-4 (callees t) (given t) open-to.Post Inv-loop μ-loop
 returns-4 t c = finished (c .before .loop .inv) (c .loop-test .left)

@@ -58,7 +58,8 @@ returns-3 c =
 returns-4 : tie.Need-returns-4
 returns-4 c =
     let m = c .before in
-    rw (conversion-some _ (m .before .before .if1 .left), ne-eqb _ 69 (m .match .rest .0 .1), ne-eqb _ 79 (m .match .rest .1), ← c .letter .ensures)
+    let r = m .match .rest in
+    rw (conversion-some _ (m .before .before .if1 .left), ne-eqb _ 69 (r .0 .1), ne-eqb _ 79 (r .1), ← c .letter .ensures)
 
 pub conversion-spec : {M : Type 1} → statement M
 conversion-spec =

@@ -1,5 +1,6 @@
--- `format::opening::elements_in` meets its contract. The invariant: the entries passed and the elements from here on come to what is to be shown.
-use Prim.Native.Nat.{_+_, _-_, _≤_, min}
+-- `format::opening::elements_in` meets its contract. The invariant: the entries passed and the elements from here on come to what
+-- is to be shown.
+use Prim.Native.Nat.{_+_, _-_, min}
 use mathlib.Core.Path.{_≡_}
 use native.Mathlib.Omega.{arith}
 use lib.ListN.{length, drop}

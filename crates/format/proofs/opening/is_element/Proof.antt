@@ -1,4 +1,5 @@
--- `format::opening::is_element` meets its contract: the definition makes the same tests, and the set of the code is that of the rows' letters.
+-- `format::opening::is_element` meets its contract: the definition makes the same tests, and the set of the code is that of the
+-- rows' letters.
 use mathlib.Core.Bool.{and-true, and-false}
 use mathlib.Core.Path.{_≡_}
 use borrow.Author.Needs.{needs}

@@ -35,8 +35,8 @@ unfolding letter
 returns-2 c =
     let p = c .before .before in
     let r = p .before .before .match .rest in
-    rw
-    (ne-eqb _ 110 (r .0 .0 .1), ne-eqb _ 116 (r .0 .1), ne-eqb _ 37 (r .1), ← composites (p .before), p .if1 .left, ← conversions (c .before), c .if2 .taken)
+    rw (ne-eqb _ 110 (r .0 .0 .1), ne-eqb _ 116 (r .0 .1), ne-eqb _ 37 (r .1))
+    (rw (← composites (p .before), p .if1 .left, ← conversions (c .before), c .if2 .taken))
 
 returns-3 : tie.Need-returns-3
 unfolding letter
@@ -55,8 +55,8 @@ unfolding letter
 returns-6 c =
     let p = c .before .before in
     let r = p .before .before .match .rest in
-    rw
-    (ne-eqb _ 110 (r .0 .0 .1), ne-eqb _ 116 (r .0 .1), ne-eqb _ 37 (r .1), ← composites (p .before), p .if1 .left, ← conversions (c .before), c .if2 .left)
+    rw (ne-eqb _ 110 (r .0 .0 .1), ne-eqb _ 116 (r .0 .1), ne-eqb _ 37 (r .1))
+    (rw (← composites (p .before), p .if1 .left, ← conversions (c .before), c .if2 .left))
 
 pub letter-spec : {M : Type 1} → statement M
 letter-spec =

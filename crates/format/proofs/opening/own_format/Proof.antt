@@ -1,8 +1,8 @@
 -- `format::opening::own_format` meets its contract: each arm of the `match` holds the bytes of its letter's format.
-use mathlib.Core.Path.{refl}
-use borrow.Author.Tests.{ne-eqb}
+use mathlib.Core.Path.{refl, sym}
 use lib.Dec.{lit≤}
-use Rattle.format.specs.Conversions.{computes}
+use Rattle.format.specs.Conversions.{composites, computes}
+use Rattle.format.proofs.Rows.{no-format}
 use Rattle.format.proofs.opening.own_format.Statement.{statement}
 use Rattle.format.proofs.opening.own_format.Tie as tie
 
@@ -12,13 +12,7 @@ returns c = (refl, lit≤ tt, rw (c .before .before .match .keys1))
 
 returns-9 : tie.Need-returns-9
 unfolding computes
-returns-9 c =
-    let r = c .before .before .match .rest in (
-      refl,
-      lit≤ tt,
-      rw
-          (ne-eqb _ 99 (r .0 .0 .0 .0 .0 .0 .0 .1), ne-eqb _ 120 (r .0 .0 .0 .0 .0 .0 .1), ne-eqb _ 88 (r .0 .0 .0 .0 .0 .1), ne-eqb _ 68 (r .0 .0 .0 .0 .1), ne-eqb _ 70 (r .0 .0 .0 .1), ne-eqb _ 82 (r .0 .0 .1), ne-eqb _ 84 (r .0 .1), ne-eqb _ 114 (r .1)),
-    )
+returns-9 c = (refl, lit≤ tt, sym (no-format Unit _ composites (c .before .before .match .rest)))
 
 pub own-format-spec : {M : Type 1} → statement M
 unfolding computes

@@ -1,14 +1,26 @@
 -- `strptime::answers::done` meets its contract. Assumes nothing.
 use borrow.Author.Needs.{needs}
-use Rattle.strptime.specs.Answers.{done}
+use Rattle.strptime.specs.Answers.{readingOf, done}
 use Rattle.strptime.proofs.answers.done.Statement.{statement}
 use Rattle.strptime.proofs.answers.done.Tie as tie
+
+cast-said-of : tie.Need-cast-said-of
+cast-said-of c = search needs
+
+mul-said-of : tie.Need-mul-said-of
+mul-said-of c = search needs
 
 array-read-said-of : tie.Need-array-read-said-of
 array-read-said-of c = search needs
 
 said-of-requires : tie.Need-said-of-requires
 said-of-requires c κs = search needs
+
+cast-said-of-2 : tie.Need-cast-said-of-2
+cast-said-of-2 c = search needs
+
+mul-said-of-2 : tie.Need-mul-said-of-2
+mul-said-of-2 c = search needs
 
 array-read-said-of-2 : tie.Need-array-read-said-of-2
 array-read-said-of-2 c = search needs
@@ -17,10 +29,19 @@ said-of-requires-2 : tie.Need-said-of-requires-2
 said-of-requires-2 c κs = search needs
 
 returns : tie.Need-returns
-unfolding done
+unfolding readingOf done
 returns c = rw (← c .before .said-of .ensures, ← c .said-of2 .ensures)
 
 pub done-spec : {M : Type 1} → statement M
 done-spec =
     tie.close
-    (tie.spec array-read-said-of said-of-requires array-read-said-of-2 said-of-requires-2 returns)
+    (tie.spec
+    cast-said-of
+    mul-said-of
+    array-read-said-of
+    said-of-requires
+    cast-said-of-2
+    mul-said-of-2
+    array-read-said-of-2
+    said-of-requires-2
+    returns)

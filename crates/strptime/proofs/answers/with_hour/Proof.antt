@@ -1,6 +1,6 @@
 -- `strptime::answers::with_hour` meets its contract. Assumes nothing.
 use borrow.Author.Needs.{needs}
-use Rattle.strptime.specs.Answers.{withHour}
+use Rattle.strptime.specs.Answers.{readingOf, withHour}
 use Rattle.strptime.proofs.answers.with_hour.Statement.{statement}
 use Rattle.strptime.proofs.answers.with_hour.Tie as tie
 
@@ -16,8 +16,8 @@ done-requires c κs = search needs
 enum-told-2 : tie.Need-enum-told-2
 enum-told-2 c = search needs
 
-enum-known-a : tie.Need-enum-known-a
-enum-known-a c = search needs
+enum-known-first : tie.Need-enum-known-first
+enum-known-first c = search needs
 
 enum-known-hour : tie.Need-enum-known-hour
 enum-known-hour c = search needs
@@ -30,12 +30,12 @@ unfolding withHour
 returns c = rw (← c .before .before .before .judge-hour .ensures, c .before .enum-told .given .1) (c .done .ensures)
 
 returns-2 : tie.Need-returns-2
-unfolding withHour
+unfolding readingOf withHour
 returns-2 c = rw (← c .before .before .judge-hour .ensures, c .enum-told2 .given .1)
 
 returns-3 : tie.Need-returns-3
-unfolding withHour
-returns-3 c = rw (← c .before .before .before .judge-hour .ensures, c .before .a .given .1)
+unfolding readingOf withHour
+returns-3 c = rw (← c .before .before .before .judge-hour .ensures, c .before .first .given .1)
 
 returns-4 : tie.Need-returns-4
 unfolding withHour
@@ -49,7 +49,7 @@ with-hour-spec =
     enum-told
     done-requires
     enum-told-2
-    enum-known-a
+    enum-known-first
     enum-known-hour
     done-requires-2
     returns

@@ -1,12 +1,9 @@
 -- `strptime::elements::read_byte` meets its contract. Assumes nothing.
-use native.Mathlib.Omega.{arith}
 use borrow.Author.Needs.{needs}
+use native.Mathlib.Omega.{arith}
 use Rattle.strptime.proofs.Ways.{byte-space, byte-end, byte-other, byte-same}
 use Rattle.strptime.proofs.elements.read_byte.Statement.{statement}
 use Rattle.strptime.proofs.elements.read_byte.Tie as tie
-
-cast-is-space : tie.Need-cast-is-space
-cast-is-space c = search needs
 
 is-space-requires : tie.Need-is-space-requires
 is-space-requires c κs = search needs
@@ -23,29 +20,28 @@ returns-2 c = byte-end _ _ _ (c .before .before .is-space .ensures) (c .before .
 shared-slice-read-if3 : tie.Need-shared-slice-read-if3
 shared-slice-read-if3 c = search needs
 
-cast-if3 : tie.Need-cast-if3
-cast-if3 c = search needs
-
 returns-3 : tie.Need-returns-3
-returns-3 c = byte-other _ _ _ (c .before .before .before .before .is-space .ensures) (c .before .before .before .if1 .left) (omega arith) (c .if3 .taken)
+returns-3 c =
+    let d = c .before .before .before in
+    byte-other _ _ _ (d .before .is-space .ensures) (d .if1 .left) (omega arith) (c .if3 .taken)
 
-add-t7 : tie.Need-add-t7
-add-t7 c = search needs
+add-t6 : tie.Need-add-t6
+add-t6 c = search needs
 
 returns-4 : tie.Need-returns-4
-returns-4 c = byte-same _ _ _ (c .before .before .before .before .is-space .ensures) (c .before .before .before .if1 .left) (omega arith) (c .if3 .left)
+returns-4 c =
+    let d = c .before .before .before in
+    byte-same _ _ _ (d .before .is-space .ensures) (d .if1 .left) (omega arith) (c .if3 .left)
 
 pub read-byte-spec : {M : Type 1} → statement M
 read-byte-spec =
     tie.close
     (tie.spec
-    cast-is-space
     is-space-requires
     skip-space-requires
     returns
     returns-2
     shared-slice-read-if3
-    cast-if3
     returns-3
-    add-t7
+    add-t6
     returns-4)

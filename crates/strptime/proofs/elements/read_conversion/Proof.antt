@@ -1,7 +1,7 @@
 -- `strptime::elements::read_conversion` meets its contract. Assumes nothing.
-use mathlib.Core.Path.{refl, ap, _∙_}
 use borrow.Author.Needs.{needs}
-use Rattle.strptime.specs.Elements.{readForm, fromSunday}
+use mathlib.Core.Path.{refl, ap, _∙_}
+use Rattle.strptime.specs.Elements.{fromSunday, readForm}
 use Rattle.strptime.proofs.Ways.{by-form}
 use Rattle.strptime.proofs.elements.read_conversion.Statement.{statement}
 use Rattle.strptime.proofs.elements.read_conversion.Tie as tie
@@ -27,26 +27,26 @@ read-number-requires-3 c κs = search needs
 from-sunday-requires : tie.Need-from-sunday-requires
 from-sunday-requires c κs = search needs
 
-enum-told-4 : tie.Need-enum-told-4
-enum-told-4 c = search needs
+enum-known-form : tie.Need-enum-known-form
+enum-known-form c = search needs
 
 read-named-requires : tie.Need-read-named-requires
 read-named-requires c κs = search needs
 
-enum-told-5 : tie.Need-enum-told-5
-enum-told-5 c = search needs
+enum-known-form-2 : tie.Need-enum-known-form-2
+enum-known-form-2 c = search needs
 
 read-named-requires-2 : tie.Need-read-named-requires-2
 read-named-requires-2 c κs = search needs
 
-enum-told-6 : tie.Need-enum-told-6
-enum-told-6 c = search needs
+enum-known-form-3 : tie.Need-enum-known-form-3
+enum-known-form-3 c = search needs
 
 read-named-requires-3 : tie.Need-read-named-requires-3
 read-named-requires-3 c κs = search needs
 
-enum-told-7 : tie.Need-enum-told-7
-enum-told-7 c = search needs
+enum-told-4 : tie.Need-enum-told-4
+enum-told-4 c = search needs
 
 returns : tie.Need-returns
 unfolding readForm
@@ -62,19 +62,19 @@ returns-3 c = by-form _ _ _ (c .before .before .enum-told3 .given .1) (c .from-s
 
 returns-4 : tie.Need-returns-4
 unfolding readForm
-returns-4 c = by-form _ _ _ (c .before .enum-told4 .given .1) (c .read-named .ensures)
+returns-4 c = by-form _ _ _ (c .before .before .form .given .1) (c .read-named .ensures)
 
 returns-5 : tie.Need-returns-5
 unfolding readForm
-returns-5 c = by-form _ _ _ (c .before .enum-told5 .given .1) (c .read-named2 .ensures)
+returns-5 c = by-form _ _ _ (c .before .before .form2 .given .1) (c .read-named2 .ensures)
 
 returns-6 : tie.Need-returns-6
 unfolding readForm
-returns-6 c = by-form _ _ _ (c .before .enum-told6 .given .1) (c .read-named3 .ensures)
+returns-6 c = by-form _ _ _ (c .before .before .form3 .given .1) (c .read-named3 .ensures)
 
 returns-7 : tie.Need-returns-7
 unfolding readForm
-returns-7 c = by-form _ _ _ (c .enum-told7 .given .1) refl
+returns-7 c = by-form _ _ _ (c .enum-told4 .given .1) refl
 
 pub read-conversion-spec : {M : Type 1} → statement M
 read-conversion-spec =
@@ -87,13 +87,13 @@ read-conversion-spec =
     enum-told-3
     read-number-requires-3
     from-sunday-requires
-    enum-told-4
+    enum-known-form
     read-named-requires
-    enum-told-5
+    enum-known-form-2
     read-named-requires-2
-    enum-told-6
+    enum-known-form-3
     read-named-requires-3
-    enum-told-7
+    enum-told-4
     returns
     returns-2
     returns-3

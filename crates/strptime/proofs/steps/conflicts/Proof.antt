@@ -2,8 +2,8 @@
 use native.Mathlib.Numerals.{add-one}
 use borrow.Author.Needs.{needs}
 use borrow.Author.Tests.{ne-eqb}
-use Rattle.strptime.proofs.reading.conflicts.Statement.{statement}
-use Rattle.strptime.proofs.reading.conflicts.Tie as tie
+use Rattle.strptime.proofs.steps.conflicts.Statement.{statement}
+use Rattle.strptime.proofs.steps.conflicts.Tie as tie
 
 returns : tie.Need-returns
 returns c = rw (c .if1 .taken)

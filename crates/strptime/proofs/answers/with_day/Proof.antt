@@ -1,0 +1,37 @@
+-- `strptime::answers::with_day` meets its contract. Assumes nothing.
+use borrow.Author.Needs.{needs}
+use native.Mathlib.Omega.{arith}
+use Rattle.strptime.proofs.Days.{day-is, never-outside}
+use Rattle.strptime.proofs.answers.with_day.Statement.{statement}
+use Rattle.strptime.proofs.answers.with_day.Tie as tie
+
+from-day-number-requires : tie.Need-from-day-number-requires
+from-day-number-requires c κs = search needs
+
+enum-known-date : tie.Need-enum-known-date
+enum-known-date c = search needs
+
+enum-told : tie.Need-enum-told
+enum-told c = search needs
+
+returns : tie.Need-returns
+returns c = never-outside (c .before .before .before .args .number) (omega arith) (omega arith) (c .before .before .from-day-number .ensures) (c .enum-told .given .1)
+
+with-hour-requires : tie.Need-with-hour-requires
+with-hour-requires c κs = search needs
+
+returns-2 : tie.Need-returns-2
+returns-2 c =
+    let d = c .before .before in
+    rw (← day-is (d .before .before .before .args .number) (omega arith) (omega arith) (d .before .before .from-day-number .ensures) (d .date .given .1)) (c .with-hour .ensures)
+
+pub with-day-spec : {M : Type 1} → statement M
+with-day-spec =
+    tie.close
+    (tie.spec
+    from-day-number-requires
+    enum-known-date
+    enum-told
+    returns
+    with-hour-requires
+    returns-2)

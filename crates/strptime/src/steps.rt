@@ -1,0 +1,101 @@
+// Reading the elements from left to right, with the facts so far.
+use crate::Outcome;
+use crate::State;
+use crate::Stepped;
+use crate::elements::Item;
+use crate::elements::read_element;
+use judge::Facts;
+ghost use mathlib.Core.Bool.{not, _||_};
+ghost use mathlib.Core.Path.{_≡_};
+ghost use Prim.Native.Nat.{suc, _≤_};
+ghost use lib.Dec.{eqb};
+ghost use lib.ListN.{length};
+ghost use Rattle.strptime.specs.Reading.{here, start, stays, stepOn, readAll};
+
+// Where an element leads: the first unread offset, and how its reading went.
+pub struct Step {
+    pub at: usize,
+    pub outcome: Outcome,
+}
+
+// Whether a number differs from what was said before, if anything was.
+fn conflicts(said: u32, number: u32) -> bool
+    requires { ⌜ number ≤ 9999 ⌝ }
+    ensures { λ r. ⌜ r ≡ not (eqb said 0 || eqb said (suc number)) ⌝ }
+{
+    if said == 0 {
+        return false;
+    }
+    said != number + 1
+}
+
+// One element, read at an offset of the text; what it says is noted among the facts.
+fn step_on(element: u32, s: &[u8], at: usize, said: &mut [u32; kinds::KINDS]) -> Step
+    requires { ⌜ at ≤ length (now s) ⌝ }
+    ensures { λ r. ⌜ stays (here (now (said .exit)) (r .at)) (r .outcome) ≡ stepOn element (now (s .entry)) (here (now (said .entry)) at) ⌝ }
+{
+    match read_element(element, s, at) {
+        Item::Skip { next } => Step {
+            at: next,
+            outcome: Outcome::Read,
+        },
+        Item::Fact {
+            kind,
+            number,
+            from,
+            next,
+        } => {
+            if conflicts(said[kind as usize], number) {
+                return Step {
+                    at,
+                    outcome: Outcome::Conflict { at: from },
+                };
+            }
+            said[kind as usize] = number + 1;
+            Step {
+                at: next,
+                outcome: Outcome::Read,
+            }
+        }
+        Item::NoMatch { at: p } => Step {
+            at,
+            outcome: Outcome::Mismatch { at: p },
+        },
+        Item::OutOfRange { at: p } => Step {
+            at,
+            outcome: Outcome::Range { at: p },
+        },
+    }
+}
+
+// A reading that ends here.
+fn stopped(said: [u32; kinds::KINDS], at: usize, outcome: Outcome) -> Stepped
+    ensures { λ r. ⌜ r ≡ stays (here said at) outcome ⌝ }
+{
+    Stepped {
+        state: State {
+            facts: Facts { said },
+            at,
+        },
+        outcome,
+    }
+}
+
+// The elements in order, up to the first refusal. The facts stay in one local array, which each step is lent.
+pub(crate) fn read_all(elements: &[u32], s: &[u8]) -> Stepped
+    ensures { λ r. ⌜ r ≡ readAll (now (elements .entry)) (now (s .entry)) start ⌝ }
+{
+    let mut said = [0; kinds::KINDS];
+    let mut at = 0;
+    let mut i = 0;
+    while i < elements.len() {
+        let step = step_on(elements[i], s, at, &mut said);
+        at = step.at;
+        let outcome = step.outcome;
+        let Outcome::Read = outcome else {
+            return stopped(said, at, outcome);
+        };
+        i += 1;
+    }
+    stopped(said, at, Outcome::Read)
+}
