@@ -83,9 +83,9 @@ static void reading(void) {
         uint32_t words[LARUSQEM_WORDS];
         struct tm t;
         BEST(libc, DATES, for (int i = 0; i < DATES; i++) { memset(&t, 0, sizeof t); sink += (uint64_t)(strptime(s, f, &t) - s); });
-        BEST(anew, DATES, for (int i = 0; i < DATES; i++) sink += larusqem_strptime((const uint8_t *)f, strlen(f), (const uint8_t *)s, strlen(s), words, LARUSQEM_WORDS));
+        BEST(anew, DATES, for (int i = 0; i < DATES; i++) sink += larusqem_strptime((const uint8_t *)f, strlen(f), (const uint8_t *)s, strlen(s), words));
         uint32_t count = larusqem_place(larusqem_open((const uint8_t *)f, strlen(f), elements, LARUSQEM_ELEMENTS));
-        BEST(once, DATES, for (int i = 0; i < DATES; i++) sink += larusqem_read(elements, count, (const uint8_t *)s, strlen(s), words, LARUSQEM_WORDS));
+        BEST(once, DATES, for (int i = 0; i < DATES; i++) sink += larusqem_read(elements, count, (const uint8_t *)s, strlen(s), words));
         printf("| `%s` | %.0f ns | %.0f ns | %.2f | %.0f ns | %.2f |\n", f, libc, anew, anew / libc, once, once / libc);
     }
     printf("\n");
@@ -143,7 +143,7 @@ static void scanning(void) {
         const char *f = cases[k].format, *s = cases[k].text;
         uint32_t words[LARUSQEM_WORDS], hits[2];
         BEST(c, 1, sink += search(cases[k].facts, hits));
-        BEST(us, 1, sink += larusqem_strptime((const uint8_t *)f, strlen(f), (const uint8_t *)s, strlen(s), words, LARUSQEM_WORDS));
+        BEST(us, 1, sink += larusqem_strptime((const uint8_t *)f, strlen(f), (const uint8_t *)s, strlen(s), words));
         printf("| %s (`%s`) | %.2f ms | %.2f ms | %.2f | %.2f |\n", cases[k].what, s, c / 1e6, us / 1e6, us / c, us / 3652059);
     }
     printf("\n");
