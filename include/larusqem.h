@@ -146,7 +146,10 @@ uint64_t larusqem_write(const uint32_t *elements, size_t elements_length, uint32
 uint32_t larusqem_read(const uint32_t *elements, size_t elements_length, const uint8_t *text, size_t text_length,
                        uint32_t words[LARUSQEM_WORDS]);
 
-/* The day number of a date: 0001-01-01 is 1, 9999-12-31 is 3,652,059. 0 where the three are no date of the calendar. */
+/* How many days the calendar has: the day number of its last, 3,652,059. */
+uint32_t larusqem_days(void);
+
+/* The day number of a date: 0001-01-01 is 1, 9999-12-31 is larusqem_days(). 0 where the three are no date of the calendar. */
 uint32_t larusqem_day_number(uint32_t year, uint32_t month, uint32_t day);
 
 /* The date of a day number: year * 65536 + month * 256 + day. 0 where no day of the calendar has that number. */

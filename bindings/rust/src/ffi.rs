@@ -46,6 +46,7 @@ mod c {
             text_length: usize,
             words: *mut [u32; super::WORDS],
         ) -> u32;
+        pub fn larusqem_days() -> u32;
         pub fn larusqem_day_number(year: u32, month: u32, day: u32) -> u32;
         pub fn larusqem_date(day_number: u32) -> u32;
     }
@@ -86,6 +87,10 @@ pub fn read(elements: &[u32], text: &[u8]) -> [u32; WORDS] {
 
 pub fn open(format: &[u8], elements: &mut [u32]) -> (u32, usize) {
     split(unsafe { c::larusqem_open(format.as_ptr(), format.len(), elements.as_mut_ptr(), elements.len()) })
+}
+
+pub fn days() -> u32 {
+    unsafe { c::larusqem_days() }
 }
 
 pub fn day_number(year: u32, month: u32, day: u32) -> u32 {

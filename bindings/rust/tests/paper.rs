@@ -91,17 +91,17 @@ fn refused_reading() {
 
 #[test]
 fn calendar_ends() {
-    assert_eq!(Date::FIRST.day_number(), Some(1));
-    assert_eq!(Date::LAST.day_number(), Some(Date::DAYS));
+    assert_eq!(Date::first().day_number(), Some(1));
+    assert_eq!(Date::last().day_number(), Some(Date::days()));
     assert_eq!(Date::from_day_number(0), None);
-    assert_eq!(Date::from_day_number(1), Some(Date::FIRST));
-    assert_eq!(Date::from_day_number(Date::DAYS), Some(Date::LAST));
-    assert_eq!(Date::from_day_number(Date::DAYS + 1), None);
+    assert_eq!(Date::from_day_number(1), Some(Date::first()));
+    assert_eq!(Date::from_day_number(Date::days()), Some(Date::last()));
+    assert_eq!(Date::from_day_number(Date::days() + 1), None);
 }
 
 #[test]
 fn every_thousandth_day() {
-    for number in (1..=Date::DAYS).step_by(1000) {
+    for number in (1..=Date::days()).step_by(1000) {
         let date = Date::from_day_number(number).unwrap();
         assert_eq!(date.day_number(), Some(number));
     }

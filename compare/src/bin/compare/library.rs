@@ -35,6 +35,7 @@ mod raw {
         pub fn larusqem_strptime(format: *const u8, format_length: usize, text: *const u8, text_length: usize, words: *mut u32) -> u32;
         pub fn larusqem_read(elements: *const u32, elements_length: usize, text: *const u8, text_length: usize, words: *mut u32) -> u32;
         pub fn larusqem_open(format: *const u8, format_length: usize, elements: *mut u32, elements_length: usize) -> u64;
+        pub fn larusqem_days() -> u32;
         pub fn larusqem_day_number(year: u32, month: u32, day: u32) -> u32;
         pub fn larusqem_date(number: u32) -> u32;
     }
@@ -68,6 +69,10 @@ pub fn read(elements: &[u32], text: &[u8], words: &mut [u32]) -> u32 {
 
 pub fn open(format: &[u8], elements: &mut [u32]) -> (u32, u32) {
     split(unsafe { raw::larusqem_open(format.as_ptr(), format.len(), elements.as_mut_ptr(), elements.len()) })
+}
+
+pub fn days() -> u32 {
+    unsafe { raw::larusqem_days() }
 }
 
 pub fn day_number(year: u32, month: u32, day: u32) -> u32 {

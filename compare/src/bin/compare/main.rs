@@ -227,6 +227,9 @@ fn compare_strange(random: &mut Random, cal: &Calendar, tally: &mut Tally) {
 
 /// Every day of the calendar, and numbers and fields that are none.
 fn compare_days(random: &mut Random, cal: &Calendar, tally: &mut Tally) {
+    if library::days() as usize != cal.days.len() {
+        tally.differs("larusqem_days", &library::days());
+    }
     for (i, d) in cal.days.iter().enumerate() {
         let (year, month, day) = d.date();
         let number = i as u32 + 1;

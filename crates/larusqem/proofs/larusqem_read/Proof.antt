@@ -1,6 +1,10 @@
 -- `larusqem::larusqem_read` meets its contract: the words of the reader's answer, whose place fits 32 bits.
-use Rattle.larusqem.proofs.Ways.{told-of}
-use Rattle.larusqem.proofs.Places.{read-place}
+use mathlib.Core.Path.{ap, _∙_}
+use native.Mathlib.Nat.{lt-of-le-of-lt}
+use lib.Dec.{lit≤}
+use Rattle.strptime.specs.declared.Reading.{Reading}
+use Rattle.strptime.proofs.Places.{elements-place}
+use Rattle.larusqem.specs.Words.{wordsOf}
 use borrow.Author.Needs.{needs}
 use Rattle.larusqem.proofs.larusqem_read.Statement.{statement}
 use Rattle.larusqem.proofs.larusqem_read.Tie as tie
@@ -8,14 +12,17 @@ use Rattle.larusqem.proofs.larusqem_read.Tie as tie
 read-elements-requires : tie.Need-read-elements-requires
 read-elements-requires c κs = search needs
 
-tell-requires : tie.Need-tell-requires
-tell-requires c κs = rw (c .before .read-elements .ensures) (read-place _ _)
+reading-of-requires : tie.Need-reading-of-requires
+reading-of-requires c κs = search needs
 
-same-length : tie.Need-same-length
-same-length c = search needs
+words-of-requires : tie.Need-words-of-requires
+words-of-requires c κs = rw (c .reading-of .ensures, c .before .read-elements .ensures) (lt-of-le-of-lt (elements-place _ _) (lit≤ tt))
 
 returns : tie.Need-returns
-returns c = told-of _ (c .before .before .before .before .read-elements .ensures) (c .before .before .tell .ensures)
+returns c =
+    let r = c .before .reading-of .ensures ∙ c .before .before .read-elements .ensures in
+    (ap (λ (x : Reading). x .number) r, c .words-of .ensures ∙ ap wordsOf r)
 
 pub larusqem-read-spec : {M : Type 1} → statement M
-larusqem-read-spec = tie.close (tie.spec read-elements-requires tell-requires same-length returns)
+larusqem-read-spec =
+    tie.close (tie.spec read-elements-requires reading-of-requires words-of-requires returns)
