@@ -1,5 +1,4 @@
 -- `larusqem::larusqem_open` meets its contract: by cases of what the opening answers; every place fits 32 bits.
-use mathlib.Core.Path.{_∙_}
 use native.Mathlib.Omega.{arith}
 use Rattle.format.proofs.Opened.{opened-done, opened-bad}
 use Rattle.larusqem.proofs.Ways.{all-fit, too-many, too-long, bad-conversion}
@@ -15,7 +14,8 @@ enum-known-count c = search needs
 
 packed-requires : tie.Need-packed-requires
 packed-requires c κs =
-    omega (arith, opened-done _ (c .before .before .before .before .before .before .«open» .ensures .0) (c .before .before .count .given .1) .few)
+    let o = c .before .before .before .before .before .before .«open» .ensures in
+    omega (arith, opened-done _ (o .0) (c .before .before .count .given .1) .few)
 
 same-length : tie.Need-same-length
 same-length c = search needs
@@ -27,7 +27,8 @@ returns c =
 
 packed-requires-2 : tie.Need-packed-requires-2
 packed-requires-2 c κs =
-    omega (arith, opened-done _ (c .before .before .before .before .before .before .«open» .ensures .0) (c .before .before .count .given .1) .few)
+    let o = c .before .before .before .before .before .before .«open» .ensures in
+    omega (arith, opened-done _ (o .0) (c .before .before .count .given .1) .few)
 
 enum-told : tie.Need-enum-told
 enum-told c = search needs
@@ -40,7 +41,8 @@ enum-known-at c = search needs
 
 packed-requires-4 : tie.Need-packed-requires-4
 packed-requires-4 c κs =
-    let w = opened-bad _ (c .before .before .before .before .before .«open» .ensures .0) (c .before .at .given .1) in
+    let o = c .before .before .before .before .before .«open» .ensures in
+    let w = opened-bad _ (o .0) (c .before .at .given .1) in
     omega (arith, w .short, w .within)
 
 same-length-2 : tie.Need-same-length-2

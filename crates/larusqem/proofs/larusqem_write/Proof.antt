@@ -23,7 +23,8 @@ same-length c = search needs
 
 returns : tie.Need-returns
 returns c =
-    let w = rw (c .before .before .before .before .before .before .fields .ensures) at (c .before .before .before .before .write-elements .ensures) in
+    let t = c .before .before .before .before .before .before .fields .ensures in
+    let w = rw t at (c .before .before .before .before .write-elements .ensures) in
     (c .packed-writing .ensures ∙ ap packedWriting (c .before .writing-of .ensures ∙ w .0), w .1)
 
 pub larusqem-write-spec : {M : Type 1} → statement M
