@@ -6,7 +6,7 @@ use mathlib.Core.Path.{_≡_, sym, ap, _∙_}
 use borrow.Author.Tests.{le-leb, lt-leb, eq-eqb, ne-eqb}
 use lib.ListN.{length}
 use Rattle.format.specs.Opening.{Whole, BadAt, longest, opening, mostElements, elementsIn}
-use Rattle.strptime.specs.Answers.{refused, concluded, readBy, byFormat, byElements, reading, elementsReading}
+use Rattle.strptime.specs.Answers.{refused, concluded, readBy, byFormat, byElements, unlessLong, reading, elementsReading}
 use Rattle.strptime.specs.Reading.{start, readAll}
 use Rattle.strptime.specs.declared.Outcome.{Outcome}
 use Rattle.strptime.specs.declared.Reading.{Reading}
@@ -18,40 +18,40 @@ pub by-outcome : (es s : List ℕ) {r : Stepped} {o : Outcome} {a : Reading}
 unfolding readBy
 by-outcome es s {r} e g h = h ∙ ap (concluded (r .state)) (sym g) ∙ ap (λ (x : Stepped). concluded (x .state) (x .outcome)) e
 
--- ---- by a format: 1, 5, 3
+-- ---- 5
+module _ (s : List ℕ) (r : Reading) where
+  pub text-long : longest < length s → refused 5 0 ≡ unlessLong s r
+  unfolding unlessLong
+  text-long h = rw (lt-leb (length s) longest h)
+
+  pub text-short : length s ≤ longest → r ≡ unlessLong s r
+  unfolding unlessLong
+  text-short h = rw (le-leb (length s) longest h)
+
+-- ---- by a format: 1, and 3 after 5
 pub format-long : (f s : List ℕ) → longest < length f → refused 1 0 ≡ reading f s
 unfolding reading
 format-long f s h = rw (lt-leb (length f) longest h)
 
 module _ (f s : List ℕ) (h : length f ≤ longest) where
-  pub text-long : longest < length s → refused 5 0 ≡ reading f s
+  format-short : unlessLong s (byFormat f s) ≡ reading f s
   unfolding reading
-  text-long l = rw (le-leb (length f) longest h, lt-leb (length s) longest l)
+  format-short = rw (le-leb (length f) longest h)
 
-  module _ (l : length s ≤ longest) where
-    read-is : byFormat f s ≡ reading f s
-    unfolding reading
-    read-is = rw (le-leb (length f) longest h, le-leb (length s) longest l)
+  pub conversion-bad : {p : ℕ} → opening f .ended ≡ BadAt p → unlessLong s (refused 3 p) ≡ reading f s
+  unfolding byFormat
+  conversion-bad e = rw e at format-short
 
-    pub conversion-bad : {p : ℕ} → opening f .ended ≡ BadAt p → refused 3 p ≡ reading f s
-    unfolding byFormat
-    conversion-bad e = rw e at read-is
+  pub format-read : opening f .ended ≡ Whole → unlessLong s (readBy (opening f .elements) s) ≡ reading f s
+  unfolding byFormat
+  format-read e = rw e at format-short
 
-    pub format-read : opening f .ended ≡ Whole → readBy (opening f .elements) s ≡ reading f s
-    unfolding byFormat
-    format-read e = rw e at read-is
+-- ---- by elements: 3 after 5
+module _ (es s : List ℕ) {n : ℕ} (e : n ≡ elementsIn mostElements es) where
+  pub entry-bad : (n ≡ length es → ⊥) → unlessLong s (refused 3 n) ≡ elementsReading es s
+  unfolding elementsReading byElements
+  entry-bad d = rw (← e, ne-eqb n (length es) d)
 
--- ---- by elements: 5, 3
-module _ (es s : List ℕ) where
-  pub text-long-by : longest < length s → refused 5 0 ≡ elementsReading es s
-  unfolding elementsReading
-  text-long-by l = rw (lt-leb (length s) longest l)
-
-  module _ {n : ℕ} (l : length s ≤ longest) (e : n ≡ elementsIn mostElements es) where
-    pub entry-bad : (n ≡ length es → ⊥) → refused 3 n ≡ elementsReading es s
-    unfolding elementsReading byElements
-    entry-bad d = rw (le-leb (length s) longest l, ← e, ne-eqb n (length es) d)
-
-    pub entries-read : n ≡ length es → readBy es s ≡ elementsReading es s
-    unfolding elementsReading byElements
-    entries-read d = rw (le-leb (length s) longest l, ← e, eq-eqb n (length es) d)
+  pub entries-read : n ≡ length es → unlessLong s (readBy es s) ≡ elementsReading es s
+  unfolding elementsReading byElements
+  entries-read d = rw (← e, eq-eqb n (length es) d)

@@ -16,7 +16,7 @@ use Rattle.judge.specs.Verdicts.{dayVerdict, hourVerdict}
 use Rattle.judge.specs.declared.Verdict.{Verdict}
 use Rattle.judge.specs.declared.Verdict.the-variants.{Unsaid, Impossible, Open, Agreed}
 use Rattle.strptime.specs.Answers.{showing, refused, finished, done, withHour, withDay, judged, concluded}
-use Rattle.strptime.specs.Answers.{readBy, byFormat, byElements, reading, elementsReading}
+use Rattle.strptime.specs.Answers.{readBy, byFormat, byElements, unlessLong, reading, elementsReading}
 use Rattle.strptime.specs.Reading.{start, stays, stepOn, isRead, readAll}
 use Rattle.strptime.specs.declared.Day.{Day}
 use Rattle.strptime.specs.declared.Outcome.{Outcome}
@@ -70,14 +70,20 @@ module _ (s : List ℕ) (short : length s ≤ longest) where
       go Whole e = rw e (by-place (opening f .elements))
       go (BadAt p) e = rw e (omega (arith, bad-within f e))
 
+-- 0 for too long a text
+unless-place : (s : List ℕ) (r : Reading) (n : ℕ) → (length s ≤ longest → r .place ≤ n) → unlessLong s r .place ≤ n
+unfolding unlessLong showing refused
+unless-place s r n h =
+    either (λ (x : Reading). x .place ≤ n) (leb (length s) longest)
+    (λ (e : leb (length s) longest ≡ true). h (leb-true (length s) longest e))
+    (λ _. omega arith)
+
 pub reading-place : (f s : List ℕ) → reading f s .place ≤ longest
 unfolding reading showing refused
 reading-place f s =
     either (λ (r : Reading). r .place ≤ longest) (leb (length f) longest)
     (λ (e : leb (length f) longest ≡ true).
-    either (λ (r : Reading). r .place ≤ longest) (leb (length s) longest)
-    (λ (g : leb (length s) longest ≡ true). format-place s (leb-true (length s) longest g) f (leb-true (length f) longest e))
-    (λ _. lit≤ tt))
+    unless-place s _ longest (λ l. format-place s l f (leb-true (length f) longest e)))
     (λ _. lit≤ tt)
 
 elements-most : (n : ℕ) (es : List ℕ) → elementsIn n es ≤ n
@@ -90,9 +96,8 @@ pub elements-place : (es s : List ℕ) → elementsReading es s .place ≤ mostE
 unfolding elementsReading byElements showing refused
 elements-place es s =
     let good = elementsIn mostElements es in
-    either (λ (r : Reading). r .place ≤ mostElements) (leb (length s) longest)
-    (λ (e : leb (length s) longest ≡ true).
+    unless-place s _ mostElements
+    (λ l.
     picked (λ (r : Reading). r .place ≤ mostElements) (eqb good (length es))
-    (omega (arith, by-place s (leb-true (length s) longest e) es))
+    (omega (arith, by-place s l es))
     (elements-most mostElements es))
-    (λ _. lit≤ tt)

@@ -10,7 +10,7 @@ use lib.Dec.{T, eqb, leb, ltb, leb→le, ltb→lt, lit≤}
 use lib.ListN.{length, getD, drop, length-drop, length-map}
 use Rattle.laws.specs.Lists.{every}
 use Rattle.laws.proofs.Cases.{either, picked, clash}
-use Rattle.laws.proofs.Table.{both, all, at}
+use Rattle.laws.proofs.Table.{both, at}
 use Rattle.kinds.specs.Kinds.{kinds}
 use Rattle.format.specs.Conversions as rows
 use Rattle.format.specs.Conversions.{conversionOf}
@@ -224,7 +224,8 @@ module _ (s : List ℕ) (at : ℕ) (h : at ≤ length s) where
       (λ v l g.
       either (λ (x : ℕ). Told (c .kind) x) (eqb v 0)
       (λ _. spans-told (c .kind) 1 7 (b .0) 7 (lit≤ tt) (lit≤ tt))
-      (λ (e : eqb v 0 ≡ false). spans-told (c .kind) 1 7 (b .0) v (omega (arith, eqb-false v 0 e)) (omega (arith, leb→le (c .high) 7 (b .1))))))
+      (λ (e : eqb v 0 ≡ false).
+      spans-told (c .kind) 1 7 (b .0) v (omega (arith, eqb-false v 0 e)) (omega (arith, leb→le (c .high) 7 (b .1))))))
   sound-form (Short t) c m = sound-named t c m
   sound-form (Full t) c m = sound-named t c m
   sound-form (Lower t) c m = sound-named t c m

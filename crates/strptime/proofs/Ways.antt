@@ -44,31 +44,46 @@ module _ (b : ℕ) (s : List ℕ) (at : ℕ) {t : Bool} (e : t ≡ isSpace b) wh
   byte-same f h g = rw (← e, f, drop-cons s at 0 h, eq-eqb (getD s at 0) b g)
 
 -- ---- a number
-module _ (c : Conversion) (s : List ℕ) (at : ℕ) {from : ℕ} {d : Digits} (e : from ≡ at + spaces (drop at s)) (g : d ≡ readDigits (min (c .width) 9) (drop from s)) where
-  number-is : c .width ≤ 9
-      → readNumber c s at
-      ≡ cond (eqb (d .count) 0) (NoMatch from)
-      (cond (leb (c .low) (d .value) && leb (d .value) (c .high)) (Fact (c .kind) (d .value) from (from + d .count)) (OutOfRange from))
-  unfolding readNumber ranged readDigits
-  number-is w = rw (g, min-eq-left w, e)
+module _
+    (c : Conversion) (s : List ℕ) (at : ℕ) (w : c .width ≤ 9) {from : ℕ} {d : Digits}
+    (e : from ≡ at + spaces (drop at s)) (g : d ≡ readDigits (min (c .width) 9) (drop from s))
+  where
+    abbrev found : Item
+    found = Fact (c .kind) (d .value) from (from + d .count)
 
-  pub number-none : c .width ≤ 9 → d .count ≡ 0 → NoMatch from ≡ readNumber c s at
-  number-none w h = sym (number-is w ∙ rw (eq-eqb (d .count) 0 h))
+    number-is : readNumber c s at
+        ≡ cond (eqb (d .count) 0) (NoMatch from)
+        (cond (leb (c .low) (d .value) && leb (d .value) (c .high)) found (OutOfRange from))
+    unfolding readNumber ranged readDigits
+    number-is = rw (g, min-eq-left w, e)
 
-  pub number-low : c .width ≤ 9 → (d .count ≡ 0 → ⊥) → d .value < c .low → OutOfRange from ≡ readNumber c s at
-  number-low w h l = sym (number-is w ∙ rw (ne-eqb (d .count) 0 h, lt-leb (c .low) (d .value) l))
+    pub number-none : d .count ≡ 0 → NoMatch from ≡ readNumber c s at
+    number-none h = sym (number-is ∙ rw (eq-eqb (d .count) 0 h))
 
-  pub number-high : c .width ≤ 9 → (d .count ≡ 0 → ⊥) → c .low ≤ d .value → c .high < d .value → OutOfRange from ≡ readNumber c s at
-  number-high w h l m = sym (number-is w ∙ rw (ne-eqb (d .count) 0 h, le-leb (c .low) (d .value) l, lt-leb (d .value) (c .high) m))
+    module _ (h : d .count ≡ 0 → ⊥) where
+      pub number-low : d .value < c .low → OutOfRange from ≡ readNumber c s at
+      number-low l = sym (number-is ∙ rw (ne-eqb (d .count) 0 h, lt-leb (c .low) (d .value) l))
 
-  pub number-fact : c .width ≤ 9 → (d .count ≡ 0 → ⊥) → c .low ≤ d .value → d .value ≤ c .high → Fact (c .kind) (d .value) from (from + d .count) ≡ readNumber c s at
-  number-fact w h l m = sym (number-is w ∙ rw (ne-eqb (d .count) 0 h, le-leb (c .low) (d .value) l, le-leb (d .value) (c .high) m))
+      module _ (l : c .low ≤ d .value) where
+        pub number-high : c .high < d .value → OutOfRange from ≡ readNumber c s at
+        number-high m = sym (number-is ∙ rw (ne-eqb (d .count) 0 h, le-leb (c .low) (d .value) l, lt-leb (d .value) (c .high) m))
 
-  pub number-end : at ≤ length s → from + d .count ≤ length s
-  unfolding readDigits
-  number-end h =
-      let n : d .count ≡ length (digitRun (min (c .width) 9) (drop from s)) = ap (λ (x : Digits). x .count) g in
-      omega (arith, e, n, run-most (min (c .width) 9) (drop from s), length-drop from s, spaces-most (drop at s), length-drop at s)
+        pub number-fact : d .value ≤ c .high → found ≡ readNumber c s at
+        number-fact m = sym (number-is ∙ rw (ne-eqb (d .count) 0 h, le-leb (c .low) (d .value) l, le-leb (d .value) (c .high) m))
+
+    pub number-end : at ≤ length s → from + d .count ≤ length s
+    unfolding readDigits
+    number-end h =
+        let n : d .count ≡ length (digitRun (min (c .width) 9) (drop from s)) = ap (λ (x : Digits). x .count) g in
+        omega (
+          arith,
+          e,
+          n,
+          run-most (min (c .width) 9) (drop from s),
+          length-drop from s,
+          spaces-most (drop at s),
+          length-drop at s,
+        )
 
 -- ---- a name
 module _ (t : Names) (c : Conversion) (s : List ℕ) (at : ℕ) {r : NameRead} (e : r ≡ readName t (drop at s)) where

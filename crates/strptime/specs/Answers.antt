@@ -6,7 +6,7 @@ use lib.Dec.{eqb, leb}
 use lib.ListN.{length}
 use Rattle.kinds.specs.Kinds as kinds
 use Rattle.calendar.specs.Calendar.{dateOf}
-use Rattle.format.specs.Opening.{Opening, Ended, Whole, BadAt, opening, longest, mostElements, elementsIn}
+use Rattle.format.specs.Opening.{Ended, Whole, BadAt, opening, longest, mostElements, elementsIn}
 use Rattle.judge.specs.Agreement.{said}
 use Rattle.judge.specs.Verdicts.{dayVerdict, hourVerdict}
 use Rattle.judge.specs.declared.Verdict.{Verdict}
@@ -108,17 +108,19 @@ byElements es s =
     let read = readBy es s in
     cond (eqb good (length es)) read (refused 3 good)
 
+-- 5, then the rest
+unfoldable pub unlessLong : List ℕ → Reading → Reading
+unlessLong s rest = cond (leb (length s) longest) rest (refused 5 0)
+
 -- "Reader's order: 1, 5, 3, then the first of 6, 7, 8 met from left to right, then 9 or 10 for the day, then 9 or 10 for the hour"
 unfoldable pub reading : List ℕ → List ℕ → Reading
-reading f s =
-    let rest = byFormat f s in
-    cond (leb (length f) longest) (cond (leb (length s) longest) rest (refused 5 0)) (refused 1 0)
+reading f s = let rest = unlessLong s (byFormat f s) in cond (leb (length f) longest) rest (refused 1 0)
 
 -- by elements: 5, 3, and so on
 unfoldable pub elementsReading : List ℕ → List ℕ → Reading
-elementsReading es s = let rest = byElements es s in cond (leb (length s) longest) rest (refused 5 0)
+elementsReading es s = unlessLong s (byElements es s)
 
 -- everything here, for proofs that compute
 unfoldable pub computes : Unit {0}
-unfolding showing refused finished readingOf saidOf done withHour withDay judged concluded readBy byFormat byElements reading elementsReading
+unfolding showing refused finished readingOf saidOf done withHour withDay judged concluded readBy byFormat byElements unlessLong reading elementsReading
 computes = tt

@@ -28,7 +28,7 @@ ghost use Rattle.calendar.specs.Calendar.{days, dateOf};
 ghost use Rattle.format.specs.Opening.{longest};
 ghost use Rattle.judge.specs.Verdicts.{hourVerdict};
 ghost use Rattle.strptime.specs.Answers.{showing, refused, readingOf, saidOf, done, withHour, judged, readBy};
-ghost use Rattle.strptime.specs.Answers.{elementsReading, reading};
+ghost use Rattle.strptime.specs.Answers.{unlessLong, reading, elementsReading};
 
 // A number and a place, and what is shown; all else is unsaid.
 fn showing(number: u32, place: usize, shown: Shown) -> Reading
@@ -169,18 +169,35 @@ fn read_by(elements: &[u32], s: &[u8]) -> Answer
     }
 }
 
-// Reads a text by the elements of a format that was opened before.
-pub fn read_elements(elements: &[u32], text: &[u8]) -> Answer
-    ensures { λ r. ⌜ readingOf r ≡ elementsReading (now (elements .entry)) (now (text .entry)) ⌝ }
+// 5, then the reading.
+fn read_short(elements: &[u32], text: &[u8]) -> Answer
+    ensures { λ r. ⌜ readingOf r ≡ unlessLong (now (text .entry)) (readBy (now (elements .entry)) (now (text .entry))) ⌝ }
 {
     if LONGEST < text.len() {
         return Answer::TextTooLong;
     }
+    read_by(elements, text)
+}
+
+// 5, then 3.
+fn bad_conversion(at: usize, text: &[u8]) -> Answer
+    ensures { λ r. ⌜ readingOf r ≡ unlessLong (now (text .entry)) (refused 3 at) ⌝ }
+{
+    if text.len() <= LONGEST {
+        return Answer::BadConversion { at };
+    }
+    Answer::TextTooLong
+}
+
+// Reads a text by the elements of a format that was opened before.
+pub fn read_elements(elements: &[u32], text: &[u8]) -> Answer
+    ensures { λ r. ⌜ readingOf r ≡ elementsReading (now (elements .entry)) (now (text .entry)) ⌝ }
+{
     let good = elements_in(elements);
     if good != elements.len() {
-        return Answer::BadConversion { at: good };
+        return bad_conversion(good, text);
     }
-    read_by(elements, text)
+    read_short(elements, text)
 }
 
 // Opens the format into `room`, which has space for all its elements, and reads.
@@ -190,18 +207,8 @@ fn read_opened(format: &[u8], text: &[u8], room: &mut [u32]) -> Answer
 {
     match open(format, room) {
         Opened::TooLong => Answer::FormatTooLong,
-        Opened::Bad { at } => {
-            if LONGEST < text.len() {
-                return Answer::TextTooLong;
-            }
-            Answer::BadConversion { at }
-        }
-        Opened::Done { count } => {
-            if LONGEST < text.len() {
-                return Answer::TextTooLong;
-            }
-            read_by(&room[..count], text)
-        }
+        Opened::Bad { at } => bad_conversion(at, text),
+        Opened::Done { count } => read_short(&room[..count], text),
     }
 }
 

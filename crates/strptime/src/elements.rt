@@ -55,22 +55,22 @@ fn read_number(c: Conversion, s: &[u8], at: usize) -> Item
     requires { ⌜ (c .width ≤ 9) × (at ≤ length (now s)) ⌝ }
     ensures { λ r. ⌜ r ≡ readNumber c (now (s .entry)) at ⌝ }
 {
-    let from = skip_space(s, at);
-    let digits = read_digits(s, from, c.width);
+    let start = skip_space(s, at);
+    let digits = read_digits(s, start, c.width);
     if digits.count == 0 {
-        return Item::NoMatch { at: from };
+        return Item::NoMatch { at: start };
     }
     if digits.value < c.low {
-        return Item::OutOfRange { at: from };
+        return Item::OutOfRange { at: start };
     }
     if c.high < digits.value {
-        return Item::OutOfRange { at: from };
+        return Item::OutOfRange { at: start };
     }
     Item::Fact {
         kind: c.kind,
         number: digits.value,
-        from,
-        next: from + digits.count,
+        from: start,
+        next: start + digits.count,
     }
 }
 

@@ -48,8 +48,8 @@ pub enum Shown {
     Hours { first: u32, second: u32 },
 }
 
-// The answer to a reading: done, then the refusals 1, 5, 3, 6, 7, 8 in the order in which they are judged, then 9 and 10, each for the day and
-// for the hour. The day is judged before the hour.
+// The answer to a reading: done, then the refusals 1, 5, 3, 6, 7, 8 in the order in which they are judged, then 9 and 10, each for the
+// day and for the hour. The day is judged before the hour.
 pub enum Answer {
     Done {
         unread: usize,

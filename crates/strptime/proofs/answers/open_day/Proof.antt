@@ -16,7 +16,9 @@ enum-told : tie.Need-enum-told
 enum-told c = search needs
 
 returns : tie.Need-returns
-returns c = never-outside (c .before .before .before .args .first) (omega arith) (omega arith) (c .before .before .from-day-number .ensures) (c .enum-told .given .1)
+returns c =
+    let d = c .before .before in
+    never-outside (d .before .args .first) (omega arith) (omega arith) (d .from-day-number .ensures) (c .enum-told .given .1)
 
 from-day-number-requires-2 : tie.Need-from-day-number-requires-2
 from-day-number-requires-2 c κs = search needs
@@ -28,7 +30,10 @@ enum-told-2 : tie.Need-enum-told-2
 enum-told-2 c = search needs
 
 returns-2 : tie.Need-returns-2
-returns-2 c = never-outside (c .before .before .before .before .before .before .before .args .second) (omega arith) (omega arith) (c .before .before .from-day-number2 .ensures) (c .enum-told2 .given .1)
+returns-2 c =
+    let d = c .before .before in
+    let a = d .before .before .before .before .before .args in
+    never-outside (a .second) (omega arith) (omega arith) (d .from-day-number2 .ensures) (c .enum-told2 .given .1)
 
 returns-3 : tie.Need-returns-3
 unfolding readingOf

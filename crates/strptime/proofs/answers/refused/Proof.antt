@@ -1,5 +1,4 @@
 -- `strptime::answers::refused` meets its contract. Assumes nothing.
-use mathlib.Core.Path.{refl}
 use borrow.Author.Needs.{needs}
 use Rattle.strptime.specs.Answers.{refused}
 use Rattle.strptime.proofs.answers.refused.Statement.{statement}

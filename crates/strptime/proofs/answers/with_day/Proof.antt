@@ -15,7 +15,9 @@ enum-told : tie.Need-enum-told
 enum-told c = search needs
 
 returns : tie.Need-returns
-returns c = never-outside (c .before .before .before .args .number) (omega arith) (omega arith) (c .before .before .from-day-number .ensures) (c .enum-told .given .1)
+returns c =
+    let d = c .before .before in
+    never-outside (d .before .args .number) (omega arith) (omega arith) (d .from-day-number .ensures) (c .enum-told .given .1)
 
 with-hour-requires : tie.Need-with-hour-requires
 with-hour-requires c κs = search needs
@@ -23,7 +25,9 @@ with-hour-requires c κs = search needs
 returns-2 : tie.Need-returns-2
 returns-2 c =
     let d = c .before .before in
-    rw (← day-is (d .before .before .before .args .number) (omega arith) (omega arith) (d .before .before .from-day-number .ensures) (d .date .given .1)) (c .with-hour .ensures)
+    let n = d .before .before in
+    rw (← day-is (n .before .args .number) (omega arith) (omega arith) (n .from-day-number .ensures) (d .date .given .1))
+    (c .with-hour .ensures)
 
 pub with-day-spec : {M : Type 1} → statement M
 with-day-spec =

@@ -58,7 +58,9 @@ returns-2 c = by-form _ _ _ (c .before .enum-told2 .given .1) (c .read-number2 .
 
 returns-3 : tie.Need-returns-3
 unfolding readForm
-returns-3 c = by-form _ _ _ (c .before .before .enum-told3 .given .1) (c .from-sunday .ensures ∙ ap fromSunday (c .before .read-number3 .ensures))
+returns-3 c =
+    by-form _ _ _ (c .before .before .enum-told3 .given .1)
+    (c .from-sunday .ensures ∙ ap fromSunday (c .before .read-number3 .ensures))
 
 returns-4 : tie.Need-returns-4
 unfolding readForm

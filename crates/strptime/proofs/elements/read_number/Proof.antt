@@ -13,19 +13,36 @@ read-digits-requires : tie.Need-read-digits-requires
 read-digits-requires c κs = search needs
 
 returns : tie.Need-returns
-returns c = number-none _ _ _ (c .before .before .before .skip-space .ensures) (c .before .before .read-digits .ensures) (omega arith) (c .if1 .taken)
+returns c =
+    let d = c .before .before in
+    number-none _ _ _ (omega arith) (d .before .skip-space .ensures) (d .read-digits .ensures) (c .if1 .taken)
 
 returns-2 : tie.Need-returns-2
-returns-2 c = number-low _ _ _ (c .before .before .before .before .before .before .skip-space .ensures) (c .before .before .before .before .before .read-digits .ensures) (omega arith) (c .before .before .before .if1 .left) (omega arith)
+returns-2 c =
+    let f = c .before .before .before in
+    let d = f .before .before in
+    number-low _ _ _ (omega arith) (d .before .skip-space .ensures) (d .read-digits .ensures) (f .if1 .left) (omega arith)
 
 returns-3 : tie.Need-returns-3
-returns-3 c = number-high _ _ _ (c .before .before .before .before .before .before .before .before .before .skip-space .ensures) (c .before .before .before .before .before .before .before .before .read-digits .ensures) (omega arith) (c .before .before .before .before .before .before .if1 .left) (omega arith) (omega arith)
+returns-3 c =
+    let f = c .before .before .before .before .before .before in
+    let d = f .before .before in
+    number-high _ _ _ (omega arith) (d .before .skip-space .ensures) (d .read-digits .ensures) (f .if1 .left) (omega arith) (omega arith)
 
 add-t7 : tie.Need-add-t7
-add-t7 c = omega (arith, number-end (c .before .before .before .before .before .before .before .before .before .before .before .before .args .c) (now (c .before .before .before .before .before .before .before .before .before .before .before .before .args .s)) (c .before .before .before .before .before .before .before .before .before .before .before .before .args .at) (c .before .before .before .before .before .before .before .before .before .before .skip-space .ensures) (c .before .before .before .before .before .before .before .before .before .read-digits .ensures) (omega arith))
+add-t7 c =
+    let d = c .before .before .before .before .before .before .before .before .before in
+    let a = d .before .before .before .args in
+    omega (
+      arith,
+      number-end (a .c) (now (a .s)) (a .at) (omega arith) (d .before .skip-space .ensures) (d .read-digits .ensures) (omega arith),
+    )
 
 returns-4 : tie.Need-returns-4
-returns-4 c = number-fact _ _ _ (c .before .before .before .before .before .before .before .before .before .before .skip-space .ensures) (c .before .before .before .before .before .before .before .before .before .read-digits .ensures) (omega arith) (c .before .before .before .before .before .before .before .if1 .left) (omega arith) (omega arith)
+returns-4 c =
+    let f = c .before .before .before .before .before .before .before in
+    let d = f .before .before in
+    number-fact _ _ _ (omega arith) (d .before .skip-space .ensures) (d .read-digits .ensures) (f .if1 .left) (omega arith) (omega arith)
 
 pub read-number-spec : {M : Type 1} → statement M
 read-number-spec =

@@ -56,7 +56,11 @@ loop-again c =
     let d = c .before .before in
     let a = d .before .before .before .before .before .before .before .args in
     let l = d .before .before .before .before .loop in
-    (omega arith, step-within _ (now (a .s)) _ _ _ (l .inv .1) (d .step-on .ensures), sym (all-more (now (a .elements)) (now (a .s)) _ (l .i) (omega arith) _ _ (d .step-on .ensures) (c .enum-told .given .1)) ∙ l .inv .2)
+    let e = d .step-on .ensures in (
+      omega arith,
+      step-within _ (now (a .s)) _ _ _ (l .inv .1) e,
+      sym (all-more (now (a .elements)) (now (a .s)) _ (l .i) (omega arith) _ _ e (c .enum-told .given .1)) ∙ l .inv .2,
+    )
 
 stopped-requires-2 : tie.Need-stopped-requires-2 Inv-loop μ-loop
 stopped-requires-2 c κs = tt
