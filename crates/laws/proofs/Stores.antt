@@ -47,5 +47,6 @@ sets-first (x ∷ l) (suc k) (v ∷ vs) =
 pub sets-part : (l : List ℕ) (i k : ℕ) (vs : List ℕ)
     → take i l ++ (sets (take k (drop i l)) 0 vs ++ drop k (drop i l)) ≡ sets l i (take k vs)
 sets-part l zero k vs = sets-first l k vs
-sets-part [] (suc i) k vs = rw (sets-past [] (take k vs) (suc i) (omega arith)) (sets-first [] k vs ∙ sets-past [] (take k vs) 0 (omega arith))
+sets-part [] (suc i) k vs =
+    rw (sets-past [] (take k vs) (suc i) (omega arith)) (sets-first [] k vs ∙ sets-past [] (take k vs) 0 (omega arith))
 sets-part (x ∷ l) (suc i) k vs = rw sets-shift (ap (λ (r : List ℕ). x ∷ r) (sets-part l i k vs))

@@ -3,10 +3,10 @@
 use Prim.Native.Nat.{ℕ, _≤_}
 use mathlib.Core.Bool.{true}
 use mathlib.Core.List.{List, _++_}
-use mathlib.Core.Path.{_≡_, refl, _∙_}
+use mathlib.Core.Path.{_≡_, refl}
 use borrow.Author.Tests.{le-leb, eq-eqb}
 use lib.ListN.{length, drop}
-use lib.Seq.{sets, take-all}
+use lib.Seq.{take-all}
 use Rattle.laws.specs.Lists.{every}
 use Rattle.laws.proofs.Stores.{sets-start}
 use Rattle.format.specs.Opening.{opening, longest, mostElements, elementsIn, isByte}
@@ -16,15 +16,47 @@ use Rattle.values.specs.Moments.{momentOf}
 use Rattle.values.specs.declared.Moment.{Moment}
 use Rattle.values.specs.declared.MomentFields.{MomentFields}
 use Rattle.values.specs.declared.MomentFields.the-variants.{Valid, Bad}
-use Rattle.strftime.specs.Writing.{Result, text, numbered, put, byFormat, byElements, forMoment, forFields, writing, elementsWriting}
+use Rattle.strftime.specs.Writing.{text, numbered, put, byFormat, byElements, forMoment, forFields, writing, elementsWriting}
 use Rattle.strftime.specs.declared.Fields.{Fields}
 
--- f opens whole, and t has a moment
+-- a format that opens whole, and fields that are a moment
 module _ (f : List ℕ) (t : Fields) (b : List ℕ) {m : Moment} (short : length f ≤ longest) (whole : opening f .ended ≡ Whole)
     (valid : momentOf (t .year) (t .month) (t .day) (t .hour) (t .minute) (t .second) ≡ Valid m) where
   abbrev written : List ℕ
   written = text m (opening f .elements)
 
-  pub writes : writing f t b ≡ put written b
+  -- 4 or 0
+  pub puts-text : writing f t b ≡ put written b
   unfolding writing forFields forMoment byFormat
-  writes = rw (le-leb (length f) longest short, valid, whole)
+  puts-text = rw (le-leb (length f) longest short, valid, whole)
+
+  -- where there is room: 0, the bytes written, and the rest of the buffer as it came
+  module _ (room : length written ≤ length b) where
+    pub done : writing f t b .answer ≡ numbered 0 (length written)
+    unfolding put
+    done = rw (puts-text, le-leb (length written) (length b) room)
+
+    pub holds : writing f t b .buffer ≡ written ++ drop (length written) b
+    unfolding put
+    holds = rw (puts-text, le-leb (length written) (length b) room, sets-start b written, take-all (length b) written room)
+
+-- ---- elements opened before
+
+module _ (f : List ℕ) (short : length f ≤ longest) (bytes : every isByte f ≡ true) (whole : opening f .ended ≡ Whole) where
+  by-format : (b : List ℕ) (m : Moment) → byElements (opening f .elements) b m ≡ byFormat f b m
+  unfolding byElements byFormat
+  by-format b m =
+      let es = opening f .elements in
+      rw (eq-eqb (elementsIn mostElements es) (length es) (all-elements f short bytes), whole)
+
+  for-moment : (b : List ℕ) (r : MomentFields) → forMoment (byElements (opening f .elements) b) b r ≡ forMoment (byFormat f b) b r
+  unfolding forMoment
+  for-moment b (Valid m) = by-format b m
+  for-moment b (Bad n) = refl
+
+  -- a writing by the elements of a format is the writing by the format
+  pub opened-before : (t : Fields) (b : List ℕ) → elementsWriting (opening f .elements) t b ≡ writing f t b
+  unfolding elementsWriting writing forFields
+  opened-before t b =
+      rw (le-leb (length f) longest short)
+      (for-moment b (momentOf (t .year) (t .month) (t .day) (t .hour) (t .minute) (t .second)))

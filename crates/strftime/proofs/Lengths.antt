@@ -3,6 +3,8 @@
 use Prim.Native.Nat.{ℕ, zero, suc, _+_, _*_, _/_, _%_, _≤_, _<_}
 use mathlib.Core.List.{List, [], _∷_, _++_}
 use mathlib.Core.Path.{_≡_, refl}
+use native.Mathlib.Decide.{decLe}
+use native.Mathlib.Nat.{lt-of-not-le}
 use native.Mathlib.Numerals.{add-one}
 use native.Mathlib.Omega.{arith}
 use borrow.Author.Tests.{lt-ltb, le-ltb}
@@ -16,11 +18,12 @@ use Rattle.text.specs.Rows.{padded}
 use Rattle.text.specs.declared.names.Names.{Names}
 use Rattle.text.proofs.Rows.{held}
 use Rattle.format.specs.Conversions.{conversionOf}
-use Rattle.format.specs.Opening.{isByte, letterOf}
+use Rattle.format.specs.Opening.{isByte, letterOf, elementsIn}
 use Rattle.format.specs.declared.conversions.Conversion.{Conversion}
 use Rattle.format.specs.declared.conversions.Form.{Form}
 use Rattle.format.specs.declared.conversions.Form.the-variants.{Zeros, Blanks, FromSunday, Short, Full, Lower, Unknown}
-use Rattle.strftime.proofs.Opens.{conversion-narrow}
+use Rattle.format.proofs.Entries.{counted}
+use Rattle.format.proofs.Small.{conversion-small}
 use Rattle.values.specs.Values.{value}
 use Rattle.values.specs.declared.Moment.{Moment}
 use Rattle.strftime.specs.Writing.{formed, converted, element, text}
@@ -80,12 +83,28 @@ unfolding element converted
 element-most m e =
     let c = conversionOf (letterOf e) in
     picked (λ (s : List ℕ). length s ≤ 9) (isByte e) (omega arith)
-    (formed-most (c .form) (c .width) (value (c .kind) m) (conversion-narrow (letterOf e)))
+    (formed-most (c .form) (c .width) (value (c .kind) m) (conversion-small (letterOf e) .width))
 
 pub text-most : (m : Moment) (es : List ℕ) → length (text m es) ≤ 9 * length es
 unfolding text
 text-most m [] = omega arith
 text-most m (e ∷ es) = rw length-append (omega (arith, element-most m e, text-most m es))
+
+-- ---- entries that count as elements: no more than are looked at, nor than there are
+
+at-most : (k n : ℕ) → (n < k → n < n) → k ≤ n
+at-most k n f =
+    elim (decLe k n) [
+      | yes h ↦ h
+      | no h ↦ absurd (omega (arith, f (lt-of-not-le h)))
+    ]
+
+module _ (n : ℕ) (es : List ℕ) where
+  pub counted-few : elementsIn n es ≤ n
+  counted-few = at-most (elementsIn n es) n (λ h. counted n es n h .0)
+
+  pub counted-within : elementsIn n es ≤ length es
+  counted-within = at-most (elementsIn n es) (length es) (λ h. counted n es (length es) h .1)
 
 -- ---- the elements from a place on
 

@@ -2,7 +2,6 @@
 pub mod Complete
 pub mod Lengths
 pub mod Loops
-pub mod Opens
 pub mod Order
 pub mod Parts
 pub mod Places

@@ -1,14 +1,19 @@
 -- The writer's order, 1, 2, 3, 4, and then 0: what each way out answers and leaves in the buffer.
 -- Assumes nothing.
-use Prim.Native.Nat.{ℕ, _≤_, _<_}
+use Prim.Native.Nat.{ℕ, min, _*_, _≤_, _<_}
 use mathlib.Core.List.{List}
-use mathlib.Core.Path.{_≡_, refl, sym, _∙_}
+use mathlib.Core.Path.{_≡_, refl, ap}
 use native.Mathlib.Nat.{zero-add}
+use native.Mathlib.Omega.{arith}
 use borrow.Author.Tests.{le-leb, lt-leb, eq-eqb, ne-eqb}
-use lib.ListN.{length}
+use lib.ListN.{length, take, length-take}
 use Rattle.laws.specs.Stores.{Puts}
-use Rattle.format.specs.Opening.{opening, longest, mostElements, elementsIn}
-use Rattle.format.specs.Opening.Ended.{Whole, BadAt}
+use Rattle.format.specs.Opening.{opening, opened, openedInto, longest, mostElements, elementsIn}
+use Rattle.format.specs.Opening.Ended.{Whole}
+use Rattle.format.specs.declared.opening.Opened.{Opened}
+use Rattle.format.specs.declared.opening.Opened.the-variants.{Done as Opened-to}
+use Rattle.format.proofs.Bound.{bound}
+use Rattle.format.proofs.Opened.{Opens, Breaks, opened-done, stored}
 use Rattle.values.specs.Moments.{momentOf}
 use Rattle.values.specs.declared.Moment.{Moment}
 use Rattle.values.specs.declared.MomentFields.{MomentFields}
@@ -19,6 +24,7 @@ use Rattle.strftime.specs.Writing.{forMoment, forFields, writing, elemen
 use Rattle.strftime.specs.declared.Fields.{Fields}
 use Rattle.strftime.specs.declared.Writing.{Writing}
 use Rattle.strftime.specs.declared.Written.the-variants.{Done, FormatTooLong, BadMoment, BadConversion, BufferTooSmall}
+use Rattle.strftime.proofs.Lengths.{counted-within}
 
 -- the answer is a, and the buffer is left as c
 abbrev pub Gives : Writing → List ℕ → Result → Type 0
@@ -37,19 +43,33 @@ module _ (s b : List ℕ) where
 
 -- ---- a format: 1 and 3
 
+-- the first n entries of ys are the elements of a format f, which opens whole
+pub record Stored (f : List ℕ) (n : ℕ) (ys : List ℕ) : Type 0 where
+  pub opens : Opens f n
+  pub room : n ≤ length ys
+  pub first : take n ys ≡ opening f .elements
+
+-- opened into xs, which has room for 13 elements to two bytes
+pub all-stored : (f xs : List ℕ) {r : Opened} {ys : List ℕ} {n : ℕ} → 13 * min longest (length f) ≤ 2 * length xs → r ≡ opened f
+    → ys ≡ openedInto f xs → r ≡ Opened-to n → Stored f n ys
+all-stored f xs {ys = ys} {n = n} h a s e =
+    let o = opened-done f a e in
+    let first = stored f xs s o (omega (arith, o .count, o .short, bound f)) in
+    record { opens = o; room = omega (arith, o .count, ap length first, length-take n ys); first = first }
+
 module _ (f : List ℕ) (m : Moment) (b : List ℕ) where
   pub long-format : longest < length f → Gives (writingOf FormatTooLong) b (momentWriting f m b)
   unfolding momentWriting refused writingOf
   long-format h = rw (lt-leb (length f) longest h) (refl, refl)
 
-  pub bad-format : {p : ℕ} → length f ≤ longest → opening f .ended ≡ BadAt p → Gives (writingOf (BadConversion p)) b (momentWriting f m b)
+  pub bad-format : {p : ℕ} → Breaks f p → Gives (writingOf (BadConversion p)) b (momentWriting f m b)
   unfolding momentWriting byFormat refused writingOf
-  bad-format h e = rw (le-leb (length f) longest h, e) (refl, refl)
+  bad-format h = rw (le-leb (length f) longest (h .short), h .bad) (refl, refl)
 
-  pub whole-format : {a : Writing} {c es : List ℕ} → length f ≤ longest → opening f .ended ≡ Whole → es ≡ opening f .elements
-      → Gives a c (put (text m es) b) → Gives a c (momentWriting f m b)
+  pub whole-format : {a : Writing} {c ys : List ℕ} {n : ℕ} → Stored f n ys → Gives a c (put (text m (take n ys)) b)
+      → Gives a c (momentWriting f m b)
   unfolding momentWriting byFormat
-  whole-format h e q g = rw (le-leb (length f) longest h, e) (rw q at g)
+  whole-format h g = rw (le-leb (length f) longest (h .opens .short), h .opens .whole) (rw (h .first) at g)
 
 -- ---- the fields: 2
 
@@ -79,11 +99,14 @@ module _ (t : Fields) {r : MomentFields} (e : r ≡ momentOf (t .year) (t .month
     bad-fields q = rw (with-fields (byElements es b) b q) (refl, refl)
 
     module _ {m : Moment} {good : ℕ} (q : r ≡ Valid m) (k : good ≡ elementsIn mostElements es) where
-      pub bad-entry : (good ≡ length es → ⊥) → Gives (writingOf (BadConversion good)) b (elementsWriting es t b)
+      pub bad-entry : good < length es → Gives (writingOf (BadConversion good)) b (elementsWriting es t b)
       unfolding elementsWriting forMoment byElements refused writingOf
-      bad-entry h = rw (with-fields (byElements es b) b q, ← k, ne-eqb good (length es) h) (refl, refl)
+      bad-entry h =
+          rw (with-fields (byElements es b) b q, ← k, ne-eqb good (length es) (λ (e : good ≡ length es). omega arith)) (refl, refl)
 
-      pub all-elements : {a : Writing} {c : List ℕ} → good ≡ length es → Gives a c (put (text m es) b)
+      pub all-elements : {a : Writing} {c : List ℕ} → length es ≤ good → Gives a c (put (text m es) b)
           → Gives a c (elementsWriting es t b)
       unfolding elementsWriting forMoment byElements
-      all-elements h g = rw (with-fields (byElements es b) b q, ← k, eq-eqb good (length es) h) g
+      all-elements h g =
+          rw
+          (with-fields (byElements es b) b q, ← k, eq-eqb good (length es) (omega (arith, k, counted-within mostElements es))) g

@@ -34,7 +34,10 @@ module _ (b : List ℕ) (at : ℕ) where
       rw (k, l) at q ∙ sym (sets-all (take w (drop at b)) (filled f w v) (filled-length f w v ∙ sym l)) in
       record {
         ends = rw (filled-length f w v) e;
-        stores = rw (k, z) (sets-part b at w (filled f w v) ∙ ap (sets b at) (take-all w (filled f w v) (omega (arith, filled-length f w v))));
+        stores =
+            rw (k, z)
+            (sets-part b at w (filled f w v)
+            ∙ ap (sets b at) (take-all w (filled f w v) (omega (arith, filled-length f w v))));
       }
 
   -- a text is put into the part from a place on, which has room for it

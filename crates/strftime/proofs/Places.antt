@@ -20,8 +20,7 @@ use Rattle.values.specs.declared.Moment.{Moment}
 use Rattle.values.specs.declared.MomentFields.{MomentFields}
 use Rattle.strftime.specs.Writing.{Result, text, refused, put, byFormat, byElements, forMoment, forFields, writing, elementsWriting}
 use Rattle.strftime.specs.declared.Fields.{Fields}
-use Rattle.strftime.proofs.Lengths.{text-most}
-use Rattle.strftime.proofs.Opens.{entries-most}
+use Rattle.strftime.proofs.Lengths.{text-most, counted-few}
 
 -- its place fits 32 bits
 abbrev Fits : Result → Type 0
@@ -78,7 +77,7 @@ entries-place : (es b : List ℕ) (m : Moment) → Fits (byElements es b m)
 unfolding byElements refused
 entries-place es b m =
     let good = elementsIn mostElements es in
-    let few = entries-most mostElements es in
+    let few = counted-few mostElements es in
     either Fits (eqb good (length es))
     (λ (e : eqb good (length es) ≡ true).
     omega (arith, put-place (text m es) b, text-most m es, few, eqb-true good (length es) e))

@@ -113,7 +113,7 @@ pub fn write_elements(elements: &[u32], fields: Fields, out: &mut [u8]) -> Writt
         MomentFields::Bad(field) => Written::BadMoment { field },
         MomentFields::Valid(moment) => {
             let good = elements_in(elements);
-            if good != elements.len() {
+            if good < elements.len() {
                 return Written::BadConversion { at: good };
             }
             write_opened(elements, moment, out)

@@ -1,7 +1,7 @@
 -- `strftime::write_elements` meets its contract: 2 and 3 are answered here.
 use native.Mathlib.Omega.{arith}
 use Rattle.format.specs.Opening.{mostElements}
-use Rattle.strftime.proofs.Opens.{entries-most}
+use Rattle.strftime.proofs.Lengths.{counted-few}
 use Rattle.strftime.proofs.Order.{bad-fields, bad-entry, all-elements}
 use borrow.Author.Needs.{needs}
 use Rattle.strftime.proofs.write_elements.Statement.{statement}
@@ -20,12 +20,15 @@ elements-in-requires : tie.Need-elements-in-requires
 elements-in-requires c κs = search needs
 
 returns : tie.Need-returns
-returns c = bad-entry _ (c .before .before .before .before .before .moment-of .ensures) _ _ (c .before .before .before .moment .given .1) (c .before .elements-in .ensures) (c .if1 .taken)
+returns c =
+    let m = c .before .before .before in
+    bad-entry _ (m .before .before .moment-of .ensures) _ _ (m .moment .given .1) (c .before .elements-in .ensures) (omega arith)
 
 write-opened-requires : tie.Need-write-opened-requires
 write-opened-requires c κs =
     let e = c .before .before in
-    omega (arith, entries-most mostElements (e .before .before .before .before .before .before .before .args .elements .now), e .elements-in .ensures)
+    let s = e .before .before .before .before .before .before .before in
+    omega (arith, counted-few mostElements (s .args .elements .now), e .elements-in .ensures)
 
 returns-2 : tie.Need-returns-2
 returns-2 c = bad-fields _ (c .before .before .before .moment-of .ensures) _ _ (c .before .field .given .1)
@@ -36,8 +39,9 @@ same-length c = search needs
 returns-3 : tie.Need-returns-3
 returns-3 c =
     let e = c .before .before .before .before .before in
-    all-elements _ (e .before .before .before .before .moment-of .ensures) _ _ (e .before .before .moment .given .1) (e .elements-in .ensures)
-    (c .before .before .before .before .if1 .left) (c .before .before .write-opened .ensures)
+    let m = e .before .before in
+    all-elements _ (m .before .before .moment-of .ensures) _ _ (m .moment .given .1) (e .elements-in .ensures)
+    (omega arith) (c .before .before .write-opened .ensures)
 
 pub write-elements-spec : {M : Type 1} → statement M
 write-elements-spec =

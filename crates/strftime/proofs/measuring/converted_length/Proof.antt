@@ -59,15 +59,24 @@ returns-3 c = rw (c .enum-told3 .given .1, filled-length)
 
 returns-4 : tie.Need-returns-4
 unfolding formed
-returns-4 c = rw (by-form (c .before .before .before .before .before .args .c) (c .before .before .before .before .before .args .moment) (c .before .before .before .form .given .1) (c .before .value .ensures)) (c .short-length .ensures)
+returns-4 c =
+    let a = c .before .before .before .before .before .args in
+    rw (by-form (a .c) (a .moment) (c .before .before .before .form .given .1) (c .before .value .ensures))
+    (c .short-length .ensures)
 
 returns-5 : tie.Need-returns-5
 unfolding formed
-returns-5 c = rw (by-form (c .before .before .before .before .before .args .c) (c .before .before .before .before .before .args .moment) (c .before .before .before .form2 .given .1) (c .before .value2 .ensures)) (c .full-length .ensures)
+returns-5 c =
+    let a = c .before .before .before .before .before .args in
+    rw (by-form (a .c) (a .moment) (c .before .before .before .form2 .given .1) (c .before .value2 .ensures))
+    (c .full-length .ensures)
 
 returns-6 : tie.Need-returns-6
 unfolding formed
-returns-6 c = rw (by-form (c .before .before .before .before .before .args .c) (c .before .before .before .before .before .args .moment) (c .before .before .before .form3 .given .1) (c .before .value3 .ensures), length-map) (c .full-length2 .ensures)
+returns-6 c =
+    let a = c .before .before .before .before .before .args in
+    rw (by-form (a .c) (a .moment) (c .before .before .before .form3 .given .1) (c .before .value3 .ensures), length-map)
+    (c .full-length2 .ensures)
 
 returns-7 : tie.Need-returns-7
 unfolding converted formed

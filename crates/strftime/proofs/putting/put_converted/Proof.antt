@@ -74,42 +74,54 @@ same-length c = search needs
 
 returns : tie.Need-returns
 unfolding formed
-returns c = rw (written (c .before .before .before .before .before .before) (c .before .before .before .before .enum-told .given .1)) (c .before .before .put-number .ensures)
+returns c =
+    let l = c .before .before .before .before in
+    rw (written (l .before .before) (l .enum-told .given .1)) (c .before .before .put-number .ensures)
 
 same-length-2 : tie.Need-same-length-2
 same-length-2 c = search needs
 
 returns-2 : tie.Need-returns-2
 unfolding formed
-returns-2 c = rw (written (c .before .before .before .before .before .before) (c .before .before .before .before .enum-told2 .given .1)) (c .before .before .put-number2 .ensures)
+returns-2 c =
+    let l = c .before .before .before .before in
+    rw (written (l .before .before) (l .enum-told2 .given .1)) (c .before .before .put-number2 .ensures)
 
 same-length-3 : tie.Need-same-length-3
 same-length-3 c = search needs
 
 returns-3 : tie.Need-returns-3
 unfolding formed
-returns-3 c = rw (written (c .before .before .before .before .before .before) (c .before .before .before .before .enum-told3 .given .1)) (c .before .before .put-number3 .ensures)
+returns-3 c =
+    let l = c .before .before .before .before in
+    rw (written (l .before .before) (l .enum-told3 .given .1)) (c .before .before .put-number3 .ensures)
 
 same-length-4 : tie.Need-same-length-4
 same-length-4 c = search needs
 
 returns-4 : tie.Need-returns-4
 unfolding formed
-returns-4 c = rw (written (c .before .before .before .before .before .before .before) (c .before .before .before .before .before .form .given .1)) (c .before .before .put-short .ensures)
+returns-4 c =
+    let l = c .before .before .before .before .before in
+    rw (written (l .before .before) (l .form .given .1)) (c .before .before .put-short .ensures)
 
 same-length-5 : tie.Need-same-length-5
 same-length-5 c = search needs
 
 returns-5 : tie.Need-returns-5
 unfolding formed
-returns-5 c = rw (written (c .before .before .before .before .before .before .before) (c .before .before .before .before .before .form2 .given .1)) (c .before .before .put-full .ensures)
+returns-5 c =
+    let l = c .before .before .before .before .before in
+    rw (written (l .before .before) (l .form2 .given .1)) (c .before .before .put-full .ensures)
 
 same-length-6 : tie.Need-same-length-6
 same-length-6 c = search needs
 
 returns-6 : tie.Need-returns-6
 unfolding formed
-returns-6 c = rw (written (c .before .before .before .before .before .before .before) (c .before .before .before .before .before .form3 .given .1)) (c .before .before .put-lower .ensures)
+returns-6 c =
+    let l = c .before .before .before .before .before in
+    rw (written (l .before .before) (l .form3 .given .1)) (c .before .before .put-lower .ensures)
 
 returns-7 : tie.Need-returns-7
 unfolding formed

@@ -32,7 +32,9 @@ loop-less : tie.Need-loop-less Inv-loop μ-loop
 loop-less c = omega arith
 
 loop-again : tie.Need-loop-again Inv-loop μ-loop
-loop-again c = put-next (c .before .before .before .before .before .before .loop .inv) (omega arith) (c .before .before .put-element .ensures)
+loop-again c =
+    put-next (c .before .before .before .before .before .before .loop .inv) (omega arith)
+    (c .before .before .put-element .ensures)
 
 same-length : tie.Need-same-length Inv-loop μ-loop
 same-length c = c .before .loop .inv .kept

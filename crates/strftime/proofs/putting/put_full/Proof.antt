@@ -1,7 +1,5 @@
 -- `strftime::putting::put_full` meets its contract.
-use mathlib.Core.Path.{ap}
 use native.Mathlib.Omega.{arith}
-use lib.ListN.{length}
 use Rattle.strftime.proofs.Lengths.{named}
 use Rattle.strftime.proofs.Parts.{puts-rest}
 use borrow.Author.Needs.{needs}
@@ -23,19 +21,19 @@ place-for-requires c κs = search needs
 write-name-requires : tie.Need-write-name-requires
 write-name-requires c κs = search needs
 
-add-result : tie.Need-add-result
-add-result c =
-    let s = c .before .before .before .before .before .before in
-    omega (arith, s .pre, c .before .before .write-name .ensures .0, ap length (named (s .args .t) (s .args .value) (c .before .before .before .place-for .ensures)))
-
-same-length : tie.Need-same-length
-same-length c = search needs
-
+-- the name is put: so the place after it fits
 returns : tie.Need-returns
 returns c =
     let s = c .before .before .before .before .before .before in
-    let w = rw (named (s .args .t) (s .args .value) (c .before .before .before .place-for .ensures)) at (c .before .before .write-name .ensures) in
+    let n = named (s .args .t) (s .args .value) (c .before .before .before .place-for .ensures) in
+    let w = rw n at (c .before .before .write-name .ensures) in
     puts-rest _ _ _ (s .pre) (w .0) (w .1)
+
+add-result : tie.Need-add-result
+add-result c = omega (arith, returns c .ends, c .before .before .before .before .before .before .pre)
+
+same-length : tie.Need-same-length
+same-length c = search needs
 
 pub put-full-spec : {M : Type 1} → statement M
 put-full-spec =

@@ -1,7 +1,7 @@
 -- `strftime::putting::put_lower` meets its contract.
-use mathlib.Core.Path.{sym, ap, _∙_}
+use mathlib.Core.Path.{sym, _∙_}
 use native.Mathlib.Omega.{arith}
-use lib.ListN.{length, length-map}
+use lib.ListN.{length-map}
 use Rattle.text.specs.Case.{fold}
 use Rattle.text.specs.Naming.{nameFor}
 use Rattle.strftime.proofs.Lengths.{named}
@@ -25,21 +25,19 @@ place-for-requires c κs = search needs
 write-name-lower-requires : tie.Need-write-name-lower-requires
 write-name-lower-requires c κs = search needs
 
-add-result : tie.Need-add-result
-add-result c =
-    let s = c .before .before .before .before .before .before in
-    let l = length-map (nameFor (s .args .t) (s .args .value)) fold in
-    omega (arith, s .pre, l, c .before .before .write-name-lower .ensures .0, ap length (named (s .args .t) (s .args .value) (c .before .before .before .place-for .ensures)))
-
-same-length : tie.Need-same-length
-same-length c = search needs
-
+-- the name is put: so the place after it fits
 returns : tie.Need-returns
 returns c =
     let s = c .before .before .before .before .before .before in
-    let l = length-map (nameFor (s .args .t) (s .args .value)) fold in
-    let w = rw (named (s .args .t) (s .args .value) (c .before .before .before .place-for .ensures)) at (c .before .before .write-name-lower .ensures) in
-    puts-rest _ _ _ (s .pre) (w .0 ∙ sym l) (w .1)
+    let n = named (s .args .t) (s .args .value) (c .before .before .before .place-for .ensures) in
+    let w = rw n at (c .before .before .write-name-lower .ensures) in
+    puts-rest _ _ _ (s .pre) (w .0 ∙ sym (length-map (nameFor (s .args .t) (s .args .value)) fold)) (w .1)
+
+add-result : tie.Need-add-result
+add-result c = omega (arith, returns c .ends, c .before .before .before .before .before .before .pre)
+
+same-length : tie.Need-same-length
+same-length c = search needs
 
 pub put-lower-spec : {M : Type 1} → statement M
 put-lower-spec =

@@ -36,7 +36,8 @@ returns : tie.Need-returns
 returns c =
     let s = c .before .before .before .before .before .before .before in
     let n = named (s .args .t) (s .args .value) (c .before .before .before .place-for .ensures) in
-    puts-first _ _ 3 (nameFor (s .args .t) (s .args .value)) (ap (_+_ (s .args .at)) (c .before .before .before .before .before .short-length .ensures)) (rw n at (c .before .before .write-name .ensures .1))
+    let e = ap (_+_ (s .args .at)) (c .before .before .before .before .before .short-length .ensures) in
+    puts-first _ _ 3 (nameFor (s .args .t) (s .args .value)) e (rw n at (c .before .before .write-name .ensures .1))
 
 pub put-short-spec : {M : Type 1} → statement M
 put-short-spec =
