@@ -1,11 +1,11 @@
 ghost use mathlib.Core.Path.{_≡_};
 ghost use mathlib.Core.List.{List};
-ghost use Prim.Native.Nat.{ℕ, _+_, _≤_, _<_, min};
+ghost use Prim.Native.Nat.{ℕ, _+_, _≤_, _<_};
 ghost use lib.ListN.{length, getD, take, drop, set};
 ghost use lib.Seq.{sets};
 ghost use Rattle.format.specs.Conversions.{ownFormat};
-ghost use Rattle.format.specs.Opening.{longest, conversionAt, letter, paired, conversion, pieceOf, signAt, openTo};
-ghost use Rattle.format.specs.Opening.{opened, openedInto, mostElements, isElement, elementsIn};
+ghost use Rattle.format.specs.Opening.{longest, conversionAt, letter, piece, paired, conversion, pieceOf};
+ghost use Rattle.format.specs.Opening.{signAt, openTo, opened, openedInto, mostElements, isElement, elementsIn};
 ghost use Rattle.format.specs.Private.{holds, SetOf, CanOpen, answered};
 
 // The most bytes of a format, and of a text.
@@ -14,7 +14,7 @@ pub const LONGEST: usize = 1024;
 // The most elements that a format opens to, 13 to two bytes.
 pub const MOST_ELEMENTS: usize = 6656;
 
-// What stands first in a format does: a byte is stored, a conversion is stored, a composite is opened, or the conversion is bad.
+// What a piece of a format does: a byte or a conversion is stored, a composite is opened, or the conversion is bad.
 pub enum Act {
     Byte(u8),
     Convert(u8),
@@ -22,7 +22,7 @@ pub enum Act {
     Refuse,
 }
 
-// What stands first in a format: what it does, and how many bytes it takes.
+// A piece, what a format begins with: what it does, and how many bytes it takes.
 pub struct Piece {
     pub act: Act,
     pub length: usize,
@@ -90,27 +90,24 @@ fn letter(b: u8) -> Act
     }
 }
 
+fn sized(act: Act, length: usize) -> Piece
+    ensures { λ r. ⌜ r ≡ piece act length ⌝ }
+{
+    Piece { act, length }
+}
+
 // What stands after %E or %O, where only some letters are taken.
 fn paired(set: u64, s: &[u8]) -> Piece
     ensures { λ r. ⌜ ((letters : List ℕ) → SetOf set letters → r ≡ paired letters (now (s .entry))) ⌝ }
 {
     if s.len() == 0 {
-        return Piece {
-            act: Act::Refuse,
-            length: 2,
-        };
+        return sized(Act::Refuse, 2);
     }
     let b = s[0];
     if holds(set, b) {
-        return Piece {
-            act: letter(b),
-            length: 3,
-        };
+        return sized(letter(b), 3);
     }
-    Piece {
-        act: Act::Refuse,
-        length: 3,
-    }
+    sized(Act::Refuse, 3)
 }
 
 // What stands after %.
@@ -118,19 +115,13 @@ fn conversion(s: &[u8]) -> Piece
     ensures { λ r. ⌜ r ≡ conversion (now (s .entry)) ⌝ }
 {
     if s.len() == 0 {
-        return Piece {
-            act: Act::Refuse,
-            length: 1,
-        };
+        return sized(Act::Refuse, 1);
     }
     let b = s[0];
     match b {
         b'E' => paired(AFTER_E, &s[1..]),
         b'O' => paired(AFTER_O, &s[1..]),
-        _ => Piece {
-            act: letter(b),
-            length: 2,
-        },
+        _ => sized(letter(b), 2),
     }
 }
 
@@ -141,10 +132,7 @@ fn piece_at(format: &[u8], at: usize) -> Piece
 {
     let b = format[at];
     if b != b'%' {
-        return Piece {
-            act: Act::Byte(b),
-            length: 1,
-        };
+        return sized(Act::Byte(b), 1);
     }
     conversion(&format[at + 1..])
 }
@@ -193,7 +181,7 @@ fn store(out: &mut [u32], n: usize, e: u32)
     }
 }
 
-// CanOpen a format, its composites at most `depth` deep: counts its elements from `from` on, and stores those that fit.
+// Opens a format, its composites at most `depth` deep: counts its elements from `from` on, and stores those that fit.
 fn open_to(depth: u32, sign: Sign, format: &[u8], out: &mut [u32], from: usize) -> Opened
     requires { ⌜ CanOpen depth sign (now format) from ⌝ }
     ensures { λ r. ⌜ r ≡ answered from (openTo depth sign (now (format .entry))) ⌝ }
@@ -239,7 +227,7 @@ fn open_to(depth: u32, sign: Sign, format: &[u8], out: &mut [u32], from: usize) 
     Opened::Done { count: n }
 }
 
-// CanOpen a format: counts its elements, those before its first bad % or all, and stores as many of them as fit at the front of `out`.
+// Opens a format: counts its elements, those before its first bad % or all, and stores as many of them as fit at the front of `out`.
 pub fn open(format: &[u8], out: &mut [u32]) -> Opened
     ensures { λ r. ⌜ r ≡ opened (now (format .entry)) ⌝ }
     ensures { λ _. ⌜ now (out .exit) ≡ openedInto (now (format .entry)) (now (out .entry)) ⌝ }
@@ -257,25 +245,21 @@ fn is_element(e: u32) -> bool
     if e < 256 {
         return true;
     }
-    if 1023 < e / 256 {
+    if LONGEST <= (e / 256) as usize {
         return false;
     }
     holds(CONVERSIONS, (e % 256) as u8)
-}
-
-fn smaller(a: usize, b: usize) -> usize
-    ensures { λ r. ⌜ r ≡ min a b ⌝ }
-{
-    if a < b { a } else { b }
 }
 
 // How many entries, from the first on, opening a format can store.
 pub fn elements_in(elements: &[u32]) -> usize
     ensures { λ r. ⌜ r ≡ elementsIn mostElements (now (elements .entry)) ⌝ }
 {
-    let most = smaller(elements.len(), MOST_ELEMENTS);
     let mut k = 0;
-    while k < most {
+    while k < elements.len() {
+        if MOST_ELEMENTS <= k {
+            return k;
+        }
         if !is_element(elements[k]) {
             return k;
         }
