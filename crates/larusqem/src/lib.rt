@@ -10,6 +10,7 @@ use strftime::Writing;
 use strftime::strftime;
 use strftime::write_elements;
 use strftime::writing_of;
+use strptime::Answer;
 use strptime::Day;
 use strptime::Reading;
 use strptime::Said;
@@ -23,7 +24,7 @@ ghost use Rattle.calendar.specs.Calendar.{days};
 ghost use Rattle.calendar.specs.Dates.{fromFields, fromDayNumber};
 ghost use Rattle.format.specs.Opening.{openedInto};
 ghost use Rattle.strftime.specs.Writing.{writing, elementsWriting};
-ghost use Rattle.strptime.specs.Answers.{reading, elementsReading};
+ghost use Rattle.strptime.specs.Answers.{readingOf, reading, elementsReading};
 ghost use Rattle.larusqem.specs.Dates.{numberFrom, dateFrom};
 ghost use Rattle.larusqem.specs.Packed.{packed, packedWriting, fields, openedFor};
 ghost use Rattle.larusqem.specs.Words.{dayOrZero, flag, numberOr0, wordsOf};
@@ -224,15 +225,24 @@ fn words_of(r: Reading) -> [u32; 14]
     }
 }
 
+// An answer's number, and its words.
+fn tell(answer: Answer, words: &mut [u32; 14]) -> u32
+    requires { ⌜ readingOf answer .place < 2 ^ 32 ⌝ }
+    ensures { λ r. ⌜ r ≡ readingOf answer .number ⌝ }
+    ensures { λ _. ⌜ now (words .exit) ≡ wordsOf (readingOf answer) ⌝ }
+{
+    let r = reading_of(answer);
+    *words = words_of(r);
+    r.number
+}
+
 // Reads a text by a format.
 #[no_mangle]
 pub extern "C" fn larusqem_strptime(format: &[u8], text: &[u8], words: &mut [u32; 14]) -> u32
     ensures { λ r. ⌜ r ≡ reading (now (format .entry)) (now (text .entry)) .number ⌝ }
     ensures { λ _. ⌜ now (words .exit) ≡ wordsOf (reading (now (format .entry)) (now (text .entry))) ⌝ }
 {
-    let r = reading_of(strptime(format, text));
-    *words = words_of(r);
-    r.number
+    tell(strptime(format, text), words)
 }
 
 // Reads a text by the elements of a format that was opened before.
@@ -241,9 +251,7 @@ pub extern "C" fn larusqem_read(elements: &[u32], text: &[u8], words: &mut [u32;
     ensures { λ r. ⌜ r ≡ elementsReading (now (elements .entry)) (now (text .entry)) .number ⌝ }
     ensures { λ _. ⌜ now (words .exit) ≡ wordsOf (elementsReading (now (elements .entry)) (now (text .entry))) ⌝ }
 {
-    let r = reading_of(read_elements(elements, text));
-    *words = words_of(r);
-    r.number
+    tell(read_elements(elements, text), words)
 }
 
 // ---- The calendar

@@ -12,17 +12,13 @@ use Rattle.larusqem.proofs.larusqem_read.Tie as tie
 read-elements-requires : tie.Need-read-elements-requires
 read-elements-requires c κs = search needs
 
-reading-of-requires : tie.Need-reading-of-requires
-reading-of-requires c κs = search needs
-
-words-of-requires : tie.Need-words-of-requires
-words-of-requires c κs = rw (c .reading-of .ensures, c .before .read-elements .ensures) (lt-of-le-of-lt (elements-place _ _) (lit≤ tt))
+tell-requires : tie.Need-tell-requires
+tell-requires c κs = rw (c .before .read-elements .ensures) (lt-of-le-of-lt (elements-place _ _) (lit≤ tt))
 
 returns : tie.Need-returns
 returns c =
-    let r = c .before .reading-of .ensures ∙ c .before .before .read-elements .ensures in
-    (ap (λ (x : Reading). x .number) r, c .words-of .ensures ∙ ap wordsOf r)
+    let r = c .before .before .read-elements .ensures in
+    (c .tell .ensures .0 ∙ ap (λ (x : Reading). x .number) r, c .tell .ensures .1 ∙ ap wordsOf r)
 
 pub larusqem-read-spec : {M : Type 1} → statement M
-larusqem-read-spec =
-    tie.close (tie.spec read-elements-requires reading-of-requires words-of-requires returns)
+larusqem-read-spec = tie.close (tie.spec read-elements-requires tell-requires returns)

@@ -12,17 +12,13 @@ use Rattle.larusqem.proofs.larusqem_strptime.Tie as tie
 strptime-requires : tie.Need-strptime-requires
 strptime-requires c κs = search needs
 
-reading-of-requires : tie.Need-reading-of-requires
-reading-of-requires c κs = search needs
-
-words-of-requires : tie.Need-words-of-requires
-words-of-requires c κs = rw (c .reading-of .ensures, c .before .strptime .ensures) (lt-of-le-of-lt (reading-place _ _) (lit≤ tt))
+tell-requires : tie.Need-tell-requires
+tell-requires c κs = rw (c .before .strptime .ensures) (lt-of-le-of-lt (reading-place _ _) (lit≤ tt))
 
 returns : tie.Need-returns
 returns c =
-    let r = c .before .reading-of .ensures ∙ c .before .before .strptime .ensures in
-    (ap (λ (x : Reading). x .number) r, c .words-of .ensures ∙ ap wordsOf r)
+    let r = c .before .before .strptime .ensures in
+    (c .tell .ensures .0 ∙ ap (λ (x : Reading). x .number) r, c .tell .ensures .1 ∙ ap wordsOf r)
 
 pub larusqem-strptime-spec : {M : Type 1} → statement M
-larusqem-strptime-spec =
-    tie.close (tie.spec strptime-requires reading-of-requires words-of-requires returns)
+larusqem-strptime-spec = tie.close (tie.spec strptime-requires tell-requires returns)
