@@ -75,17 +75,20 @@ static void writing(void) {
 
 /* readings with nothing to judge by day or hour, and one that judges the hour */
 static void reading(void) {
-    static const struct { const char *format, *text; } cases[] = {{"%M:%S", "08:09"}, {"month %n%M min", "month   8 min"}, {"%H:%M:%S", "07:08:09"}};
+    static const struct { const char *format, *text; } cases[] = {
+        {"%M:%S", "08:09"}, {"month %n%M min", "month   8 min"}, {"%H:%M:%S", "07:08:09"}};
     static uint32_t elements[LARUSQEM_ELEMENTS];
-    printf("| read, no day to judge | C library | ours, format opened each time | ratio | ours, opened once | ratio |\n|---|---|---|---|---|---|\n");
+    printf("| read, no day to judge | C library | ours, format opened each time | ratio | ours, opened once | ratio |\n");
+    printf("|---|---|---|---|---|---|\n");
     for (size_t k = 0; k < sizeof cases / sizeof *cases; k++) {
         const char *f = cases[k].format, *s = cases[k].text;
         uint32_t words[LARUSQEM_WORDS];
         struct tm t;
         BEST(libc, DATES, for (int i = 0; i < DATES; i++) { memset(&t, 0, sizeof t); sink += (uint64_t)(strptime(s, f, &t) - s); });
-        BEST(anew, DATES, for (int i = 0; i < DATES; i++) sink += larusqem_strptime((const uint8_t *)f, strlen(f), (const uint8_t *)s, strlen(s), words, LARUSQEM_WORDS));
+        BEST(anew, DATES, for (int i = 0; i < DATES; i++)
+            sink += larusqem_strptime((const uint8_t *)f, strlen(f), (const uint8_t *)s, strlen(s), words));
         uint32_t count = larusqem_place(larusqem_open((const uint8_t *)f, strlen(f), elements, LARUSQEM_ELEMENTS));
-        BEST(once, DATES, for (int i = 0; i < DATES; i++) sink += larusqem_read(elements, count, (const uint8_t *)s, strlen(s), words, LARUSQEM_WORDS));
+        BEST(once, DATES, for (int i = 0; i < DATES; i++) sink += larusqem_read(elements, count, (const uint8_t *)s, strlen(s), words));
         printf("| `%s` | %.0f ns | %.0f ns | %.2f | %.0f ns | %.2f |\n", f, libc, anew, anew / libc, once, once / libc);
     }
     printf("\n");
@@ -138,13 +141,14 @@ static void scanning(void) {
         {"week %U 53 in January, none", "%U %m", "53 1", {0, 2, 0, 0, 54, 0}},
         {"week %V 53 in March, none", "%V %m", "53 3", {0, 4, 0, 0, 0, 54}},
     };
-    printf("| search of all 3,652,059 days | the same loop in C | ours, the whole reading | ratio | ns for a day |\n|---|---|---|---|---|\n");
+    printf("| search of all %u days | the same loop in C | ours, the whole reading | ratio | ns for a day |\n", larusqem_days());
+    printf("|---|---|---|---|---|\n");
     for (size_t k = 0; k < sizeof cases / sizeof *cases; k++) {
         const char *f = cases[k].format, *s = cases[k].text;
         uint32_t words[LARUSQEM_WORDS], hits[2];
         BEST(c, 1, sink += search(cases[k].facts, hits));
-        BEST(us, 1, sink += larusqem_strptime((const uint8_t *)f, strlen(f), (const uint8_t *)s, strlen(s), words, LARUSQEM_WORDS));
-        printf("| %s (`%s`) | %.2f ms | %.2f ms | %.2f | %.2f |\n", cases[k].what, s, c / 1e6, us / 1e6, us / c, us / 3652059);
+        BEST(us, 1, sink += larusqem_strptime((const uint8_t *)f, strlen(f), (const uint8_t *)s, strlen(s), words));
+        printf("| %s (`%s`) | %.2f ms | %.2f ms | %.2f | %.2f |\n", cases[k].what, s, c / 1e6, us / 1e6, us / c, us / larusqem_days());
     }
     printf("\n");
 }

@@ -37,6 +37,11 @@
  *
  * The writer judges 1, 2, 3, 4 in this order; the reader 1, 5, 3, then 6, 7, 8 from left to right, then 9 or 10 for the day, then for
  * the hour. Text left over is no refusal.
+ *
+ * A format that was opened once (larusqem_open) is a list of elements. An element is a number: a byte stands for itself, and a conversion
+ * is 256 * (p + 1) + its letter, where p is the offset of its % in the format; composites are opened, and their conversions have the p of
+ * the composite. What is opened is refused by 1, 3 and 4, where 4 is for elements that do not fit their array, with how many there are.
+ * What is written or read by a list is refused by 3 for an entry that no opening makes, with the index of the first.
  */
 #ifndef LARUSQEM_H
 #define LARUSQEM_H
@@ -49,12 +54,11 @@ extern "C" {
 #endif
 
 /* the longest format and the longest text, the most elements that a format opens to, the length of a buffer that is enough for every
-   writing, the words of a reading's answer, and what comes back in a number's place where an array has too few entries */
+   writing, and the words of a reading's answer */
 #define LARUSQEM_LONGEST 1024
 #define LARUSQEM_ELEMENTS 6656
 #define LARUSQEM_WIDEST 59904
 #define LARUSQEM_WORDS 14
-#define LARUSQEM_NO_ROOM UINT32_C(0xFFFFFFFF)
 
 /* A 64-bit result is number * 2^32 + place. */
 static inline uint32_t larusqem_number(uint64_t result) { return (uint32_t)(result >> 32); }
@@ -108,40 +112,44 @@ uint64_t larusqem_strftime(const uint8_t *format, size_t format_length, uint32_t
  * Reads a text by a format: the one day and hour that all that it says fits, or why there is none.
  *   format, format_length   the format
  *   text, text_length       the text
- *   words, words_length     at least LARUSQEM_WORDS entries, for the answer
- * Returns the number: 0, 1, 3 or 5 to 10 of the table; the first 14 entries of `words` are the answer's words, and those past them are as
- * they came. Where `words` has fewer than 14 entries it returns LARUSQEM_NO_ROOM, and `words` is as it came.
+ *   words                   the answer: 14 entries, all of them written
+ * Returns the number: 0, 1, 3 or 5 to 10 of the table.
  */
-uint32_t larusqem_strptime(const uint8_t *format, size_t format_length, const uint8_t *text, size_t text_length, uint32_t *words,
-                           size_t words_length);
+uint32_t larusqem_strptime(const uint8_t *format, size_t format_length, const uint8_t *text, size_t text_length,
+                           uint32_t words[LARUSQEM_WORDS]);
 
 /*
  * Opens a format into elements, once, for any number of calls of larusqem_write and larusqem_read.
  *   format, format_length       the format
  *   elements, elements_length   room for the elements; LARUSQEM_ELEMENTS entries are enough for every format, and 13 for every two
  *                               bytes of this one
- * Returns number * 2^32 + place: 0 with the count of elements, 1 with 0, 3 with the offset of the first bad %, or LARUSQEM_NO_ROOM with 0.
- * On 0 the elements are the first `place` entries. On 3 those before the bad % are stored, on LARUSQEM_NO_ROOM as many of these as fit,
- * and on 1 none. Every other entry is as it came.
- * An element is a number: a byte stands for itself, a conversion is 256 more than its letter; composites are opened.
+ * Returns number * 2^32 + place, judged in this order: 1 with 0; 3 with the offset of the first bad %; 4 with the number of elements where
+ * they do not all fit; 0 with their number. On 0 and 4 the elements are stored, on 3 those before the bad %, each as many as fit, and
+ * on 1 none. Every other entry is as it came.
  */
 uint64_t larusqem_open(const uint8_t *format, size_t format_length, uint32_t *elements, size_t elements_length);
 
 /*
- * As larusqem_strftime, by elements that larusqem_open stored. Returns 0, 2 or 4 of the table. (Of other numbers: one past 255 that is no
- * conversion's writes nothing, and more than LARUSQEM_ELEMENTS of them, for a valid moment, are refused by 1.)
+ * As larusqem_strftime, by elements that larusqem_open stored. Returns number * 2^32 + place, judged in this order: 2 with the first bad
+ * field; 3 with the index of the first entry that no opening makes; 4 with the bytes needed; 0 with the bytes written. No opening makes
+ * an entry past 255 whose lowest byte is no letter of
+ *   Y C y m b h B d e j u w a A U W G g V H k I l p P M S
+ * nor one of 2^18 or more, nor an entry past the first LARUSQEM_ELEMENTS.
  */
 uint64_t larusqem_write(const uint32_t *elements, size_t elements_length, uint32_t year, uint32_t month, uint32_t day, uint32_t hour,
                         uint32_t minute, uint32_t second, uint8_t *out, size_t out_length);
 
 /*
- * As larusqem_strptime, by elements that larusqem_open stored. Returns 0 or 5 to 10 of the table, or LARUSQEM_NO_ROOM. (Of other numbers:
- * one past 255 that is no conversion's matches no text.)
+ * As larusqem_strptime, by elements that larusqem_open stored. Returns 0, 3 or 5 to 10 of the table: 5, then 3 as larusqem_write, then as
+ * larusqem_strptime.
  */
-uint32_t larusqem_read(const uint32_t *elements, size_t elements_length, const uint8_t *text, size_t text_length, uint32_t *words,
-                       size_t words_length);
+uint32_t larusqem_read(const uint32_t *elements, size_t elements_length, const uint8_t *text, size_t text_length,
+                       uint32_t words[LARUSQEM_WORDS]);
 
-/* The day number of a date: 0001-01-01 is 1, 9999-12-31 is 3,652,059. 0 where the three are no date of the calendar. */
+/* How many days the calendar has: the day number of its last, 3,652,059. */
+uint32_t larusqem_days(void);
+
+/* The day number of a date: 0001-01-01 is 1, 9999-12-31 is larusqem_days(). 0 where the three are no date of the calendar. */
 uint32_t larusqem_day_number(uint32_t year, uint32_t month, uint32_t day);
 
 /* The date of a day number: year * 65536 + month * 256 + day. 0 where no day of the calendar has that number. */

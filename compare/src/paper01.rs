@@ -195,18 +195,41 @@ fn white(b: u8) -> bool {
     b == 32 || b == 9 || b == 10
 }
 
-/// The elements of a format, or the offset of its first bad `%`.
-pub fn items(format: &[u8]) -> Result<Vec<Item>, usize> {
+/// A byte that stands for itself.
+pub fn byte(b: u8) -> Item {
+    if white(b) {
+        Item::Space(b)
+    } else {
+        Item::Byte(b)
+    }
+}
+
+/// The format that a composite is.
+fn composite(letter: u8) -> Option<&'static [u8]> {
+    Some(match letter {
+        b'c' => b"%a %b %e %T %Y",
+        b'x' => b"%D",
+        b'X' => b"%T",
+        b'D' => b"%m/%d/%y",
+        b'F' => b"%Y-%m-%d",
+        b'R' => b"%H:%M",
+        b'T' => b"%H:%M:%S",
+        b'r' => b"%I:%M:%S %p",
+        _ => return None,
+    })
+}
+
+/// The elements of a format, each with the offset in it of its byte or its `%`, or else the offset of the first bad `%`.
+pub fn placed_items(format: &[u8]) -> Result<Vec<(Item, usize)>, usize> {
     let mut out = Vec::new();
     let mut i = 0;
     while i < format.len() {
-        let b = format[i];
-        if b != b'%' {
-            out.push(if white(b) { Item::Space(b) } else { Item::Byte(b) });
+        let start = i;
+        if format[i] != b'%' {
+            out.push((byte(format[i]), start));
             i += 1;
             continue;
         }
-        let start = i;
         let letter = match *format.get(i + 1).ok_or(start)? {
             b'E' | b'O' => {
                 let pair = format.get(i + 1..i + 3).ok_or(start)?;
@@ -222,22 +245,19 @@ pub fn items(format: &[u8]) -> Result<Vec<Item>, usize> {
             }
         };
         match letter {
-            b'n' => out.push(Item::Space(10)),
-            b't' => out.push(Item::Space(9)),
-            b'%' => out.push(Item::Byte(b'%')),
-            b'c' => out.extend(items(b"%a %b %e %T %Y").unwrap()),
-            b'x' => out.extend(items(b"%D").unwrap()),
-            b'X' => out.extend(items(b"%T").unwrap()),
-            b'D' => out.extend(items(b"%m/%d/%y").unwrap()),
-            b'F' => out.extend(items(b"%Y-%m-%d").unwrap()),
-            b'R' => out.extend(items(b"%H:%M").unwrap()),
-            b'T' => out.extend(items(b"%H:%M:%S").unwrap()),
-            b'r' => out.extend(items(b"%I:%M:%S %p").unwrap()),
-            l if b"YGCygmdHMSeklIjuwUWVaAbBhpP".contains(&l) => out.push(Item::Conversion(l)),
-            _ => return Err(start),
+            b'n' => out.push((byte(10), start)),
+            b't' => out.push((byte(9), start)),
+            b'%' => out.push((byte(b'%'), start)),
+            l if b"YGCygmdHMSeklIjuwUWVaAbBhpP".contains(&l) => out.push((Item::Conversion(l), start)),
+            l => out.extend(items(composite(l).ok_or(start)?).unwrap().into_iter().map(|item| (item, start))),
         }
     }
     Ok(out)
+}
+
+/// The elements of a format, or the offset of its first bad `%`.
+pub fn items(format: &[u8]) -> Result<Vec<Item>, usize> {
+    placed_items(format).map(|placed| placed.into_iter().map(|(item, _)| item).collect())
 }
 
 /// Year, month, day, hour, minute, second.
@@ -326,25 +346,24 @@ pub fn write(cal: &Calendar, format: &[u8], m: &Moment, room: usize) -> (u32, u3
     if format.len() > 1024 {
         return (1, 0, vec![]);
     }
-    if let Some(field) = bad_field(m) {
-        return (2, field, vec![]);
-    }
-    match items(format) {
-        Err(at) => (3, at as u32, vec![]),
-        Ok(items) => write_items(cal, &items, m, room),
-    }
+    write_opened(cal, &items(format), m, room)
 }
 
-/// The writer for items that were opened before: only 2 and 4 are left to refuse.
-pub fn write_items(cal: &Calendar, items: &[Item], m: &Moment, room: usize) -> (u32, u32, Vec<u8>) {
+/// The writer for items that were opened before, or the place of what is bad among them.
+pub fn write_opened(cal: &Calendar, opened: &Result<Vec<Item>, usize>, m: &Moment, room: usize) -> (u32, u32, Vec<u8>) {
     if let Some(field) = bad_field(m) {
         return (2, field, vec![]);
     }
-    let bytes = written(cal, items, m);
-    if bytes.len() > room {
-        (4, bytes.len() as u32, vec![])
-    } else {
-        (0, bytes.len() as u32, bytes)
+    match opened {
+        Err(at) => (3, *at as u32, vec![]),
+        Ok(items) => {
+            let bytes = written(cal, items, m);
+            if bytes.len() > room {
+                (4, bytes.len() as u32, vec![])
+            } else {
+                (0, bytes.len() as u32, bytes)
+            }
+        }
     }
 }
 
@@ -370,12 +389,17 @@ pub fn read(cal: &Calendar, format: &[u8], text: &[u8]) -> Reading {
     if format.len() > 1024 {
         return refused(1, 0);
     }
+    read_opened(cal, &items(format), text)
+}
+
+/// The reader for items that were opened before, or the place of what is bad among them.
+pub fn read_opened(cal: &Calendar, opened: &Result<Vec<Item>, usize>, text: &[u8]) -> Reading {
     if text.len() > 1024 {
         return refused(5, 0);
     }
-    match items(format) {
-        Err(at) => refused(3, at),
-        Ok(items) => read_items(cal, &items, text),
+    match opened {
+        Err(at) => refused(3, *at),
+        Ok(items) => read_items(cal, items, text),
     }
 }
 
@@ -421,11 +445,8 @@ fn name_at(text: &[u8], names: &[&str]) -> Option<(u32, usize)> {
     None
 }
 
-/// The reader for items that were opened before.
-pub fn read_items(cal: &Calendar, items: &[Item], text: &[u8]) -> Reading {
-    if text.len() > 1024 {
-        return refused(5, 0);
-    }
+/// What the items read: 6, 7 or 8 from left to right, then what the facts leave.
+fn read_items(cal: &Calendar, items: &[Item], text: &[u8]) -> Reading {
     let mut facts: Facts = [None; 18];
     let mut at = 0;
     let blanks = |at: usize| text[at..].iter().take_while(|b| white(**b)).count();

@@ -51,7 +51,7 @@ static void read_one(const char *format, const char *text)
 {
     uint32_t words[LARUSQEM_WORDS];
 
-    larusqem_strptime(bytes(format), strlen(format), bytes(text), strlen(text), words, LARUSQEM_WORDS);
+    larusqem_strptime(bytes(format), strlen(format), bytes(text), strlen(text), words);
     printf("read \"%s\" by \"%s\": ", text, format);
     print_answer(words);
 }
@@ -67,7 +67,7 @@ static void read_list(const char *format, const char *const *texts, size_t count
     if (larusqem_number(opened) != 0)
         return;
     for (size_t i = 0; i < count; i++) {
-        larusqem_read(elements, larusqem_place(opened), bytes(texts[i]), strlen(texts[i]), words, LARUSQEM_WORDS);
+        larusqem_read(elements, larusqem_place(opened), bytes(texts[i]), strlen(texts[i]), words);
         printf("read \"%s\": ", texts[i]);
         print_answer(words);
     }

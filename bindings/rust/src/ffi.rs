@@ -24,8 +24,7 @@ mod c {
             format_length: usize,
             text: *const u8,
             text_length: usize,
-            words: *mut u32,
-            words_length: usize,
+            words: *mut [u32; super::WORDS],
         ) -> u32;
         pub fn larusqem_open(format: *const u8, format_length: usize, elements: *mut u32, elements_length: usize) -> u64;
         pub fn larusqem_write(
@@ -45,9 +44,9 @@ mod c {
             elements_length: usize,
             text: *const u8,
             text_length: usize,
-            words: *mut u32,
-            words_length: usize,
+            words: *mut [u32; super::WORDS],
         ) -> u32;
+        pub fn larusqem_days() -> u32;
         pub fn larusqem_day_number(year: u32, month: u32, day: u32) -> u32;
         pub fn larusqem_date(day_number: u32) -> u32;
     }
@@ -73,7 +72,7 @@ pub fn write(elements: &[u32], [year, month, day, hour, minute, second]: [u32; 6
 pub fn strptime(format: &[u8], text: &[u8]) -> [u32; WORDS] {
     let mut words = [0; WORDS];
     unsafe {
-        c::larusqem_strptime(format.as_ptr(), format.len(), text.as_ptr(), text.len(), words.as_mut_ptr(), WORDS);
+        c::larusqem_strptime(format.as_ptr(), format.len(), text.as_ptr(), text.len(), &mut words);
     }
     words
 }
@@ -81,13 +80,17 @@ pub fn strptime(format: &[u8], text: &[u8]) -> [u32; WORDS] {
 pub fn read(elements: &[u32], text: &[u8]) -> [u32; WORDS] {
     let mut words = [0; WORDS];
     unsafe {
-        c::larusqem_read(elements.as_ptr(), elements.len(), text.as_ptr(), text.len(), words.as_mut_ptr(), WORDS);
+        c::larusqem_read(elements.as_ptr(), elements.len(), text.as_ptr(), text.len(), &mut words);
     }
     words
 }
 
 pub fn open(format: &[u8], elements: &mut [u32]) -> (u32, usize) {
     split(unsafe { c::larusqem_open(format.as_ptr(), format.len(), elements.as_mut_ptr(), elements.len()) })
+}
+
+pub fn days() -> u32 {
+    unsafe { c::larusqem_days() }
 }
 
 pub fn day_number(year: u32, month: u32, day: u32) -> u32 {

@@ -37,8 +37,8 @@ use std::fmt;
 /// ```
 /// use larusqem::Date;
 ///
-/// assert_eq!(Date::FIRST.day_number(), Some(1));
-/// assert_eq!(Date::LAST.day_number(), Some(3_652_059));
+/// assert_eq!(Date::first().day_number(), Some(1));
+/// assert_eq!(Date::last().day_number(), Some(3_652_059));
 /// assert_eq!(Date::new(1900, 2, 29).day_number(), None);
 /// assert_eq!(Date::from_day_number(706_077), Some(Date::new(1934, 3, 5)));
 /// assert_eq!(Date::from_day_number(0), None);
@@ -55,10 +55,20 @@ pub struct Date {
 }
 
 impl Date {
+    /// How many days the calendar has: the day number of the last.
+    pub fn days() -> u32 {
+        ffi::days()
+    }
+
     /// The calendar's first day, a Monday.
-    pub const FIRST: Date = Date::new(1, 1, 1);
+    pub fn first() -> Date {
+        Date::unpacked(ffi::date(1))
+    }
+
     /// The calendar's last day, a Friday.
-    pub const LAST: Date = Date::new(9999, 12, 31);
+    pub fn last() -> Date {
+        Date::unpacked(ffi::date(Date::days()))
+    }
 
     /// The date with these fields.
     pub const fn new(year: u32, month: u32, day: u32) -> Date {
@@ -71,10 +81,14 @@ impl Date {
         (number != 0).then_some(number)
     }
 
-    /// The date of a day number, 1 to 3,652,059.
+    /// The date of a day number, 1 to [`Date::days`].
     pub fn from_day_number(number: u32) -> Option<Date> {
         let date = ffi::date(number);
-        (date != 0).then(|| Date::new(date >> 16, date >> 8 & 255, date & 255))
+        (date != 0).then(|| Date::unpacked(date))
+    }
+
+    fn unpacked(date: u32) -> Date {
+        Date::new(date >> 16, date >> 8 & 255, date & 255)
     }
 }
 
@@ -383,9 +397,16 @@ impl Format {
     /// Opens a format.
     pub fn new(format: impl AsRef<[u8]>) -> Result<Format, FormatError> {
         let format = format.as_ref();
-        // 13 elements for every two bytes are enough; a format that is too long stores none
-        let mut elements = vec![0; if format.len() > 1024 { 0 } else { 13 * format.len().div_ceil(2) }];
-        match ffi::open(format, &mut elements) {
+        // an entry for each byte is enough where there are no composites, and no format is opened that has more bytes
+        let mut elements = vec![0; format.len().min(1024)];
+        let opened = match ffi::open(format, &mut elements) {
+            (4, needed) => {
+                elements.resize(needed, 0);
+                ffi::open(format, &mut elements)
+            }
+            opened => opened,
+        };
+        match opened {
             (0, count) => {
                 elements.truncate(count);
                 Ok(Format { elements: elements.into() })

@@ -49,6 +49,7 @@ fn refused_writing() {
     assert_eq!(format.write_to(&Moment::new(1934, 3, 5, 7, 8, 9), &mut out[..23]), Err(WriteError::BufferTooSmall { needed: 24 }));
     assert_eq!(out, [7; 24]);
     assert_eq!(Format::new(vec![b'x'; 1025]), Err(FormatError::TooLong));
+    assert_eq!(Format::new("%c%c%Q"), Err(FormatError::BadConversion { offset: 4 }));
     assert_eq!(strftime("%E", &day(1, 1, 1), &mut out), Err(WriteError::Format(FormatError::BadConversion { offset: 0 })));
     assert_eq!(strftime(vec![b'x'; 1025], &day(0, 1, 1), &mut out), Err(WriteError::Format(FormatError::TooLong)));
 }
@@ -89,8 +90,18 @@ fn refused_reading() {
 }
 
 #[test]
+fn calendar_ends() {
+    assert_eq!(Date::first().day_number(), Some(1));
+    assert_eq!(Date::last().day_number(), Some(Date::days()));
+    assert_eq!(Date::from_day_number(0), None);
+    assert_eq!(Date::from_day_number(1), Some(Date::first()));
+    assert_eq!(Date::from_day_number(Date::days()), Some(Date::last()));
+    assert_eq!(Date::from_day_number(Date::days() + 1), None);
+}
+
+#[test]
 fn every_thousandth_day() {
-    for number in (1..=3_652_059).step_by(1000) {
+    for number in (1..=Date::days()).step_by(1000) {
         let date = Date::from_day_number(number).unwrap();
         assert_eq!(date.day_number(), Some(number));
     }

@@ -1,4 +1,2 @@
--- Laws that the proofs of several functions cite.
-pub mod Copies
-pub mod Places
+-- Laws that the proofs of the functions cite.
 pub mod Ways

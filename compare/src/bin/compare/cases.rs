@@ -1,4 +1,5 @@
 //! Random formats, moments and texts: well formed, damaged, contradictory, and nonsense.
+use crate::elements::LETTERS;
 use compare::paper01::{month_length, written, Calendar, Item, Moment, PAIRS};
 use compare::random::Random;
 
@@ -154,6 +155,19 @@ pub fn format(random: &mut Random) -> Vec<u8> {
         }
     }
     out
+}
+
+/// An entry of a list of elements: a byte, a conversion of any offset, or what no opening makes.
+pub fn entry(random: &mut Random) -> u32 {
+    let letter = *random.pick(LETTERS) as u32;
+    match random.below(10) {
+        0 | 1 => random.from(0, 255),
+        2 | 3 => 256 * random.from(1, 1023) + letter,
+        4 => 256 * *random.pick(&[1, 2, 1022, 1023]) + letter,
+        5 => 256 * *random.pick(&[1024, 1025, 2048, 65536, 0xff_ffff]) + letter,
+        6 | 7 => 256 * random.from(1, 1023) + random.from(0, 255),
+        _ => random.next() as u32 >> random.below(24),
+    }
 }
 
 pub fn moment(random: &mut Random) -> Moment {

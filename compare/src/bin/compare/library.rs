@@ -3,7 +3,6 @@ use compare::paper01::Moment;
 use compare::random::Random;
 
 pub const WORDS: usize = 14;
-pub const NO_ROOM: u32 = u32::MAX;
 const GUARD: usize = 24;
 
 mod raw {
@@ -33,23 +32,10 @@ mod raw {
             out: *mut u8,
             out_length: usize,
         ) -> u64;
-        pub fn larusqem_strptime(
-            format: *const u8,
-            format_length: usize,
-            text: *const u8,
-            text_length: usize,
-            words: *mut u32,
-            words_length: usize,
-        ) -> u32;
-        pub fn larusqem_read(
-            elements: *const u32,
-            elements_length: usize,
-            text: *const u8,
-            text_length: usize,
-            words: *mut u32,
-            words_length: usize,
-        ) -> u32;
+        pub fn larusqem_strptime(format: *const u8, format_length: usize, text: *const u8, text_length: usize, words: *mut u32) -> u32;
+        pub fn larusqem_read(elements: *const u32, elements_length: usize, text: *const u8, text_length: usize, words: *mut u32) -> u32;
         pub fn larusqem_open(format: *const u8, format_length: usize, elements: *mut u32, elements_length: usize) -> u64;
+        pub fn larusqem_days() -> u32;
         pub fn larusqem_day_number(year: u32, month: u32, day: u32) -> u32;
         pub fn larusqem_date(number: u32) -> u32;
     }
@@ -70,16 +56,23 @@ pub fn write(elements: &[u32], m: &Moment, out: &mut [u8]) -> (u32, u32) {
     })
 }
 
+/// The number; `words` is lent as it is.
 pub fn strptime(format: &[u8], text: &[u8], words: &mut [u32]) -> u32 {
-    unsafe { raw::larusqem_strptime(format.as_ptr(), format.len(), text.as_ptr(), text.len(), words.as_mut_ptr(), words.len()) }
+    assert_eq!(words.len(), WORDS);
+    unsafe { raw::larusqem_strptime(format.as_ptr(), format.len(), text.as_ptr(), text.len(), words.as_mut_ptr()) }
 }
 
 pub fn read(elements: &[u32], text: &[u8], words: &mut [u32]) -> u32 {
-    unsafe { raw::larusqem_read(elements.as_ptr(), elements.len(), text.as_ptr(), text.len(), words.as_mut_ptr(), words.len()) }
+    assert_eq!(words.len(), WORDS);
+    unsafe { raw::larusqem_read(elements.as_ptr(), elements.len(), text.as_ptr(), text.len(), words.as_mut_ptr()) }
 }
 
 pub fn open(format: &[u8], elements: &mut [u32]) -> (u32, u32) {
     split(unsafe { raw::larusqem_open(format.as_ptr(), format.len(), elements.as_mut_ptr(), elements.len()) })
+}
+
+pub fn days() -> u32 {
+    unsafe { raw::larusqem_days() }
 }
 
 pub fn day_number(year: u32, month: u32, day: u32) -> u32 {

@@ -2,12 +2,14 @@
 //! C library's strftime on every day of the years 1000 to 9999. Usage: compare SECONDS [SEED]
 mod c_days;
 mod cases;
+mod elements;
 mod library;
 mod speed;
 
-use compare::paper01::{self, Calendar, Item, Moment, Reading};
+use compare::paper01::{self, Calendar, Item, Reading};
 use compare::random::Random;
-use library::{Lent, NO_ROOM, WORDS};
+use elements::Opened;
+use library::{Lent, WORDS};
 use std::collections::BTreeMap;
 use std::time::{Duration, Instant};
 
@@ -37,35 +39,9 @@ impl Tally {
     fn differs(&mut self, function: &str, case: &dyn std::fmt::Debug) {
         self.differences += 1;
         if self.differences <= 20 {
-            println!("DIFFERENCE in {function}: {case:?}");
+            // a list of entries can be long
+            println!("DIFFERENCE in {function}: {}", format!("{case:?}").chars().take(2000).collect::<String>());
         }
-    }
-}
-
-/// A format opened: its elements, or those before its first bad %.
-struct Opened {
-    items: Vec<Item>,
-    elements: Vec<u32>,
-    bad: Option<usize>,
-    /// Neither too long nor bad.
-    whole: bool,
-}
-
-impl Opened {
-    fn new(format: &[u8]) -> Opened {
-        let (items, bad) = match paper01::items(format) {
-            Ok(items) => (items, None),
-            Err(at) => (paper01::items(&format[..at]).unwrap(), Some(at)),
-        };
-        Opened { elements: items.iter().map(element).collect(), items, bad, whole: bad.is_none() && format.len() <= 1024 }
-    }
-}
-
-/// An element as include/larusqem.h numbers it.
-fn element(item: &Item) -> u32 {
-    match *item {
-        Item::Byte(b) | Item::Space(b) => b as u32,
-        Item::Conversion(l) => 256 + l as u32,
     }
 }
 
@@ -107,27 +83,32 @@ fn room(random: &mut Random, needed: usize) -> usize {
     }
 }
 
-fn compare_writing(random: &mut Random, cal: &Calendar, tally: &mut Tally, format: &[u8], opened: &Opened) {
-    let m: Moment = cases::fields(random);
+/// `larusqem_strftime` by a format.
+fn compare_strftime(random: &mut Random, cal: &Calendar, tally: &mut Tally, format: &[u8]) {
+    let m = cases::fields(random);
     let needed = paper01::write(cal, format, &m, usize::MAX).2.len();
     let room = room(random, needed);
-
+    let (number, place, bytes) = paper01::write(cal, format, &m, room);
     let mut out = Lent::new(random, room, |n| n as u8);
     let found = library::strftime(format, &m, out.slice());
-    let (number, place, bytes) = paper01::write(cal, format, &m, room);
     tally.count("strftime", number);
     if found != (number, place) || !out.is(&bytes) {
         tally.differs("larusqem_strftime", &(format, m, room, found, (number, place)));
     }
+}
 
-    if opened.whole {
-        let mut out = Lent::new(random, room, |n| n as u8);
-        let found = library::write(&opened.elements, &m, out.slice());
-        let (number, place, bytes) = paper01::write_items(cal, &opened.items, &m, room);
-        tally.count("write", number);
-        if found != (number, place) || !out.is(&bytes) {
-            tally.differs("larusqem_write", &(format, m, room, found, (number, place)));
-        }
+/// `larusqem_write` by elements, or by any entries.
+fn compare_write(random: &mut Random, cal: &Calendar, tally: &mut Tally, function: &'static str, entries: &[u32]) {
+    let m = cases::fields(random);
+    let opened = elements::items(entries);
+    let needed = paper01::write_opened(cal, &opened, &m, usize::MAX).2.len();
+    let room = room(random, needed);
+    let (number, place, bytes) = paper01::write_opened(cal, &opened, &m, room);
+    let mut out = Lent::new(random, room, |n| n as u8);
+    let found = library::write(entries, &m, out.slice());
+    tally.count(function, number);
+    if found != (number, place) || !out.is(&bytes) {
+        tally.differs("larusqem_write", &(entries, m, room, found, (number, place)));
     }
 }
 
@@ -149,6 +130,17 @@ fn names(items: &[Item], letters: &[u8]) -> bool {
     items.iter().any(|i| matches!(i, Item::Conversion(l) if letters.contains(l)))
 }
 
+/// `larusqem_read` by elements, or by any entries.
+fn compare_read(random: &mut Random, tally: &mut Tally, function: &'static str, entries: &[u32], text: &[u8], reading: &Reading) {
+    let mut lent = Lent::new(random, WORDS, |n| n as u32);
+    let found = library::read(entries, text, lent.slice());
+    tally.count_reading(function, reading);
+    if found != reading.number || !lent.is(&words(reading)) {
+        tally.differs("larusqem_read", &(entries, text, found, lent.slice().to_vec(), reading));
+    }
+}
+
+/// Both readers on a text.
 fn compare_reading(random: &mut Random, cal: &Calendar, tally: &mut Tally, format: &[u8], opened: &Opened) {
     let text = cases::text(random, cal, &opened.items);
     let reading = paper01::read(cal, format, &text);
@@ -156,30 +148,17 @@ fn compare_reading(random: &mut Random, cal: &Calendar, tally: &mut Tally, forma
     if long && skipped(random, &opened.items) {
         return;
     }
-    let expected = words(&reading);
     if opened.whole {
-        let mut lent = Lent::new(random, WORDS, |n| n as u32);
-        let found = library::read(&opened.elements, &text, lent.slice());
-        tally.count_reading("read", &reading);
-        if found != reading.number || !lent.is(&expected) {
-            tally.differs("larusqem_read", &(format, &text, found, lent.slice().to_vec(), &reading));
-        }
+        compare_read(random, tally, "read", &opened.elements, &text, &reading);
         // the two readers share the search
         if long && random.chance(50) {
             return;
         }
     }
-    let room = if random.chance(1) { random.below(WORDS) } else { WORDS + random.below(4) };
-    let mut lent = Lent::new(random, room, |n| n as u32);
+    let mut lent = Lent::new(random, WORDS, |n| n as u32);
     let found = library::strptime(format, &text, lent.slice());
-    let right = if room < WORDS {
-        tally.count("strptime", NO_ROOM);
-        found == NO_ROOM && lent.is(&[])
-    } else {
-        tally.count_reading("strptime", &reading);
-        found == reading.number && lent.is(&expected)
-    };
-    if !right {
+    tally.count_reading("strptime", &reading);
+    if found != reading.number || !lent.is(&words(&reading)) {
         tally.differs("larusqem_strptime", &(format, &text, found, lent.slice().to_vec(), &reading));
     }
 }
@@ -189,12 +168,11 @@ fn compare_opening(random: &mut Random, tally: &mut Tally, format: &[u8], opened
     let room = if random.chance(10) { random.below(all.len() + 1) } else { all.len() + random.below(3) };
     let mut lent = Lent::new(random, room, |n| n as u32);
     let found = library::open(format, lent.slice());
-    let (expected, stored) = if format.len() > 1024 {
-        ((1, 0), 0)
-    } else if all.len() > room {
-        ((NO_ROOM, 0), room)
-    } else {
-        (opened.bad.map_or((0, all.len() as u32), |at| (3, at as u32)), all.len())
+    let (expected, stored) = match opened.bad {
+        _ if format.len() > 1024 => ((1, 0), 0),
+        Some(at) => ((3, at as u32), all.len().min(room)),
+        None if all.len() > room => ((4, all.len() as u32), room),
+        None => ((0, all.len() as u32), all.len()),
     };
     tally.count("open", expected.0);
     if found != expected || !lent.is(&all[..stored]) {
@@ -208,66 +186,50 @@ fn compare_format(random: &mut Random, cal: &Calendar, tally: &mut Tally) {
     let opened = Opened::new(&format);
     compare_opening(random, tally, &format, &opened);
     for _ in 0..2 {
-        compare_writing(random, cal, tally, &format, &opened);
+        compare_strftime(random, cal, tally, &format);
+        if opened.whole {
+            compare_write(random, cal, tally, "write", &opened.elements);
+        }
     }
     for _ in 0..4 {
         compare_reading(random, cal, tally, &format, &opened);
     }
 }
 
-/// Elements that no format opens to. A number past 255 that is no conversion's writes nothing and matches no text: here a byte 255
-/// stands for it, which no text of this test has. More than 6,656 elements are not written.
+/// Entries that no format opens to, among those of a format: bytes and conversions in other places, what no opening makes, and as many as
+/// there can be or more. The text is one that the entries before the first bad one can read.
 fn compare_strange(random: &mut Random, cal: &Calendar, tally: &mut Tally) {
-    let format = cases::format(random);
-    let mut items = Opened::new(&format).items;
-    items.retain(|i| *i != Item::Byte(255));
-    let mut strange = vec![false; items.len()];
-    for _ in 0..random.below(3) {
-        let at = random.below(items.len() + 1);
-        items.insert(at, Item::Byte(255));
-        strange.insert(at, true);
+    let mut entries = Opened::new(&cases::format(random)).elements;
+    for _ in 0..random.below(4) {
+        let at = random.below(entries.len() + 1);
+        entries.insert(at, cases::entry(random));
     }
     if random.chance(5) {
-        items.resize(6650 + random.below(20), Item::Space(b' '));
-        strange.resize(items.len(), false);
+        let fill = if random.chance(50) { b' ' as u32 } else { cases::entry(random) };
+        entries.resize(elements::MOST - 6 + random.below(20), fill);
     }
-    let numbers = |random: &mut Random| loop {
-        let n = random.next() as u32 >> random.below(24);
-        if n > 255 && !(n < 512 && b"YCymbhBdejuwaAUWGgVHkIlpPMS".contains(&((n - 256) as u8))) {
-            return n;
-        }
+    compare_write(random, cal, tally, "write, strange", &entries);
+
+    let opened = elements::items(&entries);
+    let good = match &opened {
+        Ok(items) => items.clone(),
+        Err(at) => elements::items(&entries[..*at]).unwrap(),
     };
-    let elements: Vec<u32> = items.iter().zip(&strange).map(|(i, s)| if *s { numbers(random) } else { element(i) }).collect();
-
-    let m = cases::fields(random);
-    let kept: Vec<Item> = items.iter().zip(&strange).filter(|(_, s)| !**s).map(|(i, _)| *i).collect();
-    let (mut number, mut place, mut bytes) = paper01::write_items(cal, &kept, &m, 70_000);
-    if elements.len() > 6656 && number == 0 {
-        (number, place, bytes) = (1, 0, vec![]);
+    let mut text = cases::text(random, cal, &good);
+    if random.chance(50) {
+        text.truncate(1024 - random.below(4));
     }
-    let room = bytes.len() + random.below(3);
-    let mut out = Lent::new(random, room, |n| n as u8);
-    let found = library::write(&elements, &m, out.slice());
-    tally.count("write, strange", number);
-    if found != (number, place) || !out.is(&bytes) {
-        tally.differs("larusqem_write, strange elements", &(elements.len(), m, found, (number, place)));
-    }
-
-    let mut text = cases::text(random, cal, &kept);
-    text.retain(|b| *b != 255);
-    let reading = paper01::read_items(cal, &items, &text);
-    if !takes_long(&items, &reading) || !skipped(random, &items) {
-        let mut lent = Lent::new(random, WORDS, |n| n as u32);
-        let found = library::read(&elements, &text, lent.slice());
-        tally.count_reading("read, strange", &reading);
-        if found != reading.number || !lent.is(&words(&reading)) {
-            tally.differs("larusqem_read, strange elements", &(&elements, &text, found, &reading));
-        }
+    let reading = paper01::read_opened(cal, &opened, &text);
+    if !takes_long(&good, &reading) || !skipped(random, &good) {
+        compare_read(random, tally, "read, strange", &entries, &text, &reading);
     }
 }
 
 /// Every day of the calendar, and numbers and fields that are none.
 fn compare_days(random: &mut Random, cal: &Calendar, tally: &mut Tally) {
+    if library::days() as usize != cal.days.len() {
+        tally.differs("larusqem_days", &library::days());
+    }
     for (i, d) in cal.days.iter().enumerate() {
         let (year, month, day) = d.date();
         let number = i as u32 + 1;
@@ -335,7 +297,7 @@ fn main() {
             compare_format(&mut random, &cal, &mut tally);
             formats += 1;
         }
-        for _ in 0..10 {
+        for _ in 0..40 {
             compare_strange(&mut random, &cal, &mut tally);
         }
     }
@@ -343,8 +305,7 @@ fn main() {
 
     println!("\ncases by function and number:");
     for ((function, number, which), n) in &tally.counts {
-        let number = if *number == NO_ROOM { "no room".to_string() } else { number.to_string() };
-        println!("  {function:<17} {number:>7} {which:<11} {n:>10}");
+        println!("  {function:<17} {number:>2} {which:<11} {n:>10}");
     }
     let total: u64 = tally.counts.values().sum();
     println!("\nspeed of the library alone, one thread:");

@@ -36,7 +36,9 @@ enum-told : tie.Need-enum-told
 enum-told c = search needs
 
 returns : tie.Need-returns
-returns c = ap dateFrom (sym (c .before .before .before .before .date .given .1) ∙ c .before .before .before .before .before .before .from-day-number .ensures)
+returns c =
+    let d = c .before .before .before .before .before .before .from-day-number .ensures in
+    ap dateFrom (sym (c .before .before .before .before .date .given .1) ∙ d)
 
 returns-2 : tie.Need-returns-2
 returns-2 c = ap dateFrom (sym (c .enum-told .given .1) ∙ c .before .before .from-day-number .ensures)

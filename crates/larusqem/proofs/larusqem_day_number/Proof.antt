@@ -18,7 +18,9 @@ enum-told : tie.Need-enum-told
 enum-told c = search needs
 
 returns : tie.Need-returns
-returns c = c .day-number .ensures ∙ ap numberFrom (sym (c .before .before .date .given .1) ∙ c .before .before .before .before .from-fields .ensures)
+returns c =
+    let d = sym (c .before .before .date .given .1) ∙ c .before .before .before .before .from-fields .ensures in
+    c .day-number .ensures ∙ ap numberFrom d
 
 returns-2 : tie.Need-returns-2
 returns-2 c = ap numberFrom (sym (c .enum-told .given .1) ∙ c .before .before .from-fields .ensures)

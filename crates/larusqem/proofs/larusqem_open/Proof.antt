@@ -1,37 +1,91 @@
--- `larusqem::larusqem_open` meets its contract: 1 is answered here, the rest is what the opening answers and stores; its place fits 32 bits.
-use mathlib.Core.Path.{refl, ap, _∙_}
+-- `larusqem::larusqem_open` meets its contract: by cases of what the opening answers; every place fits 32 bits.
 use native.Mathlib.Omega.{arith}
-use borrow.Author.Tests.{le-leb, lt-leb}
-use lib.ListN.{length}
-use denote.Ref.{now}
-use Rattle.format.specs.Opening.{most}
-use Rattle.larusqem.specs.Packed.{packedOpened, openedInto}
-use Rattle.larusqem.proofs.Places.{open-place}
+use Rattle.format.proofs.Opened.{opened-done, opened-bad}
+use Rattle.larusqem.proofs.Ways.{all-fit, too-many, too-long, bad-conversion}
 use borrow.Author.Needs.{needs}
 use Rattle.larusqem.proofs.larusqem_open.Statement.{statement}
 use Rattle.larusqem.proofs.larusqem_open.Tie as tie
 
-packed-requires : tie.Need-packed-requires
-packed-requires c κs = search needs
-
-returns : tie.Need-returns
-unfolding openedInto
-returns c = rw (lt-leb (length (now (c .before .before .before .before .args .format))) most (omega arith)) (c .packed .ensures, refl)
-
 open-requires : tie.Need-open-requires
 open-requires c κs = search needs
 
-packed-opened-requires : tie.Need-packed-opened-requires
-packed-opened-requires c κs = rw (c .before .before .«open» .ensures .0) (open-place _ _ (omega arith))
+enum-known-count : tie.Need-enum-known-count
+enum-known-count c = search needs
+
+packed-requires : tie.Need-packed-requires
+packed-requires c κs =
+    let o = c .before .before .before .before .before .before .«open» .ensures in
+    omega (arith, opened-done _ (o .0) (c .before .before .count .given .1) .few)
 
 same-length : tie.Need-same-length
 same-length c = search needs
 
+returns : tie.Need-returns
+returns c =
+    let o = c .before .before .before .before .before .before .before .«open» .ensures in
+    (too-many _ _ (o .0) (c .before .before .before .count .given .1) (omega arith) (c .packed .ensures), o .1)
+
+packed-requires-2 : tie.Need-packed-requires-2
+packed-requires-2 c κs =
+    let o = c .before .before .before .before .before .before .«open» .ensures in
+    omega (arith, opened-done _ (o .0) (c .before .before .count .given .1) .few)
+
+enum-told : tie.Need-enum-told
+enum-told c = search needs
+
+packed-requires-3 : tie.Need-packed-requires-3
+packed-requires-3 c κs = search needs
+
+enum-known-at : tie.Need-enum-known-at
+enum-known-at c = search needs
+
+packed-requires-4 : tie.Need-packed-requires-4
+packed-requires-4 c κs =
+    let o = c .before .before .before .before .before .«open» .ensures in
+    let w = opened-bad _ (o .0) (c .before .at .given .1) in
+    omega (arith, w .short, w .within)
+
+same-length-2 : tie.Need-same-length-2
+same-length-2 c = search needs
+
 returns-2 : tie.Need-returns-2
-unfolding openedInto
-returns-2 c = rw (le-leb (length (now (c .before .before .before .before .before .before .before .before .args .format))) most (omega arith)) (c .packed-opened .ensures ∙ ap packedOpened (c .before .before .before .«open» .ensures .0), c .before .before .before .«open» .ensures .1)
+returns-2 c =
+    let o = c .before .before .before .before .before .before .before .«open» .ensures in
+    (all-fit _ _ (o .0) (c .before .before .before .count .given .1) (omega arith) (c .packed2 .ensures), o .1)
+
+same-length-3 : tie.Need-same-length-3
+same-length-3 c = search needs
+
+returns-3 : tie.Need-returns-3
+returns-3 c =
+    let o = c .before .before .before .before .before .«open» .ensures in
+    (too-long _ _ (o .0) (c .before .enum-told .given .1) (c .packed3 .ensures), o .1)
+
+same-length-4 : tie.Need-same-length-4
+same-length-4 c = search needs
+
+returns-4 : tie.Need-returns-4
+returns-4 c =
+    let o = c .before .before .before .before .before .before .«open» .ensures in
+    (bad-conversion _ _ (o .0) (c .before .before .at .given .1) (c .packed4 .ensures), o .1)
 
 pub larusqem-open-spec : {M : Type 1} → statement M
 larusqem-open-spec =
     tie.close
-    (tie.spec packed-requires returns open-requires packed-opened-requires same-length returns-2)
+    (tie.spec
+    open-requires
+    enum-known-count
+    packed-requires
+    same-length
+    returns
+    packed-requires-2
+    enum-told
+    packed-requires-3
+    enum-known-at
+    packed-requires-4
+    same-length-2
+    returns-2
+    same-length-3
+    returns-3
+    same-length-4
+    returns-4)

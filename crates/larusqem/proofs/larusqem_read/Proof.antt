@@ -1,6 +1,10 @@
 -- `larusqem::larusqem_read` meets its contract: the words of the reader's answer, whose place fits 32 bits.
-use Rattle.larusqem.proofs.Ways.{told-of}
-use Rattle.larusqem.proofs.Places.{read-place}
+use mathlib.Core.Path.{ap, _∙_}
+use native.Mathlib.Nat.{lt-of-le-of-lt}
+use lib.Dec.{lit≤}
+use Rattle.strptime.specs.declared.Reading.{Reading}
+use Rattle.strptime.proofs.Places.{elements-place}
+use Rattle.larusqem.specs.Words.{wordsOf}
 use borrow.Author.Needs.{needs}
 use Rattle.larusqem.proofs.larusqem_read.Statement.{statement}
 use Rattle.larusqem.proofs.larusqem_read.Tie as tie
@@ -9,13 +13,12 @@ read-elements-requires : tie.Need-read-elements-requires
 read-elements-requires c κs = search needs
 
 tell-requires : tie.Need-tell-requires
-tell-requires c κs = rw (c .before .read-elements .ensures) (read-place _ _)
-
-same-length : tie.Need-same-length
-same-length c = search needs
+tell-requires c κs = rw (c .before .read-elements .ensures) (lt-of-le-of-lt (elements-place _ _) (lit≤ tt))
 
 returns : tie.Need-returns
-returns c = told-of _ (c .before .before .before .before .read-elements .ensures) (c .before .before .tell .ensures)
+returns c =
+    let r = c .before .before .read-elements .ensures in
+    (c .tell .ensures .0 ∙ ap (λ (x : Reading). x .number) r, c .tell .ensures .1 ∙ ap wordsOf r)
 
 pub larusqem-read-spec : {M : Type 1} → statement M
-larusqem-read-spec = tie.close (tie.spec read-elements-requires tell-requires same-length returns)
+larusqem-read-spec = tie.close (tie.spec read-elements-requires tell-requires returns)

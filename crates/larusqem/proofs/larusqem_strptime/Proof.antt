@@ -1,6 +1,10 @@
 -- `larusqem::larusqem_strptime` meets its contract: the words of the reader's answer, whose place fits 32 bits.
-use Rattle.larusqem.proofs.Ways.{told-of}
-use Rattle.larusqem.proofs.Places.{reading-place}
+use mathlib.Core.Path.{ap, _∙_}
+use native.Mathlib.Nat.{lt-of-le-of-lt}
+use lib.Dec.{lit≤}
+use Rattle.strptime.specs.declared.Reading.{Reading}
+use Rattle.strptime.proofs.Places.{reading-place}
+use Rattle.larusqem.specs.Words.{wordsOf}
 use borrow.Author.Needs.{needs}
 use Rattle.larusqem.proofs.larusqem_strptime.Statement.{statement}
 use Rattle.larusqem.proofs.larusqem_strptime.Tie as tie
@@ -9,13 +13,12 @@ strptime-requires : tie.Need-strptime-requires
 strptime-requires c κs = search needs
 
 tell-requires : tie.Need-tell-requires
-tell-requires c κs = rw (c .before .strptime .ensures) (reading-place _ _)
-
-same-length : tie.Need-same-length
-same-length c = search needs
+tell-requires c κs = rw (c .before .strptime .ensures) (lt-of-le-of-lt (reading-place _ _) (lit≤ tt))
 
 returns : tie.Need-returns
-returns c = told-of _ (c .before .before .before .before .strptime .ensures) (c .before .before .tell .ensures)
+returns c =
+    let r = c .before .before .strptime .ensures in
+    (c .tell .ensures .0 ∙ ap (λ (x : Reading). x .number) r, c .tell .ensures .1 ∙ ap wordsOf r)
 
 pub larusqem-strptime-spec : {M : Type 1} → statement M
-larusqem-strptime-spec = tie.close (tie.spec strptime-requires tell-requires same-length returns)
+larusqem-strptime-spec = tie.close (tie.spec strptime-requires tell-requires returns)
