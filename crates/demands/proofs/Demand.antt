@@ -30,8 +30,8 @@ use Rattle.strptime.specs.declared.Said.{Said}
 use Rattle.strptime.specs.declared.Said.the-variants.{Unsaid, Is}
 use Rattle.demands.specs.Facts.{Fact, Says, facts, Matched}
 use Rattle.demands.specs.Demand.{SomeSaid, NoneSaid, DayAgrees, HourAgrees, DayIs, HourIs, NumberIs, DayStands, Answered}
-use Rattle.demands.proofs.Matched.{read, matched-is, handed}
-use Rattle.demands.proofs.Verdicts.{Leaves, LeavesHour, day-none, day-two, then-none, then-two, then-done}
+use Rattle.demands.proofs.Matched.{read, matched-is, handed, ends-at}
+use Rattle.demands.proofs.Verdicts.{Leaves, LeavesHour, day-none, day-two, then-none, then-two, then-done, done-place}
 use Rattle.demands.proofs.Written.{day-would, hour-would}
 
 -- ---- the same words over other facts and another agreement
@@ -256,6 +256,7 @@ module _ (f s : List ℕ) (m : Matched f s) where
                 (then-done t v w x h n c .1
                 (day-left v j x .1 (r .0), hour-left w i h .1 (r .1), number-left minute n .1 (r .2), number-left second c .1 (r .3))),
           );
+          unread = λ q. rw e (done-place t v w (rw e at q) ∙ ends-at f s m);
         }
 
   pub answered : Answered f s

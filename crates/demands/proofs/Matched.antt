@@ -13,7 +13,8 @@ use Rattle.format.specs.Conversions.{among}
 use Rattle.format.specs.Opening.{Ended, Whole, BadAt, opening, longest}
 use Rattle.judge.specs.declared.Verdict.{Verdict}
 use Rattle.judge.specs.declared.Verdict.the-variants.{Unsaid, Impossible, Open, Agreed}
-use Rattle.strptime.specs.Answers.{showing, refused, finished, done, withHour, withDay, judged, concluded, readBy, byFormat, reading}
+use Rattle.strptime.specs.Answers.{showing, refused, finished, done, withHour, withDay}
+use Rattle.strptime.specs.Answers.{judged, concluded, readBy, byFormat, unlessLong, reading}
 use Rattle.strptime.specs.Reading.{unsaid, start, isRead, readAll}
 use Rattle.strptime.specs.declared.Day.{Day}
 use Rattle.strptime.specs.declared.Outcome.{Outcome}
@@ -21,7 +22,7 @@ use Rattle.strptime.specs.declared.Outcome.the-variants.{Read, Mismatch, Range,
 use Rattle.strptime.specs.declared.Reading.{Reading}
 use Rattle.strptime.specs.declared.State.{State}
 use Rattle.strptime.specs.declared.Stepped.{Stepped}
-use Rattle.demands.specs.Facts.{Says, facts, Consistent, Matched}
+use Rattle.demands.specs.Facts.{Says, facts, endFrom, Consistent, Matched}
 use Rattle.demands.specs.Demand.{beforeNine}
 use Rattle.demands.proofs.Walk.{Kept, Went, went, goes-through}
 
@@ -93,7 +94,7 @@ module _ (f s : List ℕ) where
 
   -- the answer to a matched text is its judging
   pub matched-is : Matched f s → reading f s ≡ judged (read f s .state)
-  unfolding reading byFormat readBy concluded isRead
+  unfolding reading unlessLong byFormat readBy concluded isRead
   matched-is m =
       rw (le-leb (length f) longest (m .format-short), le-leb (length s) longest (m .text-short), m .format-whole)
       (concluding (read f s .outcome) (matched-read m))
@@ -107,7 +108,7 @@ module _ (f s : List ℕ) where
   -- a text whose answer has none of the numbers before 9 is matched: each way out of the order before 9 has one of them
   judging-matched : (a : Bool) → leb (length f) longest ≡ a → (b : Bool) → leb (length s) longest ≡ b → (d : Ended) → opening f .ended ≡ d
       → (o : Outcome) → read f s .outcome ≡ o → Judging (reading f s) → Matched f s
-  unfolding reading byFormat readBy concluded refused showing among isRead start
+  unfolding reading unlessLong byFormat readBy concluded refused showing among isRead start
   judging-matched false e b g d h o q j = absurd (true≢false (rw e at j))
   judging-matched true e false g d h o q j = absurd (true≢false (rw (e, g) at j))
   judging-matched true e true g (BadAt p) h o q j = absurd (true≢false (rw (e, g, h) at j))
@@ -133,3 +134,8 @@ module _ (f s : List ℕ) where
   -- what the judge is handed: a kind has a number exactly if that fact is among those that the text says
   pub handed : Matched f s → (k n : ℕ) → Kept (read f s .state .facts) k n ↔ Says (facts f s) k n
   handed m = kept-said (matched-read m)
+
+  -- and where the elements end
+  pub ends-at : Matched f s → read f s .state .at ≡ endFrom (opening f .elements) s 0
+  unfolding start
+  ends-at m = read-went (matched-read m) .ends

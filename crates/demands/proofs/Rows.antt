@@ -214,7 +214,7 @@ module _ (f s : List ℕ) where
           (λ z. absurd (false≢true z)))
 
   pub reading-rows : Read f s (reading f s)
-  unfolding reading reader.refused among
+  unfolding reading reader.unlessLong reader.refused among
   reading-rows =
       let zero : (n : ℕ) → OneOf (0 ∷ 1 ∷ 3 ∷ 5 ∷ 6 ∷ 7 ∷ 8 ∷ 9 ∷ 10 ∷ []) n → (n ≡ 3 → ⊥) → among n (0 ∷ 6 ∷ 7 ∷ 8 ∷ []) ≡ false
       → among n (9 ∷ 10 ∷ []) ≡ false → Read f s (showing n 0 Nothing) = λ n l three text nine.

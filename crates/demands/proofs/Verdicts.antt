@@ -86,6 +86,13 @@ module _ (t : State) where
   hour-done d (Open a b) x h m c = (λ e. absurd (omega (arith, e .0)), λ e. absurd (e .1))
   hour-done d (Agreed k) x h m c = (λ e. (e .1, sym (e .2), e .3, e .4), λ e. (refl, e .0, sym (e .1), e .2, e .3))
 
+  hour-place : (d : Day) (w : Verdict) → withHour t d w .number ≡ 0 → withHour t d w .place ≡ t .at
+  unfolding withHour done finished refused showing
+  hour-place d NotSaid e = refl
+  hour-place d Impossible e = absurd (omega arith)
+  hour-place d (Open a b) e = absurd (omega arith)
+  hour-place d (Agreed h) e = refl
+
   -- ---- the day first
 
   pub day-none : (v w : Verdict) → Refuses 9 1 (withDay t v w) ↔ (v ≡ Impossible)
@@ -137,3 +144,11 @@ module _ (t : State) where
   then-done (Agreed k) w x h m c =
       let g = hour-done (On (dateOf k)) w x h m c in
       (λ e. let r = g .0 e in (sym (r .0), r .1, r .2, r .3), λ e. g .1 (sym (e .0), e .1, e .2, e .3))
+
+  -- a finished reading's place
+  pub done-place : (v w : Verdict) → withDay t v w .number ≡ 0 → withDay t v w .place ≡ t .at
+  unfolding withDay refused showing
+  done-place NotSaid w = hour-place NoDate w
+  done-place Impossible w = λ e. absurd (omega arith)
+  done-place (Open a b) w = λ e. absurd (omega arith)
+  done-place (Agreed k) w = hour-place (On (dateOf k)) w

@@ -22,7 +22,7 @@ use Rattle.strptime.specs.declared.Stepped.{Stepped}
 use Rattle.strptime.specs.declared.elements.Item.{Item}
 use Rattle.strptime.specs.declared.elements.Item.the-variants.{Skip, Fact as Reads, NoMatch, OutOfRange}
 use Rattle.strptime.proofs.Sound.{Finds, Sound, sound}
-use Rattle.demands.specs.Facts.{Fact, saying, factsFrom, Says, going, allRead}
+use Rattle.demands.specs.Facts.{Fact, saying, factsFrom, Says, going, allRead, ending, endFrom}
 
 -- a number is kept for a kind
 abbrev pub Kept : Facts → ℕ → ℕ → Type 0
@@ -82,10 +82,12 @@ OneEach f xs = (k m n : ℕ) → Kept f k m ⊎ Says xs k m → Kept f k n ⊎ S
 pub record Went (es s : List ℕ) (t : State) : Type 0 where
   pub reads : allRead es s (t .at) ≡ true
   pub keeps : KeepsAll (t .facts) (factsFrom es s (t .at)) (readAll es s t .state .facts)
+  pub ends : readAll es s t .state .at ≡ endFrom es s (t .at)
 
 record WentBy (es s : List ℕ) (t : State) (i : Item) : Type 0 where
   reads : going (λ next. allRead es s next) i ≡ true
   keeps : KeepsAll (t .facts) (saying (λ next. factsFrom es s next) i) (onward es s t i .state .facts)
+  ends : onward es s t i .state .at ≡ ending (λ next. endFrom es s next) i
 
 free-of : (x n : ℕ) → (eqb x 0 || eqb x (suc n)) ≡ true → (x ≡ 0) ⊎ (x ≡ suc n)
 free-of x n e = go (eqb x 0) refl e
@@ -100,7 +102,7 @@ module _ (es s : List ℕ) (t : State) (l : length (t .facts .said) ≡ kinds)
   kept-by : (k n from next : ℕ) → k < kinds → next ≤ length s
       → (b : Bool) → (eqb (said (t .facts) k) 0 || eqb (said (t .facts) k) (suc n)) ≡ b
       → Whole (onward es s t (Reads k n from next)) → WentBy es s t (Reads k n from next)
-  unfolding onward taken tell goes stays isRead going saying Says
+  unfolding onward taken tell goes stays isRead going saying ending Says
   kept-by k n from next h q true e w =
       let f = t .facts in
       let free = free-of (said f k) n e in
@@ -121,14 +123,15 @@ module _ (es s : List ℕ) (t : State) (l : length (t .facts .said) ≡ kinds)
               (λ y. ⊎-elim (λ z. inl (rw (← z .0, ← z .1) (noted-same f k n inside free))) (λ z. inr z) y)
               x),
         );
+        ends = rw e (r .ends);
       }
   kept-by k n from next h q false e w = absurd (false≢true (rw e at w))
 
   went-by : (i : Item) → Sound s i → Whole (onward es s t i) → WentBy es s t i
-  unfolding onward taken goes stays isRead going saying Finds
+  unfolding onward taken goes stays isRead going saying ending Finds
   went-by (Skip next) h w =
       let r = rest (t .facts) next l h w in
-      record { reads = r .reads; keeps = r .keeps }
+      record { reads = r .reads; keeps = r .keeps; ends = r .ends }
   went-by (Reads k n from next) h w = kept-by k n from next (h .0 .most) (h .2) _ refl w
   went-by (NoMatch p) h w = absurd (false≢true w)
   went-by (OutOfRange p) h w = absurd (false≢true w)
@@ -167,11 +170,12 @@ module _ (es s : List ℕ) (t : State) (l : length (t .facts .said) ≡ kinds)
   goes-by (OutOfRange p) h r c = absurd (false≢true r)
 
 pub went : (es s : List ℕ) (t : State) → length (t .facts .said) ≡ kinds → t .at ≤ length s → Whole (readAll es s t) → Went es s t
-unfolding readAll stepOn onward allRead factsFrom stays Says
-went [] s t l h w = record { reads = refl; keeps = λ k n. (λ x. inl x, λ x. ⊎-elim (λ y. y) (λ y. absurd y) x) }
+unfolding readAll stepOn onward allRead factsFrom endFrom stays Says
+went [] s t l h w =
+    record { reads = refl; keeps = λ k n. (λ x. inl x, λ x. ⊎-elim (λ y. y) (λ y. absurd y) x); ends = refl }
 went (e ∷ es) s t l h w =
     let r = went-by es s t l (λ f p. went es s (at f p)) (readElement e s (t .at)) (sound s (t .at) h e) w in
-    record { reads = r .reads; keeps = r .keeps }
+    record { reads = r .reads; keeps = r .keeps; ends = r .ends }
 
 pub goes-through : (es s : List ℕ) (t : State) → length (t .facts .said) ≡ kinds → t .at ≤ length s → allRead es s (t .at) ≡ true
     → OneEach (t .facts) (factsFrom es s (t .at)) → Whole (readAll es s t)

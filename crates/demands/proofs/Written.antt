@@ -9,7 +9,7 @@ use mathlib.Core.Path.{_≡_, refl, sym, ap, _∙_}
 use native.Mathlib.Nat.{eq-or-lt-of-le}
 use native.Mathlib.Omega.{arith}
 use borrow.Author.Tests.{le-leb, lt-leb, le-ltb, ltb-true, leb-true}
-use lib.Dec.{leb, ltb, lit≤}
+use lib.Dec.{leb, ltb, lit<, lit≤}
 use lib.ListN.{length, getD, replicate}
 use lib.Seq.{sets, sets-eq, take-append-seam}
 use Rattle.kinds.specs.Kinds.{halfOfDay}
@@ -23,7 +23,6 @@ use Rattle.format.specs.declared.conversions.Conversion.{Conversion}
 use Rattle.format.specs.declared.conversions.Form.the-variants.{Zeros}
 use Rattle.text.specs.declared.names.Names.the-variants.{Halves}
 use Rattle.laws.specs.Lists.{range}
-use Rattle.laws.proofs.Cases.{clash}
 use Rattle.text.specs.Case.{fold}
 use Rattle.text.specs.Digits.{filled, decimal}
 use Rattle.text.specs.Names as names
@@ -37,7 +36,7 @@ use Rattle.values.specs.declared.MomentFields.the-variants.{Valid}
 use Rattle.values.proofs.Ranges.{highest, date-ranged, hour-ranged}
 use Rattle.strftime.specs.Writing.{numbered, formed, converted, element, text, put, byFormat, forMoment, forFields, writing}
 use Rattle.strftime.specs.declared.Fields.{Fields}
-use Rattle.demands.specs.Writes.{letters, letterFor, wrote, written, WouldWrite, onDay, atHour, halves}
+use Rattle.demands.specs.Writes.{letters, letterFor, wrote, written, IsHalf, WouldWrite, onDay, atHour, halves}
 
 -- ---- one conversion, written
 
@@ -113,14 +112,17 @@ forms k p q =
 
 -- the highest value of a kind fits the width of its conversion
 roomy : ℕ → Bool
-roomy k = ltb (getD highest k 0) (10 ^ (rowFor k .width)) && leb (rowFor k .width) 9
+roomy k = let w = rowFor k .width in ltb (getD highest k 0) (10 ^ w) && (leb 1 w && leb w 9)
 
-fits : (k : ℕ) → 1 ≤ k → k ≤ 14 → (getD highest k 0 < 10 ^ (rowFor k .width)) × (rowFor k .width ≤ 9)
+fits : (k : ℕ) → 1 ≤ k → k ≤ 14
+    → (getD highest k 0 < 10 ^ (rowFor k .width)) × (1 ≤ rowFor k .width) × (rowFor k .width ≤ 9)
 unfolding roomy
 fits k p q =
-    let t = and-eq-true-iff (ltb (getD highest k 0) (10 ^ (rowFor k .width))) (leb (rowFor k .width) 9) .0
+    let w = rowFor k .width in
+    let t = and-eq-true-iff (ltb (getD highest k 0) (10 ^ w)) (leb 1 w && leb w 9) .0
     (same-at roomy (λ j. true) 14 1 computed k p (omega arith)) in
-    (ltb-true _ _ (t .0), leb-true _ _ (t .1))
+    let u = and-eq-true-iff (leb 1 w) (leb w 9) .0 (t .1) in
+    (ltb-true _ _ (t .0), leb-true _ _ (u .0), leb-true _ _ (u .1))
   where
     computed : map roomy (range 1 14) ≡ map (λ j. true) (range 1 14)
     computed = unfold roomy conversions.computes letterFor letters range highest in refl
@@ -139,28 +141,29 @@ module _ (k : ℕ) (p : 1 ≤ k) (q : k ≤ 14) (m : Moment) (v : IsMoment m) (r
       let w = rowFor k .width in
       let x = filled 48 w (value k m) in
       let f = fits k p q in
-      let short : length x ≤ 9 = omega (arith, filled-length 48 w (value k m), f .1) in
+      let long = filled-length 48 w (value k m) in
+      let short : length x ≤ 9 = omega (arith, long, f .2) in
       let back : decimal 0 x ≡ value k m = filled-back w (value k m) (omega (arith, f .0)) in
       let o = opens k p (omega arith) in
       let is = written-is k m v o number-written short in (
-        λ y. ⊎-elim (λ z. sym back ∙ rw is at (z .1 .1)) (λ z. absurd (omega (arith, z .0))) (y .shows),
+        λ y. ⊎-elim (λ z. sym back ∙ rw is at (z .1 .2)) (λ z. absurd (omega (arith, z .0))) (y .shows),
         λ e. record {
           done = rw (wrote-is k m v o number-written short);
-          shows = inl (λ z. omega arith, rw is (filled-digits w (value k m), back ∙ e));
+          shows = inl (λ z. omega arith, rw is (omega (arith, long, f .1), filled-digits w (value k m), back ∙ e));
         },
       )
 
 -- ---- kind 15
 
 -- "am" and "pm" are told apart
-half-is : (v n : ℕ) → v ≤ 1 → (map fold (nameFor Halves v) ≡ getD halves n (0 ∷ [])) ↔ (v ≡ n)
+half-is : (v n : ℕ) → v ≤ 1 → IsHalf n (nameFor Halves v) ↔ (v ≡ n)
 unfolding names.computes naming.computes fold halves
-half-is zero zero h = (λ e. refl, λ e. refl)
-half-is zero (suc zero) h = (λ e. absurd (omega (arith, ap (λ (s : List ℕ). getD s 0 0) e)), λ e. absurd (omega arith))
-half-is zero (suc (suc n)) h = (λ e. clash (cc), λ e. absurd (omega arith))
-half-is (suc zero) zero h = (λ e. absurd (omega (arith, ap (λ (s : List ℕ). getD s 0 0) e)), λ e. absurd (omega arith))
-half-is (suc zero) (suc zero) h = (λ e. refl, λ e. refl)
-half-is (suc zero) (suc (suc n)) h = (λ e. clash (cc), λ e. absurd (omega arith))
+half-is zero zero h = (λ e. refl, λ e. (lit< tt, refl))
+half-is zero (suc zero) h = (λ e. absurd (omega (arith, ap (λ (s : List ℕ). getD s 0 0) (e .1))), λ e. absurd (omega arith))
+half-is zero (suc (suc n)) h = (λ e. absurd (omega (arith, e .0)), λ e. absurd (omega arith))
+half-is (suc zero) zero h = (λ e. absurd (omega (arith, ap (λ (s : List ℕ). getD s 0 0) (e .1))), λ e. absurd (omega arith))
+half-is (suc zero) (suc zero) h = (λ e. refl, λ e. (lit< tt, refl))
+half-is (suc zero) (suc (suc n)) h = (λ e. absurd (omega (arith, e .0)), λ e. absurd (omega arith))
 half-is (suc (suc v)) n h = absurd (omega arith)
 
 half-short : (v : ℕ) → v ≤ 1 → length (nameFor Halves v) ≤ 9

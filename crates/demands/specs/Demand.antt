@@ -6,6 +6,7 @@ use mathlib.Core.Logic.{_↔_}
 use mathlib.Core.Path.{_≡_}
 use Rattle.kinds.specs.Kinds.{dayKinds, hourKinds, minute, second}
 use Rattle.calendar.specs.Calendar.{dateOf}
+use Rattle.format.specs.Opening.{opening}
 use Rattle.judge.specs.Demand.{IsDay, IsHour, Only, Earliest}
 use Rattle.strptime.specs.Answers.{reading}
 use Rattle.strptime.specs.declared.Day.{Day}
@@ -13,7 +14,7 @@ use Rattle.strptime.specs.declared.Day.the-variants.{NoDate, On}
 use Rattle.strptime.specs.declared.Said.{Said}
 use Rattle.strptime.specs.declared.Said.the-variants.{Unsaid, Is}
 use Rattle.strptime.specs.declared.Shown.the-variants.{Days, Hours}
-use Rattle.demands.specs.Facts.{Says, facts}
+use Rattle.demands.specs.Facts.{Says, facts, endFrom}
 use Rattle.demands.specs.Writes.{WouldWrite, onDay, atHour}
 
 -- the numbers that the reader's order puts before 9
@@ -74,3 +75,5 @@ module _ (f s : List ℕ) where
         → ((reading f s .number ≡ 0) × (reading f s .day ≡ x) × (reading f s .hour ≡ h) × (reading f s .minute ≡ m)
         × (reading f s .second ≡ c))
         ↔ (DayIs x × HourIs h × NumberIs minute m × NumberIs second c)
+    -- its place is the "first unread offset of the text"
+    pub unread : reading f s .number ≡ 0 → reading f s .place ≡ endFrom (opening f .elements) s 0

@@ -51,6 +51,17 @@ unfoldable pub allRead : List ℕ → List ℕ → ℕ → Bool
 allRead [] s at = true
 allRead (e ∷ es) s at = going (λ next. allRead es s next) (readElement e s at)
 
+-- where elements end that all find what they want: the first unread offset of the text
+unfoldable pub ending : (ℕ → ℕ) → Item → ℕ
+ending on (Skip next) = on next
+ending on (Reads k n from next) = on next
+ending on (NoMatch p) = p
+ending on (OutOfRange p) = p
+
+unfoldable pub endFrom : List ℕ → List ℕ → ℕ → ℕ
+endFrom [] s at = at
+endFrom (e ∷ es) s at = ending (λ next. endFrom es s next) (readElement e s at)
+
 -- no kind of fact is said again, differently
 abbrev pub Consistent : List Fact → Type 0
 Consistent xs = (k m n : ℕ) → Says xs k m → Says xs k n → m ≡ n

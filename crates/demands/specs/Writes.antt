@@ -1,12 +1,12 @@
 -- "The writer would write a fact for a day or an hour exactly if the conversion of its kind has that number, or that half, for it by the
 -- rules under 'What is written'; filling and case do not count." What is written is what the writer leaves in a buffer.
 use Prim.Native.Char.{code}
-use Prim.Native.Nat.{ℕ, _-_}
+use Prim.Native.Nat.{ℕ, _-_, _<_}
 use mathlib.Core.Bool.{true}
 use mathlib.Core.List.{List, [], _∷_, map}
 use mathlib.Core.Logic.{_⊎_}
 use mathlib.Core.Path.{_≡_}
-use lib.ListN.{getD, take, replicate}
+use lib.ListN.{length, getD, take, replicate}
 use Rattle.laws.specs.Bytes.{bytes}
 use Rattle.laws.specs.Lists.{every}
 use Rattle.kinds.specs.Kinds.{halfOfDay}
@@ -31,15 +31,16 @@ wrote k t = writing (code "%" ∷ letterFor k ∷ []) t (replicate 9 0)
 unfoldable pub written : ℕ → Fields → List ℕ
 written k t = take (wrote k t .answer .place) (wrote k t .buffer)
 
--- bytes are a number, filled with zeros or not; and a half of the day, in capitals or not
+-- bytes are a number, filled with zeros or not: one digit at least, digits only, and they spell it
 abbrev pub IsNumber : ℕ → List ℕ → Type 0
-IsNumber n s = (every isDigit s ≡ true) × (decimal 0 s ≡ n)
+IsNumber n s = (0 < length s) × (every isDigit s ≡ true) × (decimal 0 s ≡ n)
 
+-- bytes are a half of the day, in capitals or not: 0 is AM and 1 is PM
 unfoldable pub halves : List (List ℕ)
 halves = bytes "am" ∷ bytes "pm" ∷ []
 
 abbrev pub IsHalf : ℕ → List ℕ → Type 0
-IsHalf n s = map fold s ≡ getD halves n (0 ∷ [])
+IsHalf n s = (n < 2) × (map fold s ≡ getD halves n [])
 
 -- the writer would write the fact of kind k and number n for these fields
 pub record WouldWrite (k n : ℕ) (t : Fields) : Type 0 where

@@ -61,7 +61,7 @@ abbrev μ-loop : open-to-lts.MeasureT-loop
 -- it passes some bytes, at most three
 passed : (t : ℕ) (c : open-to-lts.After-piece-at (callees t) (given t) open-to.Post Inv-loop μ-loop)
     → (1 ≤ c .piece-at .result .length) × (c .piece-at .result .length ≤ 3)
-passed t c = passes (c .before .before .loop .inv) (c .before .loop-test .taken) (c .piece-at .ensures)
+passed t c = passes (c .before .before .loop .inv) (omega arith) (c .piece-at .ensures)
 
 -- the offset that its % counts as can be put into an element
 sign-fits : (t : ℕ) (c : open-to-lts.In-loop (callees t) (given t) open-to.Post Inv-loop μ-loop)
@@ -79,7 +79,7 @@ loop-again : (t : ℕ) → open-to-lts.Need-loop-again (callees t) (given t) ope
 loop-again t c =
     let a = c .before .before .before .before .before in
     let p = a .before .before .before in
-    stores-byte (p .before .before .loop .inv) (p .before .loop-test .taken) (p .piece-at .ensures)
+    stores-byte (p .before .before .loop .inv) (omega arith) (p .piece-at .ensures)
     (a .act .given .1)
     (c .before .before .store .ensures)
 
@@ -98,7 +98,7 @@ loop-again-2 t c =
     let e = c .before .before .before in
     let a = e .before .before .before .before in
     let p = a .before .before .before in
-    stores-conversion (p .before .before .loop .inv) (p .before .loop-test .taken) (p .piece-at .ensures)
+    stores-conversion (p .before .before .loop .inv) (omega arith) (p .piece-at .ensures)
     (e .before .sign-at .ensures)
     (a .act2 .given .1)
     (e .conversion-at .ensures)
@@ -122,7 +122,7 @@ returns : (t : ℕ) → open-to-lts.Need-returns (callees t) (given t) open-to.P
 returns t c =
     let a = c .before .before .before in
     let p = a .before .before .before in
-    too-deep (p .before .before .loop .inv) (p .before .loop-test .taken) (p .piece-at .ensures)
+    too-deep (p .before .before .loop .inv) (omega arith) (p .piece-at .ensures)
     (c .before .sign-at2 .ensures)
     (a .act3 .given .1)
     (c .if1 .taken)
@@ -137,7 +137,7 @@ open-to-requires t c κs =
     let own = w .own-format in
     let long = length-take-le (own .result .1) (own .result .0) (omega (arith, own .ensures)) in (
       omega (arith, s .pre .0),
-      asks (p .before .before .loop .inv) (p .before .loop-test .taken) (p .piece-at .ensures)
+      asks (p .before .before .loop .inv) (omega arith) (p .piece-at .ensures)
           (d .before .sign-at2 .ensures)
           (a .act3 .given .1)
           (d .if1 .left)
@@ -153,7 +153,7 @@ returns-2 t c =
     let d = w .before in
     let a = d .before .before .before in
     let p = a .before .before .before in
-    opens-bad (p .before .before .loop .inv) (p .before .loop-test .taken) (p .piece-at .ensures)
+    opens-bad (p .before .before .loop .inv) (omega arith) (p .piece-at .ensures)
     (d .before .sign-at2 .ensures)
     (a .act3 .given .1)
     (d .if1 .left)
@@ -174,7 +174,7 @@ loop-again-3 t c =
     let d = w .before in
     let a = d .before .before .before in
     let p = a .before .before .before in
-    opens (p .before .before .loop .inv) (p .before .loop-test .taken) (p .piece-at .ensures)
+    opens (p .before .before .loop .inv) (omega arith) (p .piece-at .ensures)
     (d .before .sign-at2 .ensures)
     (a .act3 .given .1)
     (d .if1 .left)
@@ -192,7 +192,7 @@ loop-less-3 t c =
 returns-3 : (t : ℕ) → open-to-lts.Need-returns-3 (callees t) (given t) open-to.Post Inv-loop μ-loop
 returns-3 t c =
     let p = c .before .before .before .before in
-    refuses (p .before .before .loop .inv) (p .before .loop-test .taken) (p .piece-at .ensures)
+    refuses (p .before .before .loop .inv) (omega arith) (p .piece-at .ensures)
     (c .sign-at3 .ensures)
     (c .before .enum-told .given .1)
 
