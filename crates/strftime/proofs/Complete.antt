@@ -3,7 +3,7 @@
 use Prim.Native.Nat.{ℕ, _≤_}
 use mathlib.Core.Bool.{true}
 use mathlib.Core.List.{List, _++_}
-use mathlib.Core.Path.{_≡_, refl, ap, _∙_}
+use mathlib.Core.Path.{_≡_, ap, _∙_, fun-ext}
 use borrow.Author.Tests.{le-leb, eq-eqb}
 use lib.ListN.{length, drop}
 use lib.Seq.{sets, take-all}
@@ -14,8 +14,7 @@ use Rattle.format.specs.Opening.Ended.{Whole}
 use Rattle.format.proofs.Elements.{all-elements}
 use Rattle.values.specs.Moments.{momentOf}
 use Rattle.values.specs.declared.Moment.{Moment}
-use Rattle.values.specs.declared.MomentFields.{MomentFields}
-use Rattle.values.specs.declared.MomentFields.the-variants.{Valid, Bad}
+use Rattle.values.specs.declared.MomentFields.the-variants.{Valid}
 use Rattle.strftime.specs.Writing.{Result, text, numbered, put, byFormat, byElements, forMoment, forFields, writing, elementsWriting}
 use Rattle.strftime.specs.declared.Fields.{Fields}
 
@@ -51,14 +50,8 @@ module _ (f : List ℕ) (short : length f ≤ longest) (bytes : every isByte f �
       let es = opening f .elements in
       rw (eq-eqb (elementsIn mostElements es) (length es) (all-elements f short bytes), whole)
 
-  for-moment : (b : List ℕ) (r : MomentFields) → forMoment (byElements (opening f .elements) b) b r ≡ forMoment (byFormat f b) b r
-  unfolding forMoment
-  for-moment b (Valid m) = by-format b m
-  for-moment b (Bad n) = refl
-
   -- a writing by the elements of a format is the writing by the format
   pub opened-before : (t : Fields) (b : List ℕ) → elementsWriting (opening f .elements) t b ≡ writing f t b
-  unfolding elementsWriting writing forFields
+  unfolding elementsWriting writing
   opened-before t b =
-      rw (le-leb (length f) longest short)
-      (for-moment b (momentOf (t .year) (t .month) (t .day) (t .hour) (t .minute) (t .second)))
+      rw (le-leb (length f) longest short) (ap (λ (rest : Moment → Result). forFields rest b t) (fun-ext (by-format b)))
