@@ -9,7 +9,8 @@ use native.Mathlib.Nat.{eq-or-lt-of-le}
 use native.Mathlib.Omega.{arith}
 use borrow.Author.Tests.{le-leb, leb-true}
 use lib.Dec.{eqb, leb}
-use Rattle.calendar.specs.Calendar.{date, within, weekday, monthLengths, sum, yearLength, monthLength, lastYear, dateFault, dayOfYear, daysBefore, dayNumber, days, yearOf, monthOf, dateIn, dateOf}
+use Rattle.calendar.specs.Calendar.{date, sum, yearLength, monthLengths, monthLength, within, lastYear, dateFault, dayOfYear}
+use Rattle.calendar.specs.Calendar.{daysBefore, dayNumber, days, weekday, yearOf, monthOf, dateIn, dateOf}
 use Rattle.calendar.specs.Dates.{fromFields, fromDayNumber}
 use Rattle.calendar.specs.declared.Date.{Date}
 use Rattle.calendar.specs.declared.FromFields.{FromFields}
@@ -127,7 +128,9 @@ number-of-date k h l =
     let y = locate yearLength lastYear k h l in
     let p = y .0 .past in
     let n = k - sum yearLength p in
-    let m = locate (monthLength (suc p)) 12 n (omega (arith, y .0 .after)) (omega (arith, y .0 .upto, sum-suc yearLength p, year-months (suc p))) in
+    let low : 0 < n = omega (arith, y .0 .after) in
+    let high : n ≤ sum (monthLength (suc p)) 12 = omega (arith, y .0 .upto, sum-suc yearLength p, year-months (suc p)) in
+    let m = locate (monthLength (suc p)) 12 n low high in
     let q = m .0 .past in
     let d = n - sum (monthLength (suc p)) q in
     found k p q d
@@ -206,8 +209,8 @@ year-order : (y m d y′ m′ d′ : ℕ) → Valid y m d → Valid y′ m′ d�
 unfolding dayNumber daysBefore
 year-order zero m d y′ m′ d′ v w h = absurd (omega (arith, v .year-low))
 year-order (suc p) m d y′ m′ d′ v w h =
-    omega
-    (arith, within-year (suc p) m d v, within-year y′ m′ d′ w, sum-suc yearLength p, sum-mono yearLength (suc p) (y′ - 1) (omega arith), ap (sum yearLength) start)
+    let more = sum-mono yearLength (suc p) (y′ - 1) (omega arith) in
+    omega (arith, within-year (suc p) m d v, within-year y′ m′ d′ w, sum-suc yearLength p, more, ap (sum yearLength) start)
   where
     start : suc p - 1 ≡ p
     start = omega arith

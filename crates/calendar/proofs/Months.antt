@@ -92,7 +92,8 @@ all-bounded false = tt
 pub months-bounds : (y q : ℕ) → q < 13 → (sum (monthLength y) q ≤ 31 * q) × (31 * q ≤ sum (monthLength y) q + 7)
 unfolding monthLength months bounded
 months-bounds y q h =
-    let t = both (leb (sum (months (leap y)) q) (31 * q)) (leb (31 * q) (sum (months (leap y)) q + 7)) (at (bounded (leap y)) 13 (all-bounded (leap y)) q h) in
+    let s = sum (months (leap y)) q in
+    let t = both (leb s (31 * q)) (leb (31 * q) (s + 7)) (at (bounded (leap y)) 13 (all-bounded (leap y)) q h) in
     (leb→le _ _ (t .0), leb→le _ _ (t .1))
 
 -- the month of a day of the year: after all the days of q months, and within one month more

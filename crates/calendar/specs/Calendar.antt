@@ -1,5 +1,6 @@
 -- The calendar of paper 01: Gregorian throughout, from 0001-01-01, day 1, a Monday, to 9999-12-31.
--- Days are counted by their day number, years and months from 1. Everything here is defined for all numbers; the paper speaks of valid dates.
+-- Days are counted by their day number, years and months from 1. Everything here is defined for all numbers; the paper speaks of
+-- valid dates.
 use Prim.Native.Nat.{ℕ, zero, suc, _+_, _-_, _%_}
 use mathlib.Core.Bool.{Bool, cond, not, _&&_, _||_}
 use mathlib.Core.List.{List, [], _∷_}
@@ -83,9 +84,13 @@ dateIn y n = date y (monthOf y n) (n - sum (monthLength y) (monthOf y n - 1))
 unfoldable pub dateOf : ℕ → Date
 dateOf k = dateIn (yearOf k) (k - daysBefore (yearOf k))
 
+-- how many of the n days after day k fall on weekday w
+unfoldable pub countAfter : ℕ → ℕ → ℕ → ℕ
+countAfter w k n = sum (λ i. cond (eqb (weekday (k + i)) w) 1 0) n
+
 -- how many of the first n days of year y fall on weekday w
 unfoldable pub countOf : ℕ → ℕ → ℕ → ℕ
-countOf w y n = let before = daysBefore y in sum (λ i. cond (eqb (weekday (before + i)) w) 1 0) n
+countOf w y n = let before = daysBefore y in countAfter w before n
 
 -- %U: "how many Sundays lie from 1 January through the date"; %W: "the same for Mondays"
 unfoldable pub sundayWeek : ℕ → ℕ → ℕ → ℕ
@@ -108,5 +113,6 @@ isoWeek k = countOf 4 (isoYear k) (thursday k - daysBefore (isoYear k))
 
 -- everything here, for proofs that compute
 unfoldable pub computes : Unit {0}
-unfolding sum yearLength monthLengths monthLength dateFault dayOfYear daysBefore dayNumber days periodOf yearOf monthOf dateIn dateOf countOf sundayWeek mondayWeek thursday isoYear isoWeek
+unfolding sum yearLength monthLengths monthLength dateFault dayOfYear daysBefore dayNumber days
+    periodOf yearOf monthOf dateIn dateOf countAfter countOf sundayWeek mondayWeek thursday isoYear isoWeek
 computes = tt

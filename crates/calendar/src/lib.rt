@@ -2,8 +2,15 @@
 ghost use mathlib.Core.Path.{_≡_};
 ghost use Prim.Native.Nat.{_-_, _<_, _≤_, _^_};
 ghost use Rattle.calendar.specs.Calendar.{sum, leap, yearLength, monthLength, dayOfYear, daysBefore, dayNumber, yearOf, monthOf};
-ghost use Rattle.calendar.specs.Calendar.{weekday, sundayWeek, mondayWeek, thursday, isoYear, isoWeek};
+ghost use Rattle.calendar.specs.Calendar.{weekday, countAfter, sundayWeek, mondayWeek, thursday, isoYear, isoWeek};
 ghost use Rattle.calendar.specs.Dates.{fromFields, fromDayNumber, ends};
+
+// Weekdays, by their numbers: Monday 1 to Sunday 7.
+const MONDAY: u32 = 1;
+
+const THURSDAY: u32 = 4;
+
+const SUNDAY: u32 = 7;
 
 // The days of each month in a year that is not leap, at the month's number; there is no month 0.
 const MONTH_LENGTHS: [u32; 13] = [0, 31, 28, 31, 30, 31, 30, 31, 31, 30, 31, 30, 31];
@@ -61,6 +68,26 @@ pub fn month_length(year: u32, month: u32) -> u32
         return 29;
     }
     28
+}
+
+// The weekday of day `number`: day 1 is a Monday.
+fn weekday_of(number: u32) -> u32
+    ensures { λ r. ⌜ r ≡ weekday number ⌝ }
+{
+    let past = number % 7;
+    if past == 0 {
+        return SUNDAY;
+    }
+    past
+}
+
+// How many of the `days` days after day `before` fall on `weekday`: `past` days have gone by since the last one that did.
+fn count_after(weekday: u32, before: u32, days: u32) -> u32
+    requires { ⌜ (0 < weekday) × (weekday ≤ 7) ⌝ }
+    ensures { λ r. ⌜ r ≡ countAfter weekday before days ⌝ }
+{
+    let past = (before % 7 + 7 - weekday) % 7;
+    ((past as u64 + days as u64) / 7) as u32
 }
 
 // The days of all years before `year`.
@@ -152,7 +179,7 @@ fn thursday_of(date: Date) -> u32
     ensures { λ r. ⌜ (r ≡ thursday (dayNumber (date .year) (date .month) (date .day))) × (r < 2 ^ 25) ⌝ }
 {
     let k = number_of(date);
-    let weekday = (k + 6) % 7 + 1;
+    let weekday = weekday_of(k);
     if k + 4 < weekday {
         return 0;
     }
@@ -250,21 +277,21 @@ impl Date {
     pub fn weekday(self) -> u32
         ensures { λ r. ⌜ r ≡ weekday (dayNumber (self .year) (self .month) (self .day)) ⌝ }
     {
-        (number_of(self) + 6) % 7 + 1
+        weekday_of(number_of(self))
     }
 
     // %U
     pub fn sunday_week(self) -> u32
         ensures { λ r. ⌜ r ≡ sundayWeek (self .year) (self .month) (self .day) ⌝ }
     {
-        number_of(self) / 7 - days_before(self.year as u32) / 7
+        count_after(SUNDAY, days_before(self.year as u32), self.day_of_year())
     }
 
     // %W
     pub fn monday_week(self) -> u32
         ensures { λ r. ⌜ r ≡ mondayWeek (self .year) (self .month) (self .day) ⌝ }
     {
-        (number_of(self) + 6) / 7 - (days_before(self.year as u32) + 6) / 7
+        count_after(MONDAY, days_before(self.year as u32), self.day_of_year())
     }
 
     // %G
@@ -280,6 +307,7 @@ impl Date {
     {
         let thursday = thursday_of(self);
         let year = year_near(self.year as u32, thursday);
-        (thursday + 3) / 7 - (days_before(year) + 3) / 7
+        let before = days_before(year);
+        count_after(THURSDAY, before, thursday - before)
     }
 }

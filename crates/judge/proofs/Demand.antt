@@ -26,7 +26,8 @@ use Rattle.calendar.proofs.Years.{days-is}
 use Rattle.judge.proofs.Every.{every-member, member-every}
 use Rattle.judge.proofs.Tells.{Tells, none, single, double, tells}
 
--- The words over any test p of the n numbers from `from` on that says just what agreement is, where nothing said leaves the first of them free
+-- The words over any test p of the n numbers from `from` on that says just what agreement is, where nothing said leaves the
+-- first of them free
 module _
     (None : Type 0) (Is Agrees : ℕ → Type 0) (p : ℕ → Bool) (from n : ℕ) (borne : Bool)
     (unborne : borne ≡ false → None) (unborne′ : None → borne ≡ false)

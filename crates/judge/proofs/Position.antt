@@ -97,7 +97,8 @@ module _ (p : ℕ → Bool) where
         so-far = so-far-next p 1 days k h (a .so-far) (omega (arith, a .at, number-within y m d (valid-here y m d k h a l)));
       }
 
-  pub next-day-hit : (y m d k : ℕ) (h : Found) → AtDay p y m d k h → d ≤ monthLength y m → p k ≡ true → AtDay p y m (d + 1) (k + 1) (hit k h)
+  pub next-day-hit : (y m d k : ℕ) (h : Found) → AtDay p y m d k h → d ≤ monthLength y m → p k ≡ true
+      → AtDay p y m (d + 1) (k + 1) (hit k h)
   next-day-hit y m d k h a l e = rw e at (next-day y m d k h a l)
 
   pub next-day-miss : (y m d k : ℕ) (h : Found) → AtDay p y m d k h → d ≤ monthLength y m → p k ≡ false → AtDay p y m (d + 1) (k + 1) h

@@ -16,7 +16,8 @@ module _ (p : ℕ → Bool) (from : ℕ) where
   pub data Tells : ℕ → Found → Type 0 where
     none : {end : ℕ} → ((k : ℕ) → from ≤ k → k < end → p k ≡ false) → Tells end Nothing
     single : {end a : ℕ} → from ≤ a → a < end → p a ≡ true → ((k : ℕ) → from ≤ k → k < end → p k ≡ true → k ≡ a) → Tells end (One a)
-    double : {end a b : ℕ} → from ≤ a → a < b → b < end → p a ≡ true → p b ≡ true → ((k : ℕ) → from ≤ k → k < b → p k ≡ true → k ≡ a) → Tells end (Two a b)
+    double : {end a b : ℕ} → from ≤ a → a < b → b < end → p a ≡ true → p b ≡ true
+        → ((k : ℕ) → from ≤ k → k < b → p k ≡ true → k ≡ a) → Tells end (Two a b)
 
   below-suc : {k end : ℕ} {A : Type 0} → k < suc end → (k ≡ end → A) → (k < end → A) → A
   below-suc h f g = ⊎-elim f g (eq-or-lt-of-le (le-of-suc-le-suc h))

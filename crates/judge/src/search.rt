@@ -63,7 +63,8 @@ fn month_agrees(facts: Facts, year_agrees: bool, year: u32, month: u32) -> bool
 }
 
 // Whether the day agrees too. `number` is its day number, `before` counts the days before its year, and `iso` says whether any
-// ISO year or week was said.
+// ISO year or week was said. Weekday, %U and %W are worked out from `number` and `before` here: asked of the calendar they made
+// the scans for them 10 to 25 % slower.
 fn day_agrees(facts: Facts, iso: bool, date: Date, number: u32, before: u32) -> bool
     requires { ⌜ (number ≡ dayNumber (date .year) (date .month) (date .day)) × (before ≡ daysBefore (date .year)) ⌝ }
     requires { ⌜ (number < 2 ^ 25) × (iso ≡ not (noneSaid facts isoKinds)) ⌝ }

@@ -39,7 +39,8 @@ sub-result c = search needs
 returns-4 : tie.Need-returns-4
 returns-4 c =
     let a = c .before .before .before .before .before .args in
-    omega (arith, rw (le-leb 3 (a .month) (omega arith), ← c .before .is-leap .ensures, c .if4 .taken) at (month-start (a .year) (a .month) (omega arith) (omega arith)))
+    let start = month-start (a .year) (a .month) (omega arith) (omega arith) in
+    omega (arith, rw (le-leb 3 (a .month) (omega arith), ← c .before .is-leap .ensures, c .if4 .taken) at start)
 
 sub-result-2 : tie.Need-sub-result-2
 sub-result-2 c = search needs
@@ -47,7 +48,8 @@ sub-result-2 c = search needs
 returns-5 : tie.Need-returns-5
 returns-5 c =
     let a = c .before .before .before .before .before .args in
-    omega (arith, rw (le-leb 3 (a .month) (omega arith), ← c .before .is-leap .ensures, c .if4 .left) at (month-start (a .year) (a .month) (omega arith) (omega arith)))
+    let start = month-start (a .year) (a .month) (omega arith) (omega arith) in
+    omega (arith, rw (le-leb 3 (a .month) (omega arith), ← c .before .is-leap .ensures, c .if4 .left) at start)
 
 pub days-before-month-spec : {M : Type 1} → statement M
 days-before-month-spec =

@@ -1,5 +1,5 @@
 -- `calendar::month_of` meets its contract. Assumes nothing.
-use Prim.Native.Nat.{suc, _+_, _-_, _/_}
+use Prim.Native.Nat.{suc, _+_, _-_, _/_, _≤_, _<_}
 use mathlib.Core.Path.{_≡_, ap}
 use native.Mathlib.Omega.{arith}
 use borrow.Author.Needs.{needs}
@@ -26,8 +26,9 @@ returns c =
     let n = c .before .before .args .n in
     let q = (n - 1) / 31 in
     let next : q + 1 + 1 - 1 ≡ suc q = omega arith in
-    omega
-    (arith, month-right y n (omega arith) (omega arith) (omega (arith, c .before .days-before-month .ensures, ap (sum (monthLength y)) next)))
+    let ends : n ≤ sum (monthLength y) (suc q)
+    = omega (arith, c .before .days-before-month .ensures, ap (sum (monthLength y)) next) in
+    omega (arith, month-right y n (omega arith) (omega arith) ends)
 
 add-result : tie.Need-add-result
 add-result c = search needs
@@ -38,8 +39,9 @@ returns-2 c =
     let n = c .before .before .args .n in
     let q = (n - 1) / 31 in
     let next : q + 1 + 1 - 1 ≡ suc q = omega arith in
-    omega
-    (arith, month-short y n (omega arith) (omega arith) (omega (arith, c .before .days-before-month .ensures, ap (sum (monthLength y)) next)))
+    let ends : sum (monthLength y) (suc q) < n
+    = omega (arith, c .before .days-before-month .ensures, ap (sum (monthLength y)) next) in
+    omega (arith, month-short y n (omega arith) (omega arith) ends)
 
 pub month-of-spec : {M : Type 1} → statement M
 month-of-spec =

@@ -24,13 +24,17 @@ days-before-month-requires : tie.Need-days-before-month-requires
 days-before-month-requires c κs = search needs
 
 add-result : tie.Need-add-result
-add-result c = omega (arith, c .days-before-month .ensures, months-small (c .before .before .before .before .before .args .date .year) (c .before .before .before .before .before .args .date .month - 1))
+add-result c =
+    let d = c .before .before .before .before .before .args .date in
+    omega (arith, c .days-before-month .ensures, months-small (d .year) (d .month - 1))
 
 cast-result : tie.Need-cast-result
 cast-result c = search needs
 
 add-result-2 : tie.Need-add-result-2
-add-result-2 c = omega (arith, c .before .days-before-month .ensures, months-small (c .before .before .before .before .before .before .args .date .year) (c .before .before .before .before .before .before .args .date .month - 1))
+add-result-2 c =
+    let d = c .before .before .before .before .before .before .args .date in
+    omega (arith, c .before .days-before-month .ensures, months-small (d .year) (d .month - 1))
 
 returns : tie.Need-returns
 unfolding dayOfYear dayNumber

@@ -8,18 +8,15 @@ use Rattle.calendar.proofs.thursday_of.Tie as tie
 number-of-requires : tie.Need-number-of-requires
 number-of-requires c κs = search needs
 
-add-weekday : tie.Need-add-weekday
-add-weekday c = search needs
-
-add-weekday-2 : tie.Need-add-weekday-2
-add-weekday-2 c = search needs
+weekday-of-requires : tie.Need-weekday-of-requires
+weekday-of-requires c κs = search needs
 
 add-if1 : tie.Need-add-if1
 add-if1 c = search needs
 
 returns : tie.Need-returns
 unfolding thursday
-returns c = rw (← c .before .number-of .ensures .0) (omega arith)
+returns c = rw (← c .before .before .number-of .ensures .0) (omega arith)
 
 add-result : tie.Need-add-result
 add-result c = search needs
@@ -29,15 +26,14 @@ sub-result c = search needs
 
 returns-2 : tie.Need-returns-2
 unfolding thursday
-returns-2 c = rw (← c .before .number-of .ensures .0) (omega arith)
+returns-2 c = rw (← c .before .before .number-of .ensures .0) (omega arith)
 
 pub thursday-of-spec : {M : Type 1} → statement M
 thursday-of-spec =
     tie.close
     (tie.spec
     number-of-requires
-    add-weekday
-    add-weekday-2
+    weekday-of-requires
     add-if1
     returns
     add-result

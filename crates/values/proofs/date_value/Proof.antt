@@ -110,7 +110,8 @@ returns-13 c =
       | yes h ↦ rw (List·getD-eq-default dateValues none h)
       | no h ↦
           (let q = r .0 .0 .0 .0 .0 .0 in
-          let six = six-less k 6 (le-of-suc-le-suc (lt-of-not-le h)) (r .1) (r .0 .1) (r .0 .0 .1) (r .0 .0 .0 .1) (r .0 .0 .0 .0 .1) (r .0 .0 .0 .0 .0 .1) in
+          let most = le-of-suc-le-suc (lt-of-not-le h) in
+          let six = six-less k 6 most (r .1) (r .0 .1) (r .0 .0 .1) (r .0 .0 .0 .1) (r .0 .0 .0 .0 .1) (r .0 .0 .0 .0 .0 .1) in
           rw (le-zero (six-less k 0 six (q .1) (q .0 .1) (q .0 .0 .1) (q .0 .0 .0 .1) (q .0 .0 .0 .0 .1) (q .0 .0 .0 .0 .0 .1))))
     ]
 

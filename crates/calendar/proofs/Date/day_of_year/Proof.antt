@@ -20,7 +20,9 @@ cast-result : tie.Need-cast-result
 cast-result c = search needs
 
 add-result : tie.Need-add-result
-add-result c = omega (arith, c .before .days-before-month .ensures, months-small (c .before .before .before .before .args .self .year) (c .before .before .before .before .args .self .month - 1))
+add-result c =
+    let d = c .before .before .before .before .args .self in
+    omega (arith, c .before .days-before-month .ensures, months-small (d .year) (d .month - 1))
 
 returns : tie.Need-returns
 unfolding dayOfYear

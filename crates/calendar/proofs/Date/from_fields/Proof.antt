@@ -41,7 +41,12 @@ returns-4 : tie.Need-returns-4
 unfolding fromFields dateFault
 returns-4 c =
     let a = c .before .before .before .before .before .before .before .before .args in
-    simp (le-leb 1 (a .year) (omega arith), le-leb (a .year) 9999 (omega arith), le-leb 1 (a .month) (omega arith), lt-leb (a .month) 12 (omega arith))
+    simp (
+      le-leb 1 (a .year) (omega arith),
+      le-leb (a .year) 9999 (omega arith),
+      le-leb 1 (a .month) (omega arith),
+      lt-leb (a .month) 12 (omega arith),
+    )
 
 cast-if5 : tie.Need-cast-if5
 cast-if5 c = search needs
@@ -50,7 +55,13 @@ returns-5 : tie.Need-returns-5
 unfolding fromFields dateFault
 returns-5 c =
     let a = c .before .before .before .before .before .before .before .before .before .before .args in
-    simp (le-leb 1 (a .year) (omega arith), le-leb (a .year) 9999 (omega arith), le-leb 1 (a .month) (omega arith), le-leb (a .month) 12 (omega arith), lt-leb 1 (a .day) (omega arith))
+    simp (
+      le-leb 1 (a .year) (omega arith),
+      le-leb (a .year) 9999 (omega arith),
+      le-leb 1 (a .month) (omega arith),
+      le-leb (a .month) 12 (omega arith),
+      lt-leb 1 (a .day) (omega arith),
+    )
 
 month-length-requires : tie.Need-month-length-requires
 month-length-requires c κs = search needs
@@ -59,7 +70,14 @@ returns-6 : tie.Need-returns-6
 unfolding fromFields dateFault
 returns-6 c =
     let a = c .before .before .before .before .before .before .before .before .before .before .before .before .args in
-    simp (le-leb 1 (a .year) (omega arith), le-leb (a .year) 9999 (omega arith), le-leb 1 (a .month) (omega arith), le-leb (a .month) 12 (omega arith), le-leb 1 (a .day) (omega arith), lt-leb (a .day) (monthLength (a .year) (a .month)) (omega (arith, c .before .month-length .ensures)))
+    simp (
+      le-leb 1 (a .year) (omega arith),
+      le-leb (a .year) 9999 (omega arith),
+      le-leb 1 (a .month) (omega arith),
+      le-leb (a .month) 12 (omega arith),
+      le-leb 1 (a .day) (omega arith),
+      lt-leb (a .day) (monthLength (a .year) (a .month)) (omega (arith, c .before .month-length .ensures)),
+    )
 
 cast-t7 : tie.Need-cast-t7
 cast-t7 c = search needs

@@ -1,14 +1,8 @@
 -- `calendar::Date::sunday_week` meets its contract. Assumes nothing.
-use native.Mathlib.Omega.{arith}
 use borrow.Author.Needs.{needs}
-use lib.Dec.{lit<, lit≤}
-use Rattle.calendar.specs.Calendar.{dayOfYear, dayNumber, sundayWeek}
-use Rattle.calendar.proofs.Weeks.{count-is}
+use Rattle.calendar.specs.Calendar.{countOf, sundayWeek}
 use Rattle.calendar.proofs.Date.sunday_week.Statement.{statement}
 use Rattle.calendar.proofs.Date.sunday_week.Tie as tie
-
-number-of-requires : tie.Need-number-of-requires
-number-of-requires c κs = search needs
 
 cast-days-before : tie.Need-cast-days-before
 cast-days-before c = search needs
@@ -16,18 +10,22 @@ cast-days-before c = search needs
 days-before-requires : tie.Need-days-before-requires
 days-before-requires c κs = search needs
 
-sub-result : tie.Need-sub-result
-unfolding dayNumber
-sub-result c = omega (arith, c .before .before .number-of .ensures .0, c .days-before .ensures .0)
+day-of-year-requires : tie.Need-day-of-year-requires
+day-of-year-requires c κs = search needs
+
+count-after-requires : tie.Need-count-after-requires
+count-after-requires c κs = search needs
 
 returns : tie.Need-returns
-unfolding sundayWeek dayNumber
-returns c =
-    let d = c .before .before .before .args .self in
-    let n = dayOfYear (d .year) (d .month) (d .day) in
-    omega (arith, c .before .before .number-of .ensures .0, c .days-before .ensures .0, count-is 7 (d .year) n (lit< tt) (lit≤ tt))
+unfolding countOf sundayWeek
+returns c = rw (← c .before .before .days-before .ensures .0, ← c .before .day-of-year .ensures) (c .count-after .ensures)
 
 pub sunday-week-spec : {M : Type 1} → statement M
 sunday-week-spec =
     tie.close
-    (tie.spec number-of-requires cast-days-before days-before-requires sub-result returns)
+    (tie.spec
+    cast-days-before
+    days-before-requires
+    day-of-year-requires
+    count-after-requires
+    returns)

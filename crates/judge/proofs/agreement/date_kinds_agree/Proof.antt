@@ -42,7 +42,9 @@ date-kind-agrees-requires : tie.Need-date-kind-agrees-requires Inv-loop μ-loop
 date-kind-agrees-requires c κs = search needs
 
 returns : tie.Need-returns Inv-loop μ-loop
-returns c = sym (sym (c .before .before .before .loop .inv .1) ∙ every-stop _ _ _ (omega arith) (sym (c .before .date-kind-agrees .ensures) ∙ not-true _ (c .if1 .taken)))
+returns c =
+    let other = sym (c .before .date-kind-agrees .ensures) ∙ not-true _ (c .if1 .taken) in
+    sym (sym (c .before .before .before .loop .inv .1) ∙ every-stop _ _ _ (omega arith) other)
 
 add-kind : tie.Need-add-kind Inv-loop μ-loop
 add-kind c = omega arith
@@ -51,7 +53,9 @@ loop-less : tie.Need-loop-less Inv-loop μ-loop
 loop-less c = omega arith
 
 loop-again : tie.Need-loop-again Inv-loop μ-loop
-loop-again c = (omega arith, sym (every-turn _ _ _ (omega arith) (sym (c .before .date-kind-agrees .ensures) ∙ not-false _ (c .if1 .left))) ∙ c .before .before .before .loop .inv .1)
+loop-again c =
+    let same = sym (c .before .date-kind-agrees .ensures) ∙ not-false _ (c .if1 .left) in
+    (omega arith, sym (every-turn _ _ _ (omega arith) same) ∙ c .before .before .before .loop .inv .1)
 
 returns-2 : tie.Need-returns-2 Inv-loop μ-loop
 returns-2 c = sym (sym (c .before .loop .inv .1) ∙ every-done _ _ _ (omega arith))

@@ -21,7 +21,8 @@ verdict-of-requires c κs = search needs
 returns : tie.Need-returns
 unfolding hourVerdict hourBorne hourKinds range
 returns c =
-    let b : hourBorne (c .before .before .before .before .args .facts) ≡ true = sym (c .before .before .before .any-said .ensures) ∙ c .before .before .if1 .taken in
+    let t = c .before .before in
+    let b : hourBorne (t .before .before .args .facts) ≡ true = sym (t .before .any-said .ensures) ∙ t .if1 .taken in
     rw b (c .verdict-of .ensures ∙ ap verdictOf (c .before .search-hours .ensures))
 
 returns-2 : tie.Need-returns-2

@@ -16,7 +16,8 @@ use Rattle.calendar.proofs.Dates.{first-day as day-one}
 use Rattle.calendar.proofs.Months.{month-most}
 use Rattle.calendar.proofs.Years.{days-is}
 use Rattle.judge.proofs.Parts.{on, agrees-by-parts, both-hold, second-fails, first-fails}
-use Rattle.judge.proofs.Position.{AtYear, AtMonth, AtDay, first-year, first-month, first-day, valid-here, next-day-hit, next-day-miss, next-month, next-year, no-more-years}
+use Rattle.judge.proofs.Position.{AtYear, AtMonth, AtDay, first-year, first-month, first-day, valid-here}
+use Rattle.judge.proofs.Position.{next-day-hit, next-day-miss, next-month, next-year, no-more-years}
 use Rattle.judge.proofs.SoFar.{so-far-two}
 use Rattle.judge.proofs.search.search_days.Statement.{statement}
 use Rattle.judge.proofs.search.search_days.Tie as tie
@@ -73,19 +74,23 @@ short : (c : In-month) → c .month-length .result ≤ 31
 short c = omega (arith, c .month-length .ensures, month-most (year-at c) (month-at c))
 
 -- a day of the month: what the code tests by year, month and day is the agreement of the day
-module _ (c : In-month) {d k : ℕ} {h : Found} (a : AtDay (dayAgrees (facts-at c)) (year-at c) (month-at c) d k h) (l : d ≤ c .month-length .result) where
-  in-month : d ≤ monthLength (year-at c) (month-at c)
-  in-month = omega (arith, l, c .month-length .ensures)
+module _
+    (c : In-month) {d k : ℕ} {h : Found}
+    (a : AtDay (dayAgrees (facts-at c)) (year-at c) (month-at c) d k h) (l : d ≤ c .month-length .result)
+  where
+    in-month : d ≤ monthLength (year-at c) (month-at c)
+    in-month = omega (arith, l, c .month-length .ensures)
 
-  here : dayAgrees (facts-at c) k ≡ (c .before .month-agrees .result && on (facts-at c) (date (year-at c) (month-at c) d) restKinds)
-  here =
-      let f = facts-at c in
-      ap (dayAgrees f) (a .at)
-      ∙ agrees-by-parts f (year-at c) (month-at c) d (valid-here _ _ _ _ _ _ a in-month)
-      ∙ ap (λ (b : Bool). b && on f (date (year-at c) (month-at c) d) restKinds)
-      (sym
-      (c .before .month-agrees .ensures
-      ∙ ap (λ (b : Bool). b && on f (date (year-at c) (month-at c) 1) monthKinds) (c .before .before .before .before .before .before .year-agrees .ensures)))
+    here : dayAgrees (facts-at c) k ≡ (c .before .month-agrees .result && on (facts-at c) (date (year-at c) (month-at c) d) restKinds)
+    here =
+        let f = facts-at c in
+        ap (dayAgrees f) (a .at)
+        ∙ agrees-by-parts f (year-at c) (month-at c) d (valid-here _ _ _ _ _ _ a in-month)
+        ∙ ap (λ (b : Bool). b && on f (date (year-at c) (month-at c) d) restKinds)
+        (sym
+        (c .before .month-agrees .ensures
+        ∙ ap (λ (b : Bool). b && on f (date (year-at c) (month-at c) 1) monthKinds)
+        (c .before .before .before .before .before .before .year-agrees .ensures)))
 
 -- the test of the day itself
 abbrev After-test : Type 0
@@ -94,7 +99,10 @@ After-test = tie.After-day-agrees Inv-loop2 μ-loop2 Inv-loop3 μ-loop3 Inv-loop
 abbrev within : After-test → In-month
 within c = c .before .before .before .before .before .before
 
-tested : (c : After-test) → c .day-agrees .result ≡ on (facts-at (within c)) (date (year-at (within c)) (month-at (within c)) (c .before .before .before .loop2 .day)) restKinds
+abbrev date-of : After-test → Date
+date-of c = date (year-at (within c)) (month-at (within c)) (c .before .before .before .loop2 .day)
+
+tested : (c : After-test) → c .day-agrees .result ≡ on (facts-at (within c)) (date-of c) restKinds
 tested c = c .day-agrees .ensures ∙ ap (λ (u : Date). on (facts-at (within c)) u restKinds) (c .before .date-at .ensures)
 
 any-said-requires : tie.Need-any-said-requires Inv-loop2 μ-loop2 Inv-loop3 μ-loop3 Inv-loop μ-loop Inv-years μ-years
@@ -140,7 +148,9 @@ loop2-holds : tie.Need-loop2-holds Inv-loop2 μ-loop2 Inv-loop3 μ-loop3 Inv-loo
 loop2-holds c = first-day _ _ _ _ _ (c .before .before .before .before .before .before .loop .inv) (omega arith)
 
 date-at-requires : tie.Need-date-at-requires Inv-loop2 μ-loop2 Inv-loop3 μ-loop3 Inv-loop μ-loop Inv-years μ-years
-date-at-requires c κs = omega (arith, c .before .loop2 .inv .year-high, c .before .loop2 .inv .month-high, short (c .before .before .before .before))
+date-at-requires c κs =
+    let l = c .before in
+    omega (arith, l .loop2 .inv .year-high, l .loop2 .inv .month-high, short (l .before .before .before))
 
 day-agrees-requires : tie.Need-day-agrees-requires Inv-loop2 μ-loop2 Inv-loop3 μ-loop3 Inv-loop μ-loop Inv-years μ-years
 unfolding isoKinds range

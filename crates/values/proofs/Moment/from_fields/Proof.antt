@@ -21,22 +21,28 @@ enum-known-date c = search needs
 returns : tie.Need-returns
 unfolding momentFault momentOf
 returns c =
-    let a = c .before .before .before .before .before .args in
-    let v = fields-valid (a .year) (a .month) (a .day) (c .before .before .date .given .0 .0) (sym (c .before .before .before .before .from-fields .ensures) ∙ c .before .before .date .given .1) in
+    let f = c .before .before in
+    let a = f .before .before .before .args in
+    let e = sym (f .before .before .from-fields .ensures) ∙ f .date .given .1 in
+    let v = fields-valid (a .year) (a .month) (a .day) (f .date .given .0 .0) e in
     simp (v .0, lt-leb (a .hour) 23 (omega arith))
 
 returns-2 : tie.Need-returns-2
 unfolding momentFault momentOf
 returns-2 c =
-    let a = c .before .before .before .before .before .before .args in
-    let v = fields-valid (a .year) (a .month) (a .day) (c .before .before .before .date .given .0 .0) (sym (c .before .before .before .before .before .from-fields .ensures) ∙ c .before .before .before .date .given .1) in
+    let f = c .before .before .before in
+    let a = f .before .before .before .args in
+    let e = sym (f .before .before .from-fields .ensures) ∙ f .date .given .1 in
+    let v = fields-valid (a .year) (a .month) (a .day) (f .date .given .0 .0) e in
     simp (v .0, le-leb (a .hour) 23 (omega arith), lt-leb (a .minute) 59 (omega arith))
 
 returns-3 : tie.Need-returns-3
 unfolding momentFault momentOf
 returns-3 c =
-    let a = c .before .before .before .before .before .before .before .args in
-    let v = fields-valid (a .year) (a .month) (a .day) (c .before .before .before .before .date .given .0 .0) (sym (c .before .before .before .before .before .before .from-fields .ensures) ∙ c .before .before .before .before .date .given .1) in
+    let f = c .before .before .before .before in
+    let a = f .before .before .before .args in
+    let e = sym (f .before .before .from-fields .ensures) ∙ f .date .given .1 in
+    let v = fields-valid (a .year) (a .month) (a .day) (f .date .given .0 .0) e in
     simp (v .0, le-leb (a .hour) 23 (omega arith), le-leb (a .minute) 59 (omega arith), lt-leb (a .second) 60 (omega arith))
 
 cast-t12 : tie.Need-cast-t12
@@ -52,14 +58,17 @@ returns-4 : tie.Need-returns-4
 unfolding momentFault momentOf
 returns-4 c =
     let a = c .before .before .before .before .args in
-    let b = fields-bad (a .year) (a .month) (a .day) (c .before .field .given .0 .0) (sym (c .before .before .before .from-fields .ensures) ∙ c .before .field .given .1) in
+    let e = sym (c .before .before .before .from-fields .ensures) ∙ c .before .field .given .1 in
+    let b = fields-bad (a .year) (a .month) (a .day) (c .before .field .given .0 .0) e in
     simp (b .0) (ap Bad (sym (b .1)))
 
 returns-5 : tie.Need-returns-5
 unfolding momentFault momentOf
 returns-5 c =
-    let a = c .before .before .before .before .before .before .before .args in
-    let v = fields-valid (a .year) (a .month) (a .day) (c .before .before .before .before .date .given .0 .0) (sym (c .before .before .before .before .before .before .from-fields .ensures) ∙ c .before .before .before .before .date .given .1) in
+    let f = c .before .before .before .before in
+    let a = f .before .before .before .args in
+    let e = sym (f .before .before .from-fields .ensures) ∙ f .date .given .1 in
+    let v = fields-valid (a .year) (a .month) (a .day) (f .date .given .0 .0) e in
     simp (v .0, le-leb (a .hour) 23 (omega arith), le-leb (a .minute) 59 (omega arith), le-leb (a .second) 60 (omega arith), v .1)
 
 pub from-fields-spec : {M : Type 1} → statement M
