@@ -14,6 +14,7 @@ use Rattle.strptime.specs.declared.State.{State}
 use Rattle.strptime.specs.declared.Stepped.{Stepped}
 use Rattle.strptime.specs.declared.elements.Item.{Item}
 use Rattle.strptime.specs.declared.elements.Item.the-variants.{Skip, Fact, NoMatch, OutOfRange}
+use Rattle.strptime.specs.declared.steps.Step.{Step}
 
 -- nothing said yet
 unfoldable pub unsaid : Facts
@@ -32,6 +33,10 @@ goes f at = record { state = record { facts = f; at = at }; outcome = Read }
 
 unfoldable pub stays : State → Outcome → Stepped
 stays t o = record { state = t; outcome = o }
+
+-- what one step answers, with what was said after it
+abbrev pub stepped : List ℕ → Step → Stepped
+stepped said r = stays (here said (r .at)) (r .outcome)
 
 -- the facts with one more
 unfoldable pub noted : Facts → ℕ → ℕ → Facts

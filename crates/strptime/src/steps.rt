@@ -10,7 +10,7 @@ ghost use mathlib.Core.Path.{_≡_};
 ghost use Prim.Native.Nat.{suc, _≤_};
 ghost use lib.Dec.{eqb};
 ghost use lib.ListN.{length};
-ghost use Rattle.strptime.specs.Reading.{here, start, stays, stepOn, readAll};
+ghost use Rattle.strptime.specs.Reading.{start, here, stays, stepped, stepOn, readAll};
 
 // Where an element leads: the first unread offset, and how its reading went.
 pub struct Step {
@@ -30,11 +30,11 @@ fn conflicts(said: u32, number: u32) -> bool
 }
 
 // One element, read at an offset of the text; what it says is noted among the facts.
-fn step_on(e: u32, s: &[u8], at: usize, said: &mut [u32; kinds::KINDS]) -> Step
+fn step_on(element: u32, s: &[u8], at: usize, said: &mut [u32; kinds::KINDS]) -> Step
     requires { ⌜ at ≤ length (now s) ⌝ }
-    ensures { λ r. ⌜ stays (here (now (said .exit)) (r .at)) (r .outcome) ≡ stepOn e (now (s .entry)) (here (now (said .entry)) at) ⌝ }
+    ensures { λ r. ⌜ stepped (now (said .exit)) r ≡ stepOn element (now (s .entry)) (here (now (said .entry)) at) ⌝ }
 {
-    match read_element(e, s, at) {
+    match read_element(element, s, at) {
         Item::Skip { next } => Step {
             at: next,
             outcome: Outcome::Read,
