@@ -25,7 +25,7 @@ shared-slice-read-if1 c = omega arith
 returns : tie.Need-returns Inv-loop μ-loop
 returns c =
     let l = c .before .before .before in
-    omega (arith, stop (l .before .args .s .now) (l .loop .i) (omega arith) (c .if1 .taken))
+    omega (arith, stop (l .before .args .s .now) (l .loop .i) (omega arith) (omega arith))
 
 add-i : tie.Need-add-i Inv-loop μ-loop
 add-i c = omega arith
@@ -36,7 +36,7 @@ loop-less c = omega arith
 loop-again : tie.Need-loop-again Inv-loop μ-loop
 loop-again c =
     let l = c .before .before .before in
-    rw add-one (omega (arith, more (l .before .args .s .now) (l .loop .i) (omega arith) (c .if1 .left)))
+    rw add-one (omega (arith, more (l .before .args .s .now) (l .loop .i) (omega arith) (λ e. omega arith)))
 
 returns-2 : tie.Need-returns-2 Inv-loop μ-loop
 returns-2 c = omega (arith, end (c .before .before .args .s .now) (c .before .loop .i) (omega arith))
