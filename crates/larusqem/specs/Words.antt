@@ -2,7 +2,7 @@
 -- 0 number, 1 place, 2 to 4 year, month and day, 5 and 6 whether the hour is said and which, 7 and 8 the minute, 9 and 10 the second,
 -- 11 to 13 the second of two days, or 11 the second of two hours. "Whatever a row does not name comes back zero or unsaid."
 use Prim.Native.Nat.{ℕ}
-use mathlib.Core.List.{List, [], _∷_, _++_}
+use mathlib.Core.List.{List, [], _∷_}
 use Rattle.calendar.specs.Calendar.{date}
 use Rattle.calendar.specs.declared.Date.{Date}
 use Rattle.strptime.specs.declared.Day.{Day}
