@@ -34,7 +34,7 @@ use Rattle.strptime.specs.declared.Shown.the-variants.{Nothing, Hours}
 use Rattle.strptime.specs.declared.State.{State}
 use Rattle.strptime.proofs.Places.{all-within}
 use Rattle.strptime.proofs.Walk.{Placed}
-use Rattle.demands.specs.Rows.{OneOf, Written, Read}
+use Rattle.demands.specs.Rows.{OneOf, WritingRow, ReadingRow}
 
 -- ---- the writer
 
@@ -50,7 +50,7 @@ fault-few y m d h n s =
 module _ (f b : List ℕ) where
   -- a refusal, with what its row says of its place
   refusal : (n p : ℕ) → OneOf (0 ∷ 1 ∷ 2 ∷ 3 ∷ 4 ∷ []) n → (n ≡ 0 → ⊥) → (n ≡ 1 → p ≡ 0) → (n ≡ 2 → OneOf (1 ∷ 2 ∷ 3 ∷ 4 ∷ 5 ∷ 6 ∷ []) p)
-      → (n ≡ 3 → p < length f) → (n ≡ 4 → length b < p) → Written f b (refused n p b)
+      → (n ≡ 3 → p < length f) → (n ≡ 4 → length b < p) → WritingRow f b (refused n p b)
   unfolding refused
   refusal n p l no-0 one two three four =
       record {
@@ -65,16 +65,16 @@ module _ (f b : List ℕ) where
         place-4 = four;
       }
 
-  put-written : (x : List ℕ) → Written f b (put x b)
+  put-written : (x : List ℕ) → WritingRow f b (put x b)
   unfolding put among
   put-written x =
-      either (Written f b) (leb (length x) (length b))
+      either (WritingRow f b) (leb (length x) (length b))
       (λ e. done (leb-true (length x) (length b) e))
       (λ e.
       refusal 4 (length x) refl (λ z. omega (arith, z)) (λ z. absurd (omega (arith, z))) (λ z. absurd (omega (arith, z)))
       (λ z. absurd (omega (arith, z))) (λ z. leb-false (length x) (length b) e))
     where
-      done : length x ≤ length b → Written f b (record { answer = numbered 0 (length x); buffer = sets b 0 x })
+      done : length x ≤ length b → WritingRow f b (record { answer = numbered 0 (length x); buffer = sets b 0 x })
       done h =
           let stored : sets b 0 x ≡ x ++ drop (length x) b = rw zero-add at (sets-eq x b 0 (omega arith)) in
           record {
@@ -89,22 +89,22 @@ module _ (f b : List ℕ) where
             place-4 = λ z. absurd (omega (arith, z));
           }
 
-  format-written : (m : Moment) → Written f b (byFormat f b m)
+  format-written : (m : Moment) → WritingRow f b (byFormat f b m)
   unfolding byFormat among
   format-written m = go (opening f .ended) refl
     where
-      go : (d : Ended) → opening f .ended ≡ d → Written f b (byFormat f b m)
+      go : (d : Ended) → opening f .ended ≡ d → WritingRow f b (byFormat f b m)
       go Whole e = rw e (put-written (text m (opening f .elements)))
       go (BadAt p) e =
           rw e
           (refusal 3 p refl (λ z. omega (arith, z)) (λ z. absurd (omega (arith, z))) (λ z. absurd (omega (arith, z)))
           (λ z. bad-within f e) (λ z. absurd (omega (arith, z))))
 
-  pub writing-rows : (t : Fields) → Written f b (writing f t b)
+  pub writing-rows : (t : Fields) → WritingRow f b (writing f t b)
   unfolding writing forFields forMoment momentOf among
   writing-rows t =
-      either (Written f b) (leb (length f) longest)
-      (λ _. either (λ (x : MomentFields). Written f b (forMoment (byFormat f b) b x)) (eqb fault 0) (λ _. format-written _) (λ e. bad e))
+      either (WritingRow f b) (leb (length f) longest)
+      (λ _. either (λ (x : MomentFields). WritingRow f b (forMoment (byFormat f b) b x)) (eqb fault 0) (λ _. format-written _) (λ e. bad e))
       (λ _.
       refusal 1 0 refl (λ z. omega (arith, z)) (λ z. refl) (λ z. absurd (omega (arith, z))) (λ z. absurd (omega (arith, z)))
       (λ z. absurd (omega (arith, z))))
@@ -112,7 +112,7 @@ module _ (f b : List ℕ) where
       fault : ℕ
       fault = momentFault (t .year) (t .month) (t .day) (t .hour) (t .minute) (t .second)
 
-      bad : eqb fault 0 ≡ false → Written f b (refused 2 fault b)
+      bad : eqb fault 0 ≡ false → WritingRow f b (refused 2 fault b)
       bad e =
           refusal 2 fault refl (λ z. omega (arith, z)) (λ z. absurd (omega (arith, z)))
           (λ z. rw e at (fault-few (t .year) (t .month) (t .day) (t .hour) (t .minute) (t .second)))
@@ -124,7 +124,7 @@ module _ (f s : List ℕ) where
   -- a reading that hands out nothing: with what its row says of what is shown and of its place
   shown-read : (n p : ℕ) (x : Shown) → OneOf (0 ∷ 1 ∷ 3 ∷ 5 ∷ 6 ∷ 7 ∷ 8 ∷ 9 ∷ 10 ∷ []) n → ((n ≡ 10 → ⊥) → x ≡ Nothing)
       → (OneOf (1 ∷ 5 ∷ []) n → p ≡ 0) → (n ≡ 3 → p < length f) → (OneOf (0 ∷ 6 ∷ 7 ∷ 8 ∷ []) n → p ≤ length s)
-      → (OneOf (9 ∷ 10 ∷ []) n → OneOf (1 ∷ 2 ∷ []) p) → Read f s (showing n p x)
+      → (OneOf (9 ∷ 10 ∷ []) n → OneOf (1 ∷ 2 ∷ []) p) → ReadingRow f s (showing n p x)
   unfolding showing
   shown-read n p x l none one three text judge =
       record {
@@ -140,7 +140,7 @@ module _ (f s : List ℕ) where
         place-9-10 = judge;
       }
 
-  finished-read : (p : ℕ) (d : Day) (h m c : Said) → p ≤ length s → Read f s (finished p d h m c)
+  finished-read : (p : ℕ) (d : Day) (h m c : Said) → p ≤ length s → ReadingRow f s (finished p d h m c)
   unfolding finished among
   finished-read p d h m c l =
       record {
@@ -157,13 +157,13 @@ module _ (f s : List ℕ) where
       }
 
   -- 9 or 10, for the day or the hour
-  nine : (p : ℕ) → OneOf (1 ∷ 2 ∷ []) p → Read f s (reader.refused 9 p)
+  nine : (p : ℕ) → OneOf (1 ∷ 2 ∷ []) p → ReadingRow f s (reader.refused 9 p)
   unfolding reader.refused among
   nine p q =
       shown-read 9 p Nothing refl (λ z. refl) (λ z. absurd (false≢true z)) (λ z. absurd (omega (arith, z))) (λ z. absurd (false≢true z))
       (λ z. q)
 
-  ten : (p : ℕ) (x : Shown) → OneOf (1 ∷ 2 ∷ []) p → Read f s (showing 10 p x)
+  ten : (p : ℕ) (x : Shown) → OneOf (1 ∷ 2 ∷ []) p → ReadingRow f s (showing 10 p x)
   unfolding among
   ten p x q =
       shown-read 10 p x refl (λ z. absurd (z refl)) (λ z. absurd (false≢true z)) (λ z. absurd (omega (arith, z)))
@@ -171,39 +171,39 @@ module _ (f s : List ℕ) where
 
   -- 6, 7 or 8, at an offset of the text
   text-read : (n p : ℕ) → OneOf (0 ∷ 1 ∷ 3 ∷ 5 ∷ 6 ∷ 7 ∷ 8 ∷ 9 ∷ 10 ∷ []) n → among n (1 ∷ 5 ∷ []) ≡ false → (n ≡ 3 → ⊥)
-      → among n (9 ∷ 10 ∷ []) ≡ false → p ≤ length s → Read f s (reader.refused n p)
+      → among n (9 ∷ 10 ∷ []) ≡ false → p ≤ length s → ReadingRow f s (reader.refused n p)
   unfolding reader.refused
   text-read n p l one three nine h =
       shown-read n p Nothing l (λ z. refl) (λ z. absurd (false≢true (sym one ∙ z))) (λ z. absurd (three z)) (λ z. h)
       (λ z. absurd (false≢true (sym nine ∙ z)))
 
   module _ (t : State) (h : t .at ≤ length s) where
-    hour-read : (d : Day) (v : Verdict) → Read f s (withHour t d v)
+    hour-read : (d : Day) (v : Verdict) → ReadingRow f s (withHour t d v)
     unfolding withHour done among
     hour-read d NotSaid = finished-read (t .at) d _ _ _ h
     hour-read d Impossible = nine 2 refl
     hour-read d (Open a b) = ten 2 (Hours a b) refl
     hour-read d (Agreed k) = finished-read (t .at) d _ _ _ h
 
-    day-read : (v w : Verdict) → Read f s (withDay t v w)
+    day-read : (v w : Verdict) → ReadingRow f s (withDay t v w)
     unfolding withDay among
     day-read NotSaid w = hour-read _ w
     day-read Impossible w = nine 1 refl
     day-read (Open a b) w = ten 1 _ refl
     day-read (Agreed k) w = hour-read _ w
 
-  concluded-read : (t : State) (o : Outcome) → t .at ≤ length s → Placed s o → Read f s (concluded t o)
+  concluded-read : (t : State) (o : Outcome) → t .at ≤ length s → Placed s o → ReadingRow f s (concluded t o)
   unfolding concluded judged Placed among
   concluded-read t AllRead h p = day-read t h _ _
   concluded-read t (Mismatch q) h p = text-read 6 q refl refl (λ z. omega (arith, z)) refl p
   concluded-read t (Range q) h p = text-read 7 q refl refl (λ z. omega (arith, z)) refl p
   concluded-read t (Conflict q) h p = text-read 8 q refl refl (λ z. omega (arith, z)) refl p
 
-  format-read : Read f s (reader.byFormat f s)
+  format-read : ReadingRow f s (reader.byFormat f s)
   unfolding reader.byFormat readBy reader.refused among start
   format-read = go (opening f .ended) refl
     where
-      go : (d : Ended) → opening f .ended ≡ d → Read f s (reader.byFormat f s)
+      go : (d : Ended) → opening f .ended ≡ d → ReadingRow f s (reader.byFormat f s)
       go Whole e =
           let r = readAll (opening f .elements) s start in
           let w = all-within (opening f .elements) s start (omega arith) in
@@ -213,13 +213,13 @@ module _ (f s : List ℕ) where
           (shown-read 3 p Nothing refl (λ z. refl) (λ z. absurd (false≢true z)) (λ z. bad-within f e) (λ z. absurd (false≢true z))
           (λ z. absurd (false≢true z)))
 
-  pub reading-rows : Read f s (reading f s)
+  pub reading-rows : ReadingRow f s (reading f s)
   unfolding reading reader.unlessLong reader.refused among
   reading-rows =
       let zero : (n : ℕ) → OneOf (0 ∷ 1 ∷ 3 ∷ 5 ∷ 6 ∷ 7 ∷ 8 ∷ 9 ∷ 10 ∷ []) n → (n ≡ 3 → ⊥) → among n (0 ∷ 6 ∷ 7 ∷ 8 ∷ []) ≡ false
-      → among n (9 ∷ 10 ∷ []) ≡ false → Read f s (showing n 0 Nothing) = λ n l three text nine.
+      → among n (9 ∷ 10 ∷ []) ≡ false → ReadingRow f s (showing n 0 Nothing) = λ n l three text nine.
       shown-read n 0 Nothing l (λ z. refl) (λ z. refl) (λ z. absurd (three z)) (λ z. absurd (false≢true (sym text ∙ z)))
       (λ z. absurd (false≢true (sym nine ∙ z))) in
-      picked (Read f s) (leb (length f) longest)
-      (picked (Read f s) (leb (length s) longest) format-read (zero 5 refl (λ z. omega (arith, z)) refl refl))
+      picked (ReadingRow f s) (leb (length f) longest)
+      (picked (ReadingRow f s) (leb (length s) longest) format-read (zero 5 refl (λ z. omega (arith, z)) refl refl))
       (zero 1 refl (λ z. omega (arith, z)) refl refl)

@@ -17,7 +17,7 @@ abbrev pub OneOf : List ℕ → ℕ → Type 0
 OneOf ns n = among n ns ≡ true
 
 -- a writing's result w, by a format f into a buffer b
-pub record Written (f b : List ℕ) (w : Result) : Type 0 where
+pub record WritingRow (f b : List ℕ) (w : Result) : Type 0 where
   pub listed : OneOf (0 ∷ 1 ∷ 2 ∷ 3 ∷ 4 ∷ []) (w .answer .number)
   -- "A writer refusal leaves the whole buffer as it came"
   pub untouched : (w .answer .number ≡ 0 → ⊥) → w .buffer ≡ b
@@ -32,7 +32,7 @@ pub record Written (f b : List ℕ) (w : Result) : Type 0 where
   pub place-4 : w .answer .number ≡ 4 → length b < w .answer .place
 
 -- a reading r of a text s by a format f
-pub record Read (f s : List ℕ) (r : Reading) : Type 0 where
+pub record ReadingRow (f s : List ℕ) (r : Reading) : Type 0 where
   pub listed : OneOf (0 ∷ 1 ∷ 3 ∷ 5 ∷ 6 ∷ 7 ∷ 8 ∷ 9 ∷ 10 ∷ []) (r .number)
   -- nothing is handed out with another number than 0, and nothing is shown with another than 10
   pub no-day : (r .number ≡ 0 → ⊥) → r .day ≡ NoDate

@@ -4,7 +4,8 @@ use Prim.Native.Nat.{ℕ, zero, suc, _+_, _-_, _≤_, _<_}
 use mathlib.Core.Bool.{Bool, true, false, not, cond, and-eq-true-iff}
 use mathlib.Core.List.{List, [], _∷_}
 use mathlib.Core.Path.{_≡_, refl, ap}
-use native.Mathlib.Nat.{zero-add, sub-zero, le-of-suc-le-suc}
+use native.Mathlib.Decide.{decLe}
+use native.Mathlib.Nat.{zero-add, sub-zero, le-of-suc-le-suc, lt-of-not-le}
 use native.Mathlib.Numerals.{add-one}
 use native.Mathlib.Omega.{arith}
 use borrow.Author.Tests.{not-true, not-false}
@@ -63,3 +64,18 @@ counted (suc n) (e ∷ es) (suc k) h =
     let u = taken (isElement e) (elementsIn n es) (suc k) h in
     let v = counted n es k (omega (arith, u .1)) in
     (omega (arith, v .0), omega (arith, v .1), v .2)
+
+-- no more count than are looked at, nor than there are
+bounded : (k n : ℕ) → (n < k → n < n) → k ≤ n
+bounded k n f =
+    elim (decLe k n) [
+      | yes h ↦ h
+      | no h ↦ absurd (omega (arith, f (lt-of-not-le h)))
+    ]
+
+module _ (n : ℕ) (es : List ℕ) where
+  pub counted-few : elementsIn n es ≤ n
+  counted-few = bounded (elementsIn n es) n (λ h. counted n es n h .0)
+
+  pub counted-within : elementsIn n es ≤ length es
+  counted-within = bounded (elementsIn n es) (length es) (λ h. counted n es (length es) h .1)

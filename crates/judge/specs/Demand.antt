@@ -1,4 +1,5 @@
--- Demand 3 in the paper's words, as statements about a verdict. Days go by their day numbers.
+-- What a verdict tells of the facts that it is judged by: the ground of demand 3, which `demands` states with the writer's own bytes.
+-- Days go by their day numbers.
 use Prim.Native.Nat.{ℕ, suc, _≤_, _<_}
 use mathlib.Core.List.{List, List·Memᴰ as Member}
 use mathlib.Core.Logic.{_↔_}
@@ -28,8 +29,8 @@ IsDay k = (1 ≤ k) × (k ≤ days)
 abbrev pub IsHour : ℕ → Type 0
 IsHour h = h ≤ 23
 
--- a day, and an hour, agree with every fact that bears on them: for each kind that does, of which a number was said, the writer would
--- write that number
+-- a day, and an hour, agree with every fact that bears on them: for each kind that does, of which a number was said, the kind's value is
+-- that number
 abbrev pub AllAgree : Facts → List ℕ → (ℕ → ℕ) → Type 0
 AllAgree f ks value = (k n : ℕ) → Member k ks → said f k ≡ suc n → value k ≡ n
 

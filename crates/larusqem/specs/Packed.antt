@@ -10,7 +10,7 @@ use Rattle.format.specs.declared.opening.Opened.the-variants.{Done, TooLong, Ba
 use Rattle.strftime.specs.declared.Fields.{Fields}
 use Rattle.strftime.specs.declared.Writing.{Writing}
 
--- the number above the low 32 bits, the place in them: every place fits there (proofs/Places.antt)
+-- the number above the low 32 bits, the place in them: every place fits there
 abbrev pub packed : ℕ → ℕ → ℕ
 packed number place = number * 2 ^ 32 + place
 

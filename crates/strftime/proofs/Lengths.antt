@@ -1,44 +1,29 @@
 -- What an element writes, and how long that is: at most nine bytes, by one test over the table of conversions.
 -- Assumes nothing.
-use Prim.Native.Nat.{ℕ, zero, suc, _+_, _*_, _/_, _%_, _≤_, _<_}
+use Prim.Native.Nat.{ℕ, _+_, _*_, _%_, _≤_, _<_}
 use mathlib.Core.List.{List, [], _∷_, _++_}
 use mathlib.Core.Path.{_≡_, refl}
-use native.Mathlib.Decide.{decLe}
-use native.Mathlib.Nat.{lt-of-not-le}
 use native.Mathlib.Numerals.{add-one}
 use native.Mathlib.Omega.{arith}
 use borrow.Author.Tests.{lt-ltb, le-ltb}
 use lib.ListN.{length, drop, getD, replicate, length-append, length-take, length-map, drop-of-length-le}
 use lib.Seq.{drop-cons}
 use Rattle.laws.proofs.Cases.{picked}
-use Rattle.text.specs.Digits.{leading, filled}
 use Rattle.text.specs.Names.{nameAt}
 use Rattle.text.specs.Naming.{placeFor, nameFor}
 use Rattle.text.specs.Rows.{padded}
 use Rattle.text.specs.declared.names.Names.{Names}
+use Rattle.text.proofs.ReadBack.{filled-length}
 use Rattle.text.proofs.Rows.{held}
 use Rattle.format.specs.Conversions.{conversionOf}
-use Rattle.format.specs.Opening.{isByte, letterOf, elementsIn}
+use Rattle.format.specs.Opening.{isByte, letterOf}
 use Rattle.format.specs.declared.conversions.Conversion.{Conversion}
 use Rattle.format.specs.declared.conversions.Form.{Form}
 use Rattle.format.specs.declared.conversions.Form.the-variants.{Zeros, Blanks, FromSunday, Short, Full, Lower, Unknown}
-use Rattle.format.proofs.Entries.{counted}
 use Rattle.format.proofs.Small.{conversion-small}
 use Rattle.values.specs.Values.{value}
 use Rattle.values.specs.declared.Moment.{Moment}
 use Rattle.strftime.specs.Writing.{formed, converted, element, text}
-
-leading-length : (f w n : ℕ) → length (leading f w n) ≡ w
-unfolding leading
-leading-length f zero n = refl
-leading-length f (suc w) n =
-    rw length-append (omega (arith, leading-length f w (n / 10)))
-
-pub filled-length : (f w n : ℕ) → length (filled f w n) ≡ w
-unfolding filled
-filled-length f zero n = refl
-filled-length f (suc w) n =
-    rw length-append (omega (arith, leading-length f w (n / 10)))
 
 -- ---- what an element writes
 
@@ -89,22 +74,6 @@ pub text-most : (m : Moment) (es : List ℕ) → length (text m es) ≤ 9 * leng
 unfolding text
 text-most m [] = omega arith
 text-most m (e ∷ es) = rw length-append (omega (arith, element-most m e, text-most m es))
-
--- ---- entries that count as elements: no more than are looked at, nor than there are
-
-at-most : (k n : ℕ) → (n < k → n < n) → k ≤ n
-at-most k n f =
-    elim (decLe k n) [
-      | yes h ↦ h
-      | no h ↦ absurd (omega (arith, f (lt-of-not-le h)))
-    ]
-
-module _ (n : ℕ) (es : List ℕ) where
-  pub counted-few : elementsIn n es ≤ n
-  counted-few = at-most (elementsIn n es) n (λ h. counted n es n h .0)
-
-  pub counted-within : elementsIn n es ≤ length es
-  counted-within = at-most (elementsIn n es) (length es) (λ h. counted n es (length es) h .1)
 
 -- ---- the elements from a place on
 

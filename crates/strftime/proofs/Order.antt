@@ -23,7 +23,7 @@ use Rattle.strftime.specs.Writing.{forMoment, forFields, writing, elemen
 use Rattle.strftime.specs.declared.Fields.{Fields}
 use Rattle.strftime.specs.declared.Writing.{Writing}
 use Rattle.strftime.specs.declared.Written.the-variants.{Done, FormatTooLong, BadMoment, BadConversion, BufferTooSmall}
-use Rattle.strftime.proofs.Lengths.{counted-within}
+use Rattle.format.proofs.Entries.{counted-within}
 
 -- the answer is a, and the buffer is left as c
 abbrev pub Gives : Writing → List ℕ → Result → Type 0

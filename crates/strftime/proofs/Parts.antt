@@ -9,7 +9,7 @@ use lib.Seq.{sets, take-all}
 use Rattle.laws.specs.Stores.{Puts}
 use Rattle.laws.proofs.Stores.{sets-all, sets-part}
 use Rattle.text.specs.Digits.{filled}
-use Rattle.strftime.proofs.Lengths.{filled-length}
+use Rattle.text.proofs.ReadBack.{filled-length}
 
 take-part : (k : ℕ) (x : List ℕ) → take (length (take k x)) x ≡ take k x
 take-part zero x = refl

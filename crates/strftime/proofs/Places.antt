@@ -20,7 +20,8 @@ use Rattle.values.specs.declared.Moment.{Moment}
 use Rattle.values.specs.declared.MomentFields.{MomentFields}
 use Rattle.strftime.specs.Writing.{Result, text, refused, put, byFormat, byElements, forMoment, forFields, writing, elementsWriting}
 use Rattle.strftime.specs.declared.Fields.{Fields}
-use Rattle.strftime.proofs.Lengths.{text-most, counted-few}
+use Rattle.format.proofs.Entries.{counted-few}
+use Rattle.strftime.proofs.Lengths.{text-most}
 
 -- its place fits 32 bits
 abbrev Fits : Result → Type 0

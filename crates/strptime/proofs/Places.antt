@@ -1,6 +1,6 @@
 -- Places that a reading answers are offsets of its text or its format, or 1 or 2: none is above 1,024.
 -- Assumes nothing.
-use Prim.Native.Nat.{ℕ, zero, suc, _≤_}
+use Prim.Native.Nat.{ℕ, _≤_}
 use mathlib.Core.Bool.{true}
 use mathlib.Core.List.{List, [], _∷_}
 use mathlib.Core.Path.{_≡_, refl}
@@ -9,8 +9,9 @@ use borrow.Author.Tests.{leb-true}
 use lib.Dec.{eqb, leb, lit≤}
 use lib.ListN.{length}
 use Rattle.laws.proofs.Cases.{either, picked}
-use Rattle.format.specs.Opening.{Ended, opening, longest, mostElements, isElement, elementsIn}
+use Rattle.format.specs.Opening.{Ended, opening, longest, mostElements, elementsIn}
 use Rattle.format.specs.Opening.Ended.{Whole, BadAt}
+use Rattle.format.proofs.Entries.{counted-few}
 use Rattle.format.proofs.Refused.{bad-within}
 use Rattle.judge.specs.declared.Verdict.{Verdict}
 use Rattle.judge.specs.declared.Verdict.the-variants.{Unsaid, Impossible, Open, Agreed}
@@ -85,12 +86,6 @@ reading-place f s =
     unless-place s _ longest (λ l. format-place s l f (leb-true (length f) longest e)))
     (λ _. lit≤ tt)
 
-elements-most : (n : ℕ) (es : List ℕ) → elementsIn n es ≤ n
-unfolding elementsIn
-elements-most zero es = lit≤ tt
-elements-most (suc n) [] = omega arith
-elements-most (suc n) (e ∷ es) = picked (λ k. k ≤ suc n) (isElement e) (omega (arith, elements-most n es)) (omega arith)
-
 pub elements-place : (es s : List ℕ) → elementsReading es s .place ≤ mostElements
 unfolding elementsReading byElements showing refused
 elements-place es s =
@@ -99,4 +94,4 @@ elements-place es s =
     (λ l.
     picked (λ (r : Reading). r .place ≤ mostElements) (eqb good (length es))
     (omega (arith, by-place s l es))
-    (elements-most mostElements es))
+    (counted-few mostElements es))

@@ -2,12 +2,11 @@
 -- Assumes nothing.
 use Prim.Native.Nat.{ℕ, _+_, _-_, _≤_, _<_}
 use mathlib.Core.Bool.{Bool, true, _&&_}
-use mathlib.Core.List.{List, [], _∷_}
 use native.Mathlib.Omega.{arith}
 use lib.Dec.{T, leb, ltb, leb→le, ltb→lt}
 use lib.ListN.{length, getD}
 use Rattle.laws.specs.Lists.{every}
-use Rattle.laws.proofs.Table.{both, at}
+use Rattle.laws.proofs.Table.{both, all, at}
 use Rattle.kinds.specs.Kinds.{kinds}
 use Rattle.format.specs.Conversions as rows
 use Rattle.format.specs.Conversions.{conversionOf}
@@ -15,17 +14,11 @@ use Rattle.format.specs.declared.conversions.Conversion.{Conversion}
 use Rattle.format.specs.declared.conversions.Form.{Form}
 use Rattle.format.specs.declared.conversions.Form.the-variants.{Zeros, Blanks, FromSunday, Short, Full, Lower, Unknown}
 use Rattle.format.proofs.Rows.{conversion-passes}
+use Rattle.values.proofs.Ranges.{lowest, highest}
 use Rattle.text.specs.Names as names
 use Rattle.text.specs.Names.{namesOf}
 use Rattle.text.specs.Naming.{firstValue}
 use Rattle.text.specs.declared.names.Names.{Names}
-
--- the range of each kind, from kind 0 on: the lowest and the highest number that is read
-abbrev pub lowest : List ℕ
-lowest = 0 ∷ 1 ∷ 0 ∷ 0 ∷ 1 ∷ 1 ∷ 1 ∷ 1 ∷ 0 ∷ 0 ∷ 1 ∷ 0 ∷ 1 ∷ 0 ∷ 1 ∷ 0 ∷ 0 ∷ 0 ∷ []
-
-abbrev pub highest : List ℕ
-highest = 0 ∷ 9999 ∷ 99 ∷ 99 ∷ 12 ∷ 31 ∷ 366 ∷ 7 ∷ 53 ∷ 53 ∷ 9999 ∷ 99 ∷ 53 ∷ 23 ∷ 12 ∷ 1 ∷ 59 ∷ 60 ∷ []
 
 -- a fact that a text can say
 pub record Told (k n : ℕ) : Type 0 where
@@ -35,7 +28,10 @@ pub record Told (k n : ℕ) : Type 0 where
   pub high : n ≤ getD highest k 0
 
 pub told-small : (k n : ℕ) → Told k n → n ≤ 9999
-told-small k n t = omega (arith, t .high, leb→le (getD highest k 0) 9999 (at (λ i. leb (getD highest i 0) 9999) kinds tt k (t .most)))
+told-small k n t = omega (arith, t .high, leb→le (getD highest k 0) 9999 (at (λ i. leb (getD highest i 0) 9999) kinds test k (t .most)))
+  where
+    test : T (all (λ i. leb (getD highest i 0) 9999) kinds)
+    test = unfold highest in tt
 
 -- a conversion's kind is one of them, and the numbers from l to h are in its range
 unfoldable pub spans : ℕ → ℕ → ℕ → Bool
@@ -71,5 +67,5 @@ spansForm Unknown c = true
 pub conversion-spans : (c : ℕ) → let x = conversionOf c in T (spansForm (x .form) x)
 conversion-spans c =
     conversion-passes (λ (x : Conversion). spansForm (x .form) x) c
-    (unfold rows.computes every spansForm spansNames spans firstValue names.computes in tt)
+    (unfold rows.computes every spansForm spansNames spans lowest highest firstValue names.computes in tt)
     (unfold rows.computes spansForm in tt)

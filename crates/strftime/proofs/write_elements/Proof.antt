@@ -1,7 +1,7 @@
 -- `strftime::write_elements` meets its contract: 2 and 3 are answered here.
 use native.Mathlib.Omega.{arith}
 use Rattle.format.specs.Opening.{mostElements}
-use Rattle.strftime.proofs.Lengths.{counted-few}
+use Rattle.format.proofs.Entries.{counted-few}
 use Rattle.strftime.proofs.Order.{bad-fields, bad-entry, all-elements}
 use borrow.Author.Needs.{needs}
 use Rattle.strftime.proofs.write_elements.Statement.{statement}

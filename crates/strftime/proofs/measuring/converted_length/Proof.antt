@@ -1,7 +1,8 @@
 -- `strftime::measuring::converted_length` meets its contract: one return for each form.
 use lib.ListN.{length-map}
 use Rattle.strftime.specs.Writing.{converted, formed}
-use Rattle.strftime.proofs.Lengths.{filled-length, by-form}
+use Rattle.text.proofs.ReadBack.{filled-length}
+use Rattle.strftime.proofs.Lengths.{by-form}
 use borrow.Author.Needs.{needs}
 use Rattle.strftime.proofs.measuring.converted_length.Statement.{statement}
 use Rattle.strftime.proofs.measuring.converted_length.Tie as tie

@@ -5,7 +5,8 @@ use native.Mathlib.Nat.{add-zero}
 use lib.ListN.{length}
 use Rattle.format.specs.declared.conversions.Form.{Form}
 use Rattle.strftime.specs.Writing.{formed, converted}
-use Rattle.strftime.proofs.Lengths.{filled-length, by-form}
+use Rattle.text.proofs.ReadBack.{filled-length}
+use Rattle.strftime.proofs.Lengths.{by-form}
 use borrow.Author.Needs.{needs}
 use Rattle.strftime.proofs.putting.put_converted.Statement.{statement}
 use Rattle.strftime.proofs.putting.put_converted.Tie as tie
