@@ -1,6 +1,6 @@
 -- How many entries of a slice are elements, counted at each of its places.
 -- Assumes nothing.
-use Prim.Native.Nat.{ℕ, zero, suc, _+_, _-_, _≤_, _<_}
+use Prim.Native.Nat.{ℕ, zero, suc, min, _+_, _-_, _≤_, _<_}
 use mathlib.Core.Bool.{Bool, true, false, not, cond, and-eq-true-iff}
 use mathlib.Core.List.{List, [], _∷_}
 use mathlib.Core.Path.{_≡_, refl, ap}
@@ -25,21 +25,24 @@ module _ (es : List ℕ) (n : ℕ) where
   at-first = rw (sub-zero n, zero-add (elementsIn n es))
 
   module _ (k : ℕ) where
-    pub at-most : n ≤ k → elementsIn (n - k) (drop k es) ≡ 0
+    pub at-end : min (length es) n ≤ k → elementsIn (n - k) (drop k es) ≡ 0
     unfolding elementsIn
-    at-most h = let e : n - k ≡ 0 = omega arith in rw e
+    at-end h =
+        elim (decLe n k) [
+          | yes l ↦ let e : n - k ≡ 0 = omega arith in rw e
+          | no l ↦ rw (drop-of-length-le es {i = k} (omega (arith, lt-of-not-le l))) (none (n - k))
+        ]
 
-    pub at-end : length es ≤ k → elementsIn (n - k) (drop k es) ≡ 0
-    at-end h = rw (drop-of-length-le es h) (none (n - k))
-
-    module _ {t : Bool} (h : k < length es) (l : k < n) (e : t ≡ isElement (getD es k 0)) where
+    module _ {t : Bool} (h : k < min (length es) n) (e : t ≡ isElement (getD es k 0)) where
       pub no-element : not t ≡ true → elementsIn (n - k) (drop k es) ≡ 0
       unfolding elementsIn
-      no-element f = let q : n - k ≡ suc (n - (k + 1)) = omega arith in rw (q, drop-cons es k 0 h, ← e, not-true t f)
+      no-element f = let q : n - k ≡ suc (n - (k + 1)) = omega arith in rw (q, drop-cons es k 0 (omega arith), ← e, not-true t f)
 
       pub one-more : not t ≡ false → elementsIn (n - k) (drop k es) ≡ suc (elementsIn (n - (k + 1)) (drop (k + 1) es))
       unfolding elementsIn
-      one-more f = let q : n - k ≡ suc (n - (k + 1)) = omega arith in rw (q, drop-cons es k 0 h, ← e, not-false t f, add-one k)
+      one-more f =
+          let q : n - k ≡ suc (n - (k + 1)) = omega arith in
+          rw (q, drop-cons es k 0 (omega arith), ← e, not-false t f, add-one k)
 
 -- where all are elements, all count, as far as they are looked at
 pub all-in : (n : ℕ) (es : List ℕ) → every isElement es ≡ true → length es ≤ n → elementsIn n es ≡ length es

@@ -1,10 +1,10 @@
 ghost use mathlib.Core.Path.{_≡_};
 ghost use mathlib.Core.List.{List};
-ghost use Prim.Native.Nat.{ℕ, _+_, _≤_, _<_};
+ghost use Prim.Native.Nat.{ℕ, min, _+_, _≤_, _<_};
 ghost use lib.ListN.{length, getD, take, drop, set};
 ghost use lib.Seq.{sets};
 ghost use Rattle.format.specs.Conversions.{ownFormat};
-ghost use Rattle.format.specs.Opening.{longest, conversionAt, letter, piece, paired, conversion, pieceOf};
+ghost use Rattle.format.specs.Opening.{longest, conversionAt, letter, paired, conversion, pieceOf};
 ghost use Rattle.format.specs.Opening.{signAt, openTo, opened, openedInto, mostElements, isElement, elementsIn};
 ghost use Rattle.format.specs.Private.{holds, SetOf, CanOpen, answered};
 
@@ -90,24 +90,27 @@ fn letter(b: u8) -> Act
     }
 }
 
-fn sized(act: Act, length: usize) -> Piece
-    ensures { λ r. ⌜ r ≡ piece act length ⌝ }
-{
-    Piece { act, length }
-}
-
 // What stands after %E or %O, where only some letters are taken.
 fn paired(set: u64, s: &[u8]) -> Piece
     ensures { λ r. ⌜ ((letters : List ℕ) → SetOf set letters → r ≡ paired letters (now (s .entry))) ⌝ }
 {
     if s.len() == 0 {
-        return sized(Act::Refuse, 2);
+        return Piece {
+            act: Act::Refuse,
+            length: 2,
+        };
     }
     let b = s[0];
     if holds(set, b) {
-        return sized(letter(b), 3);
+        return Piece {
+            act: letter(b),
+            length: 3,
+        };
     }
-    sized(Act::Refuse, 3)
+    Piece {
+        act: Act::Refuse,
+        length: 3,
+    }
 }
 
 // What stands after %.
@@ -115,13 +118,19 @@ fn conversion(s: &[u8]) -> Piece
     ensures { λ r. ⌜ r ≡ conversion (now (s .entry)) ⌝ }
 {
     if s.len() == 0 {
-        return sized(Act::Refuse, 1);
+        return Piece {
+            act: Act::Refuse,
+            length: 1,
+        };
     }
     let b = s[0];
     match b {
         b'E' => paired(AFTER_E, &s[1..]),
         b'O' => paired(AFTER_O, &s[1..]),
-        _ => sized(letter(b), 2),
+        _ => Piece {
+            act: letter(b),
+            length: 2,
+        },
     }
 }
 
@@ -132,7 +141,10 @@ fn piece_at(format: &[u8], at: usize) -> Piece
 {
     let b = format[at];
     if b != b'%' {
-        return sized(Act::Byte(b), 1);
+        return Piece {
+            act: Act::Byte(b),
+            length: 1,
+        };
     }
     conversion(&format[at + 1..])
 }
@@ -251,15 +263,19 @@ fn is_element(e: u32) -> bool
     holds(CONVERSIONS, (e % 256) as u8)
 }
 
+fn smaller(a: usize, b: usize) -> usize
+    ensures { λ r. ⌜ r ≡ min a b ⌝ }
+{
+    if a < b { a } else { b }
+}
+
 // How many entries, from the first on, opening a format can store.
 pub fn elements_in(elements: &[u32]) -> usize
     ensures { λ r. ⌜ r ≡ elementsIn mostElements (now (elements .entry)) ⌝ }
 {
+    let most = smaller(elements.len(), MOST_ELEMENTS);
     let mut k = 0;
-    while k < elements.len() {
-        if MOST_ELEMENTS <= k {
-            return k;
-        }
+    while k < most {
         if !is_element(elements[k]) {
             return k;
         }

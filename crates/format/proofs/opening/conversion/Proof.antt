@@ -1,5 +1,6 @@
 -- `format::opening::conversion` meets its contract: the definition makes the same tests, and each set of the code is that of its letters.
 use borrow.Author.Needs.{needs}
+use mathlib.Core.Path.{sym}
 use borrow.Author.Tests.{ne-eqb}
 use Rattle.format.specs.Conversions.{computes as letters}
 use Rattle.format.specs.Opening.{after-E, after-O}
@@ -9,11 +10,8 @@ use Rattle.format.proofs.Pieces.{rest, conversion-none, conversion-some
 use Rattle.format.proofs.opening.conversion.Statement.{statement}
 use Rattle.format.proofs.opening.conversion.Tie as tie
 
-sized-requires : tie.Need-sized-requires
-sized-requires c κs = search needs
-
 returns : tie.Need-returns
-returns c = rw (conversion-none _ (c .before .if1 .taken)) (c .sized .ensures)
+returns c = sym (conversion-none _ (c .if1 .taken))
 
 shared-slice-read-b : tie.Need-shared-slice-read-b
 shared-slice-read-b c = search needs
@@ -45,9 +43,6 @@ paired-requires-2 c κs = search needs
 letter-requires : tie.Need-letter-requires
 letter-requires c κs = search needs
 
-sized-requires-2 : tie.Need-sized-requires-2
-sized-requires-2 c κs = search needs
-
 returns-2 : tie.Need-returns-2
 returns-2 c =
     let m = c .before .before in
@@ -62,17 +57,14 @@ returns-3 c =
 
 returns-4 : tie.Need-returns-4
 returns-4 c =
-    let l = c .before in
-    let m = l .before in
+    let m = c .before in
     let r = m .match .rest in
-    rw (conversion-some _ (m .before .before .if1 .left), ne-eqb _ 69 (r .0 .1), ne-eqb _ 79 (r .1), ← l .letter .ensures)
-    (c .sized2 .ensures)
+    rw (conversion-some _ (m .before .before .if1 .left), ne-eqb _ 69 (r .0 .1), ne-eqb _ 79 (r .1), ← c .letter .ensures)
 
 pub conversion-spec : {M : Type 1} → statement M
 conversion-spec =
     tie.close
     (tie.spec
-    sized-requires
     returns
     shared-slice-read-b
     sub-paired
@@ -84,7 +76,6 @@ conversion-spec =
     part-paired-end-2
     paired-requires-2
     letter-requires
-    sized-requires-2
     returns-2
     returns-3
     returns-4)

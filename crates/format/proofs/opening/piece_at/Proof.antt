@@ -9,12 +9,9 @@ use Rattle.format.proofs.opening.piece_at.Tie as tie
 shared-slice-read-b : tie.Need-shared-slice-read-b
 shared-slice-read-b c = search needs
 
-sized-requires : tie.Need-sized-requires
-sized-requires c κs = search needs
-
 returns : tie.Need-returns
 unfolding pieceOf
-returns c = rw (ne-eqb _ 37 (c .before .if1 .taken)) (c .sized .ensures)
+returns c = rw (ne-eqb _ 37 (c .if1 .taken))
 
 add-conversion : tie.Need-add-conversion
 add-conversion c = search needs
@@ -40,7 +37,6 @@ piece-at-spec =
     tie.close
     (tie.spec
     shared-slice-read-b
-    sized-requires
     returns
     add-conversion
     sub-conversion
