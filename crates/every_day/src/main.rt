@@ -1,5 +1,5 @@
-// Goes over every day of the calendar, by its day number, and writes a digest of what the calendar says of the days of each century of years:
-// 0 to 99, 100 to 199, .., 9900 to 9999. A line has the century's last year and the digest, in decimal.
+// Goes over every day of the calendar, by its day number, and writes a digest of what the calendar says of the days of each century of
+// years: 0 to 99, 100 to 199, .., 9900 to 9999. A line has the century's last year and the digest, in decimal.
 // tests/every_day.py makes the same lines by Python's datetime module.
 use calendar::Date;
 use calendar::FromFields;
@@ -8,8 +8,9 @@ use libc::STDOUT_FILENO;
 use text::write_number;
 
 // A digest starts at 0 and takes values one after the other, h to (h * P + v) mod M.
-// M is prime and P is not a multiple of it, so multiplying by P takes different remainders to different ones. If one value below M is wrong, the
-// digest differs from that value on, whatever is taken after it: a single wrong value on a single day always changes the century's digest.
+// M is prime and P is not a multiple of it, so multiplying by P takes different remainders to different ones. If one value below M is
+// wrong, the digest differs from that value on, whatever is taken after it: a single wrong value on a single day always changes the
+// century's digest.
 const M: u64 = 4294967291;
 
 const P: u64 = 2654435761;

@@ -122,5 +122,6 @@ elementsReading es s = unlessLong s (byElements es s)
 
 -- everything here, for proofs that compute
 unfoldable pub computes : Unit {0}
-unfolding showing refused finished readingOf saidOf done withHour withDay judged concluded readBy byFormat byElements unlessLong reading elementsReading
+unfolding showing refused finished readingOf saidOf done withHour withDay judged concluded
+    readBy byFormat byElements unlessLong reading elementsReading
 computes = tt
