@@ -1,27 +1,68 @@
 #!/usr/bin/env python3
-"""Checks README's example: python3 tests/readme.py PROGRAM
+"""Runs the examples of README: python3 tests/readme.py PROGRAM
 
-The first fenced block must be examples/ward_book.txt, the second what PROGRAM writes for it.
+A block ```text FILE is examples/FILE. A block ```sh that a block ```text follows is run by bash in a copy of examples/, with PROGRAM as
+date_lines, and must write what that block says. The recipe for a long list is run on one made here, and its report looked at line by line.
 """
+import datetime
 import os
 import re
+import shutil
 import subprocess
 import sys
+import tempfile
 
 ROOT = os.path.dirname(os.path.dirname(os.path.abspath(__file__)))
+EXAMPLES = os.path.join(ROOT, "examples")
+
+
+def blocks():
+    """The fenced blocks: the words after the fence, and the text."""
+    with open(os.path.join(ROOT, "README.md"), encoding="utf-8") as file:
+        return re.findall(r"(?ms)^```([^\n]*)\n(.*?)^```$", file.read())
+
+
+def long_list(folder):
+    """A list of more than 32,768 bytes, and what its report says of each text, by Python's datetime."""
+    days = [datetime.date(1901, 1, 1) + datetime.timedelta(days=9 * i) for i in range(5000)]
+    texts = [day.strftime("%d %b %Y") for day in days]
+    with open(os.path.join(folder, "long_list.txt"), "w", encoding="ascii") as file:
+        file.write("\n".join(["%d %b %Y", *texts, ""]))
+    return "".join("0 11 %s --:--:--\n" % day for day in days)
 
 
 def main(program):
-    with open(os.path.join(ROOT, "README.md"), "rb") as file:
-        blocks = re.findall(rb"(?ms)^```\n(.*?)^```$", file.read())
-    with open(os.path.join(ROOT, "examples", "ward_book.txt"), "rb") as file:
-        example = file.read()
-    written = subprocess.run([program], input=example, capture_output=True, check=True).stdout
-    if blocks[0] != example or blocks[1] != written:
-        print("README's example is not what the program does")
-        return 1
-    print("README's example is what the program does")
-    return 0
+    failed = count = 0
+    with tempfile.TemporaryDirectory() as folder:
+        shutil.copytree(EXAMPLES, folder, dirs_exist_ok=True)
+        os.mkdir(os.path.join(folder, "bin"))
+        os.symlink(os.path.abspath(program), os.path.join(folder, "bin", "date_lines"))
+        expected_report = long_list(folder)
+        env = dict(os.environ, PATH=os.path.join(folder, "bin") + ":" + os.environ["PATH"], LC_ALL="C")
+        found = blocks()
+        for (kind, text), (next_kind, expected) in zip(found, found[1:] + [("", "")]):
+            words = kind.split()
+            if words[:1] == ["text"] and len(words) == 2:
+                with open(os.path.join(EXAMPLES, words[1]), encoding="utf-8") as file:
+                    right, written = text == file.read(), "another file"
+            elif kind == "sh" and next_kind == "text":
+                run = subprocess.run(["bash", "-euo", "pipefail", "-c", text], cwd=folder, env=env, capture_output=True, text=True, check=False)
+                written = run.stdout + run.stderr
+                right = written == expected and run.returncode == 0
+            elif kind == "text":
+                continue
+            else:
+                right, written = False, "nothing: no block of this kind is run"
+            count += 1
+            failed += not right
+            if not right:
+                print(f"README's block\n{text}gives\n{written}")
+        with open(os.path.join(folder, "report.txt"), encoding="ascii") as file:
+            if file.read() != expected_report:
+                failed += 1
+                print("the report on the long list is not what it should be")
+    print(f"{count} blocks of README tried, {failed} not as they should be")
+    return 1 if failed or not count else 0
 
 
 if __name__ == "__main__":

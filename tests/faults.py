@@ -1,0 +1,177 @@
+#!/usr/bin/env python3
+"""Runs the program under faults: python3 tests/faults.py PROGRAM
+
+What cannot be read to its end gets no report, and what cannot be written whole is said: one line on standard error. A call that is
+interrupted, moves few bytes or would block changes nothing. faults.c, beside this file, makes single calls fail.
+"""
+import fcntl
+import os
+import resource
+import signal
+import subprocess
+import sys
+import tempfile
+import threading
+import time
+
+HERE = os.path.dirname(os.path.abspath(__file__))
+LIST = b"%F\n1934-03-15\n1934-03-16\n"
+REPORT = b"number place date time\n0 10 1934-03-15 --:--:--\n0 10 1934-03-16 --:--:--\n"
+HEADER = b"number place date time\n"
+NOT_READ = b"date_lines: the list could not be read to its end: "
+NOT_WRITTEN = b"date_lines: the report could not be written whole: "
+USAGE = b"usage: date_lines "
+
+
+class Tests:
+    def __init__(self, program, folder):
+        self.program, self.folder, self.count, self.failed = program, folder, 0, 0
+        self.library = os.path.join(folder, "faults.so")
+        subprocess.run(["cc", "-O1", "-shared", "-fPIC", os.path.join(HERE, "faults.c"), "-o", self.library, "-ldl"], check=True)
+
+    def file(self, name, content):
+        path = os.path.join(self.folder, name)
+        with open(path, "wb") as file:
+            file.write(content)
+        return path
+
+    def run(self, *args, **options):
+        """What the program writes on standard output and standard error, after its exit status where that is not 0; the input is LIST
+        unless something else is given."""
+        if "stdin" not in options:
+            options.setdefault("input", LIST)
+        options.setdefault("stdout", subprocess.PIPE)
+        faults = options.pop("faults", {})
+        env = dict(os.environ, LC_ALL="C", **faults, **({"LD_PRELOAD": self.library} if faults else {}))
+        done = subprocess.run([self.program, *args], stderr=subprocess.PIPE, env=env, timeout=60, **options)
+        return done.stdout, (b"exit status %d: " % done.returncode if done.returncode else b"") + done.stderr
+
+    def expect(self, what, got, out, err=b""):
+        """Standard output is `out` (None: it went elsewhere); standard error is one line that begins with `err`, or nothing."""
+        written, said = got
+        right = written == out and (said.startswith(err) and said.count(b"\n") == 1 and said.endswith(b"\n") if err else said == b"")
+        self.count += 1
+        self.failed += not right
+        if not right:
+            print(f"{what}: wrote {written!r:.200}, said {said!r:.200}; expected {out!r:.200}, {err!r}")
+
+
+def arguments(t):
+    path = t.file("list", LIST)
+    t.expect("a file", t.run(path, stdin=subprocess.DEVNULL), REPORT)
+    t.expect("no such file", t.run(path + "x"), b"", b"date_lines: " + path.encode() + b"x: No such file")
+    for words in [(path, path), ("-x",), ("--",), ("-",), ("",), ("--help", path), ("x" * 5000,)]:
+        t.expect(f"arguments {words!r:.40}", t.run(*words), b"", USAGE)
+    out, err = t.run("--help")
+    t.expect("--help", (out[: len(USAGE)], err), USAGE)
+    out, err = t.run("--version")
+    t.expect("--version", (out[:11] + out[-1:], err), b"date_lines \n")
+
+
+def inputs(t):
+    t.expect("nothing amiss", t.run(), REPORT)
+    t.expect("a directory as the file", t.run(t.folder), b"", NOT_READ + b"Is a directory")
+    with open(t.folder + "/list", "rb") as file:
+        closed = t.run(stdin=file, preexec_fn=lambda: os.close(0))
+    t.expect("input closed", closed, b"", NOT_READ + b"Bad file descriptor")
+    fd = os.open(t.folder, os.O_RDONLY)
+    t.expect("a directory as input", t.run(stdin=fd), b"", NOT_READ + b"Is a directory")
+    os.close(fd)
+    for script in ["i", "iiii.i", "1", "1" * 30, "1i1a1", "aaa", ".iii", ".a"]:
+        t.expect(f"reads by {script}", t.run(faults={"FAULTS_READ": script}), REPORT)
+    for script in ["e", ".e", "1" * 20 + "e", "1" * len(LIST) + "e", "iae"]:
+        t.expect(f"reads by {script}", t.run(faults={"FAULTS_READ": script}), b"", NOT_READ + b"Input/output error")
+
+
+def slow_input(t):
+    """Half the list, then, while the program waits, the rest: by a pipe whose reads do not block."""
+    read, write = os.pipe()
+    os.set_blocking(read, False)
+
+    def feed():
+        with os.fdopen(write, "wb") as pipe:
+            for part in [LIST[:12], LIST[12:]]:
+                pipe.write(part)
+                pipe.flush()
+                time.sleep(0.3)
+
+    feeder = threading.Thread(target=feed)
+    feeder.start()
+    t.expect("half an input, then the rest", t.run(stdin=read), REPORT)
+    feeder.join()
+    os.close(read)
+
+
+def outputs(t):
+    with open("/dev/full", "wb") as full:
+        t.expect("a full disk", t.run(stdout=full), None, NOT_WRITTEN + b"No space left on device")
+        t.expect("a full disk for --version", t.run("--version", stdout=full), None, NOT_WRITTEN + b"No space left on device")
+        t.expect("a full disk for --help", t.run("--help", stdout=full), None, NOT_WRITTEN + b"No space left on device")
+    t.expect("output closed", t.run(preexec_fn=lambda: os.close(1)), b"", NOT_WRITTEN + b"Bad file descriptor")
+    for script in ["i", "1i1a1", "1" * 70, "a", ".ii"]:
+        t.expect(f"writes by {script}", t.run(faults={"FAULTS_WRITE": script}), REPORT)
+    t.expect("writes by 11e", t.run(faults={"FAULTS_WRITE": "11e"}), HEADER[:2], NOT_WRITTEN + b"Input/output error")
+
+    read, write = os.pipe()
+    os.close(read)
+    ignored = lambda: signal.signal(signal.SIGPIPE, signal.SIG_IGN)
+    t.expect("a closed pipe", t.run(stdout=write, preexec_fn=ignored), None, NOT_WRITTEN + b"Broken pipe")
+    os.close(write)
+
+    def limited():
+        signal.signal(signal.SIGXFSZ, signal.SIG_IGN)
+        resource.setrlimit(resource.RLIMIT_FSIZE, (30, 30))
+
+    path = t.file("out", b"")
+    with open(path, "wb") as out:
+        t.expect("a file limit", t.run(stdout=out, preexec_fn=limited), None, NOT_WRITTEN + b"File too large")
+    with open(path, "rb") as out:
+        t.expect("as far as the limit", (out.read(), b""), REPORT[:30])
+
+
+def slow_output(t):
+    """More than a pipe holds, by a pipe whose writes do not block."""
+    texts = 20000
+    read, write = os.pipe()
+    os.set_blocking(write, False)
+    fcntl.fcntl(write, fcntl.F_SETPIPE_SZ, 4096)
+    got = []
+
+    def drain():
+        time.sleep(0.3)
+        with os.fdopen(read, "rb") as pipe:
+            got.append(pipe.read())
+
+    reader = threading.Thread(target=drain)
+    reader.start()
+    _, said = t.run(input=b"%M\n" + b"\n" * texts, stdout=write)
+    os.close(write)
+    reader.join()
+    t.expect("a pipe that is full", (got[0], said), HEADER + b"6 0 - --:--:--\n" * texts)
+
+
+def stack(t):
+    """The longest lists, with as little stack as README says is enough."""
+    def small():
+        resource.setrlimit(resource.RLIMIT_STACK, (512 * 1024, 512 * 1024))
+
+    line = b"6 0 - --:--:--\n"
+    t.expect("32,768 bytes, short lines", t.run(input=b"%M" + b"\n" * 32766, preexec_fn=small), HEADER + line * 32765)
+    t.expect("32,768 bytes, one line", t.run(input=b"%M\n" + b"x" * 32765, preexec_fn=small), HEADER + b"5 0 - --:--:--\n")
+    t.expect("a long format", t.run(input=b"%c" * 512 + b"\nx\n", preexec_fn=small), HEADER + line)
+    t.expect("32,769 bytes", t.run(input=b"\n" * 32769, preexec_fn=small), b"too long\n")
+
+
+def main(program):
+    with tempfile.TemporaryDirectory() as folder:
+        t = Tests(os.path.abspath(program), folder)
+        for tests in [arguments, inputs, slow_input, outputs, slow_output, stack]:
+            tests(t)
+    print(f"{t.count} runs under faults, {t.failed} not as they should be")
+    return 1 if t.failed else 0
+
+
+if __name__ == "__main__":
+    if len(sys.argv) != 2:
+        sys.exit("usage: python3 tests/faults.py PROGRAM")
+    sys.exit(main(sys.argv[1]))

@@ -1,0 +1,39 @@
+#!/usr/bin/env python3
+"""Checks that the version is the same everywhere: python3 tests/version.py PROGRAM
+
+crates/version/src/lib.rt says it; the Rust crate's manifest, the newest entry of CHANGELOG.md and PROGRAM --version must agree. (The
+library's own word for it is compared with the manifest by the Rust crate's tests; header, pkg-config file and man pages take it from there.)
+"""
+import os
+import re
+import subprocess
+import sys
+
+ROOT = os.path.dirname(os.path.dirname(os.path.abspath(__file__)))
+
+
+def found(path, pattern):
+    with open(os.path.join(ROOT, path), encoding="utf-8") as file:
+        match = re.search(pattern, file.read(), re.MULTILINE)
+    return match.group(1) if match else f"no version in {path}"
+
+
+def main(program):
+    source = "crates/version/src/lib.rt"
+    version = ".".join(found(source, rf"^pub const {part}: u32 = (\d+);$") for part in ["MAJOR", "MINOR", "PATCH"])
+    others = {
+        "bindings/rust/Cargo.toml": found("bindings/rust/Cargo.toml", r'^version = "(.*)"$'),
+        "CHANGELOG.md": found("CHANGELOG.md", r"^## (\S+)"),
+        "--version": subprocess.run([program, "--version"], capture_output=True, text=True, check=True).stdout.removeprefix("date_lines ").strip(),
+    }
+    wrong = {place: said for place, said in others.items() if said != version}
+    for place, said in wrong.items():
+        print(f"{place}: {said}, where {source} says {version}")
+    print(f"version {version}, {len(wrong)} places say another")
+    return 1 if wrong else 0
+
+
+if __name__ == "__main__":
+    if len(sys.argv) != 2:
+        sys.exit("usage: python3 tests/version.py PROGRAM")
+    sys.exit(main(sys.argv[1]))
