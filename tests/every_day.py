@@ -8,6 +8,7 @@ digest takes eleven values, in this order: year, month, day, day of the year, we
 day number. %U and %W are counted, Sunday by Sunday and Monday by Monday, from 1 January on.
 """
 import datetime
+import sys
 
 M = 4294967291  # prime
 P = 2654435761
@@ -44,4 +45,6 @@ def main():
 
 
 if __name__ == "__main__":
+    if len(sys.argv) != 1:
+        sys.exit("usage: python3 tests/every_day.py")
     main()
