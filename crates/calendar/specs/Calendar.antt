@@ -51,7 +51,7 @@ dayOfYear y m d = sum (monthLength y) (m - 1) + d
 unfoldable pub daysBefore : ℕ → ℕ
 daysBefore y = sum yearLength (y - 1)
 
--- the day number of a date: the days of all earlier years, and those of its own
+-- the day number of a date: the days of all earlier years, and its day of the year
 unfoldable pub dayNumber : ℕ → ℕ → ℕ → ℕ
 dayNumber y m d = daysBefore y + dayOfYear y m d
 

@@ -40,11 +40,11 @@ dateValues =
 unfoldable pub dateValue : ℕ → Date → ℕ
 dateValue k t = getD dateValues k none t
 
--- 12 takes the place of 0
+-- the remainder by 12, with 12 in place of 0
 unfoldable pub hourOfTwelve : ℕ → ℕ
 hourOfTwelve h = cond (eqb (h % 12) 0) 12 (h % 12)
 
--- AM is 0 and PM is 1, from hour 12 on
+-- AM, 0, before hour 12; PM, 1, from there on
 unfoldable pub halfOfDay : ℕ → ℕ
 halfOfDay h = cond (leb 12 h) 1 0
 
