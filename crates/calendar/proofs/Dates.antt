@@ -169,7 +169,7 @@ parts k h l =
       day-high = omega (arith, f .valid .day-high, month-most y m);
     }
 
--- the calendar's ends: day 1 is 0001-01-01, a Monday, and the last is day 3,652,059, 9999-12-31, a Friday
+-- the calendar's ends (RULES 2): 0001-01-01 is day 1, a Monday, and 9999-12-31 is day 3,652,059, a Friday
 pub first-day : (dayNumber 1 1 1 ≡ 1) × (weekday 1 ≡ 1)
 unfolding dayNumber dayOfYear daysBefore sum
 first-day = (refl, refl)

@@ -1,5 +1,5 @@
--- The calendar of paper 01: Gregorian throughout, from 0001-01-01, day 1, a Monday, to 9999-12-31.
--- Days are counted by their day number, years and months from 1. Everything here is defined for all numbers; the paper speaks of
+-- The calendar (RULES 2): Gregorian in all its years, from 0001-01-01, day 1, a Monday, to 9999-12-31.
+-- Days are counted by their day number, years and months from 1. Everything here is defined for all numbers; the rules speak of
 -- valid dates.
 use Prim.Native.Nat.{ℕ, zero, suc, _+_, _-_, _%_}
 use mathlib.Core.Bool.{Bool, cond, not, _&&_, _||_}
@@ -17,7 +17,7 @@ unfoldable pub sum : (ℕ → ℕ) → ℕ → ℕ
 sum f zero = 0
 sum f (suc n) = sum f n + f (suc n)
 
--- "a leap year divides by 4, and not by 100 unless by 400"
+-- 4 divides a leap year, and 100 does not unless 400 does
 abbrev pub leap : ℕ → Bool
 leap y = eqb (y % 4) 0 && (not (eqb (y % 100) 0) || eqb (y % 400) 0)
 
@@ -51,7 +51,7 @@ dayOfYear y m d = sum (monthLength y) (m - 1) + d
 unfoldable pub daysBefore : ℕ → ℕ
 daysBefore y = sum yearLength (y - 1)
 
--- "A date's day number is its day of the year plus the lengths of all years before"
+-- the day number of a date: the days of all earlier years, and its day of the year
 unfoldable pub dayNumber : ℕ → ℕ → ℕ → ℕ
 dayNumber y m d = daysBefore y + dayOfYear y m d
 
@@ -92,22 +92,22 @@ countAfter w k n = sum (λ i. cond (eqb (weekday (k + i)) w) 1 0) n
 unfoldable pub countOf : ℕ → ℕ → ℕ → ℕ
 countOf w y n = let before = daysBefore y in countAfter w before n
 
--- %U: "how many Sundays lie from 1 January through the date"; %W: "the same for Mondays"
+-- %U counts the Sundays of the year up to the date, the date included; %W the Mondays
 unfoldable pub sundayWeek : ℕ → ℕ → ℕ → ℕ
 sundayWeek y m d = countOf 7 y (dayOfYear y m d)
 
 unfoldable pub mondayWeek : ℕ → ℕ → ℕ → ℕ
 mondayWeek y m d = countOf 1 y (dayOfYear y m d)
 
--- "the Thursday of the Monday-to-Sunday week that holds the date", for day k
+-- the Thursday of the week, Monday to Sunday, of day k
 unfoldable pub thursday : ℕ → ℕ
 thursday k = k + 4 - weekday k
 
--- "%G is that Thursday's year"
+-- %G: the year of this Thursday
 unfoldable pub isoYear : ℕ → ℕ
 isoYear k = yearOf (thursday k)
 
--- "%V is how many Thursdays lie from 1 January of that year through it"
+-- %V: its count among the Thursdays of that year
 unfoldable pub isoWeek : ℕ → ℕ
 isoWeek k = countOf 4 (isoYear k) (thursday k - daysBefore (isoYear k))
 

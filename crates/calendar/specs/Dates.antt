@@ -17,7 +17,7 @@ fromFields y m d = cond (eqb (dateFault y m d) 0) (Valid (date y m d)) (Bad (dat
 unfoldable pub fromDayNumber : ℕ → FromNumber
 fromDayNumber k = cond (within 1 days k) (Day (dateOf k)) Outside
 
--- "These ends and counts belong to the calendar itself and are stated once": the date of day 1, that of the last day, and how many days
+-- the calendar's ends, stated here alone: the date of day 1, that of the last day, and how many days there are
 unfoldable pub ends : Ends
 ends = record { first = dateOf 1; last = dateOf days; days = days }
 

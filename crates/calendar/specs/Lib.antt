@@ -1,3 +1,3 @@
--- What the calendar means, in the words of paper 01.
+-- What the calendar means.
 pub mod Calendar
 pub mod Dates

@@ -131,7 +131,7 @@ module _ (f s : List ℕ) (m : Matched f s) where
   not-none : (ks : List ℕ) → SomeSaid f s ks → NoneSaid f s ks → ⊥
   not-none ks r z = z (r .0) (r .1) (r .2) (r .3)
 
-  -- demand 3 in the paper's words, of each verdict
+  -- demand 3 of each verdict
   day-by : Judged (NoneSaid f s dayKinds) IsDay (DayAgrees f s) (dayVerdict kept)
   day-by =
       judged-over (none-said dayKinds) (none-kept dayKinds)

@@ -1,4 +1,4 @@
--- Every starred case gives what paper 01 says: one statement, by computing.
+-- Every starred case gives what it must: one statement, by computing.
 -- Assumes nothing.
 use mathlib.Core.List.{map}
 use mathlib.Core.Path.{_≡_, refl}

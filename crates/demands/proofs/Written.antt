@@ -1,4 +1,4 @@
--- The writer would write a fact for a day or an hour exactly if its value there is the fact's number: what is written reads back.
+-- A fact would be written for a day or an hour exactly where the value of its kind is its number: what is written reads back.
 -- Assumes nothing.
 use Prim.Native.Char.{code}
 use Prim.Native.Nat.{ℕ, zero, suc, _+_, _-_, _^_, _≤_, _<_}

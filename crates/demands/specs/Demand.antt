@@ -1,5 +1,5 @@
--- Demand 3 in the paper's numbers: the day, then the hour, judged by all facts that bear on it: unsaid, impossible, open with the two
--- earliest shown, or the one that agrees. Days go by their day numbers.
+-- Demand 3 (RULES 8): the day, then the hour, judged by all facts that bear on it: unsaid, impossible, open with the two earliest shown, or
+-- the one that agrees. Days go by their day numbers.
 use Prim.Native.Nat.{ℕ}
 use mathlib.Core.List.{List, [], _∷_, List·Memᴰ as Member}
 use mathlib.Core.Logic.{_↔_}
@@ -17,7 +17,7 @@ use Rattle.strptime.specs.declared.Shown.the-variants.{Days, Hours}
 use Rattle.demands.specs.Facts.{Says, facts, endFrom}
 use Rattle.demands.specs.Writes.{WouldWrite, onDay, atHour}
 
--- the numbers that the reader's order puts before 9
+-- the numbers that the reader looks for before 9, in order
 abbrev pub beforeNine : List ℕ
 beforeNine = 1 ∷ 5 ∷ 3 ∷ 6 ∷ 7 ∷ 8 ∷ []
 
@@ -46,7 +46,7 @@ module _ (f s : List ℕ) where
   HourIs Unsaid = NoneSaid hourKinds
   HourIs (Is h) = SomeSaid hourKinds × Only IsHour HourAgrees h
 
-  -- the minute or second: "the number said, or unsaid where none was"
+  -- the minute or second likewise, as it was said
   abbrev pub NumberIs : ℕ → Said → Type 0
   NumberIs k Unsaid = (n : ℕ) → Says (facts f s) k n → ⊥
   NumberIs k (Is n) = Says (facts f s) k n
@@ -55,12 +55,12 @@ module _ (f s : List ℕ) where
   abbrev pub DayStands : Type 0
   DayStands = (x : Day) × DayIs x
 
-  -- how a matched text is answered: each number in its stated case and in no other
+  -- how a matched text is answered: each number exactly in its case
   pub record Answered : Type 0 where
-    -- "Impossible is number 9"
+    -- 9: impossible
     pub no-day : ((reading f s .number ≡ 9) × (reading f s .place ≡ 1))
         ↔ (SomeSaid dayKinds × ((d : ℕ) → IsDay d → DayAgrees d → ⊥))
-    -- "open is 10": "the first two, earliest first"
+    -- 10: open, with the earliest two
     pub two-days : (a b : ℕ) → IsDay a → IsDay b
         → ((reading f s .number ≡ 10) × (reading f s .place ≡ 1) × (reading f s .shown ≡ Days (dateOf a) (dateOf b)))
         ↔ (SomeSaid dayKinds × Earliest IsDay DayAgrees a b)
@@ -70,10 +70,10 @@ module _ (f s : List ℕ) where
     pub two-hours : (a b : ℕ)
         → ((reading f s .number ≡ 10) × (reading f s .place ≡ 2) × (reading f s .shown ≡ Hours a b))
         ↔ (DayStands × SomeSaid hourKinds × Earliest IsHour HourAgrees a b)
-    -- "done is 0": exactly the day, hour, minute and second that the facts give, each said or unsaid
+    -- 0: done, with exactly the day, hour, minute and second that the facts give
     pub done : (x : Day) (h m c : Said)
         → ((reading f s .number ≡ 0) × (reading f s .day ≡ x) × (reading f s .hour ≡ h) × (reading f s .minute ≡ m)
         × (reading f s .second ≡ c))
         ↔ (DayIs x × HourIs h × NumberIs minute m × NumberIs second c)
-    -- its place is the "first unread offset of the text"
+    -- its place is where the last element stopped
     pub unread : reading f s .number ≡ 0 → reading f s .place ≡ endFrom (opening f .elements) s 0

@@ -1,4 +1,4 @@
--- What a text says by a format (paper 01, "The words of demand 3"): "The facts are all that the elements read, from the first to the last."
+-- What a text says by a format, and when it is matched (RULES 7): the facts are what all the elements read, one after the other.
 -- Nothing here looks at what the reader keeps: only at what each element reads.
 use Prim.Native.Nat.{ℕ, _≤_}
 use mathlib.Core.Bool.{Bool, true, false}
@@ -11,8 +11,7 @@ use Rattle.strptime.specs.Elements.{readElement}
 use Rattle.strptime.specs.declared.elements.Item.{Item}
 use Rattle.strptime.specs.declared.elements.Item.the-variants.{Skip, Fact as Reads, NoMatch, OutOfRange}
 
--- "A fact is its kind and a number, or for kind 15 its kind and AM or PM", which are 0 and 1; it stands in the text from its first digit or
--- letter up to `next`.
+-- A fact is a kind with a number, where AM is 0 and PM is 1; it stands in the text from its first digit or letter up to `next`.
 pub record Fact : Type 0 where
   pub kind : ℕ
   pub number : ℕ
@@ -66,7 +65,7 @@ endFrom (e ∷ es) s at = ending (λ next. endFrom es s next) (readElement e s a
 abbrev pub Consistent : List Fact → Type 0
 Consistent xs = (k m n : ℕ) → Says xs k m → Says xs k n → m ≡ n
 
--- "A text is matched to its format exactly if these rules call for none of the numbers that the reader's order puts before 9"
+-- a text is matched to its format: none of 1, 5, 3, 6, 7 and 8 applies
 pub record Matched (f s : List ℕ) : Type 0 where
   -- not 1, not 5, not 3
   pub format-short : length f ≤ longest

@@ -1,5 +1,5 @@
--- Demand 1, and the table "Numbers that come back": any format, text and fields get a number of the list with its place; a refused writing
--- leaves the buffer untouched, a finished one touches only the bytes it counts; "Whatever a row does not name comes back zero or unsaid."
+-- Demand 1, and the table of RULES 3: any format, text and fields get a number of the list with its place; a refused writing leaves the
+-- buffer untouched, a finished one touches only the bytes it counts; what a row leaves out is unsaid.
 use Prim.Native.Nat.{ℕ, _≤_, _<_}
 use mathlib.Core.Bool.{true}
 use mathlib.Core.List.{List, [], _∷_}
@@ -19,9 +19,9 @@ OneOf ns n = among n ns ≡ true
 -- a writing's result w, by a format f into a buffer b
 pub record WritingRow (f b : List ℕ) (w : Result) : Type 0 where
   pub listed : OneOf (0 ∷ 1 ∷ 2 ∷ 3 ∷ 4 ∷ []) (w .answer .number)
-  -- "A writer refusal leaves the whole buffer as it came"
+  -- a refusal changes no byte of the buffer
   pub untouched : (w .answer .number ≡ 0 → ⊥) → w .buffer ≡ b
-  -- "On success bytes past the count stay too"
+  -- a finished writing changes none past the count
   pub fits : w .answer .number ≡ 0 → w .answer .place ≤ length b
   pub same-length : length (w .buffer) ≡ length b
   pub past-the-count : w .answer .number ≡ 0 → drop (w .answer .place) (w .buffer) ≡ drop (w .answer .place) b

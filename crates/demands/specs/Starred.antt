@@ -1,4 +1,4 @@
--- The cases with * of paper 01, "Margins on both sides of the line": each beside what it must give.
+-- The cases with * of RULES 5 and RULES 8, each beside what it must give.
 use Prim.Native.Nat.{ℕ}
 use Prim.Native.String.{String}
 use mathlib.Core.List.{List, [], _∷_, _++_}

@@ -1,5 +1,5 @@
--- "The writer would write a fact for a day or an hour exactly if the conversion of its kind has that number, or that half, for it by the
--- rules under 'What is written'; filling and case do not count." What is written is what the writer leaves in a buffer.
+-- When the writer would write a fact for a day or an hour (RULES 8): what it leaves in a buffer for the conversion of the fact's kind is
+-- that number, or that half of the day, however filled and in either case.
 use Prim.Native.Char.{code}
 use Prim.Native.Nat.{ℕ, _-_, _<_}
 use mathlib.Core.Bool.{true}
@@ -16,7 +16,7 @@ use Rattle.text.specs.Digits.{isDigit, decimal}
 use Rattle.strftime.specs.Writing.{Result, writing}
 use Rattle.strftime.specs.declared.Fields.{Fields}
 
--- "The conversions for kinds 1 to 15, in order"
+-- the conversion of each kind, 1 to 15 (RULES 7)
 unfoldable pub letters : List ℕ
 letters = bytes "YCymdjuUWGgVHIp"
 
@@ -27,7 +27,7 @@ letterFor k = getD letters (k - 1) 0
 unfoldable pub wrote : ℕ → Fields → Result
 wrote k t = writing (code "%" ∷ letterFor k ∷ []) t (replicate 9 0)
 
--- what stands there: "done", and the bytes that are counted
+-- what stands there: the bytes that are counted
 unfoldable pub written : ℕ → Fields → List ℕ
 written k t = take (wrote k t .answer .place) (wrote k t .buffer)
 

@@ -1,4 +1,4 @@
--- Formats of paper 01 and what they open to, by computing: an unknown and an unfinished conversion alike end at the offset of their %.
+-- Some formats and what they open to, by computing: an unknown and an unfinished conversion alike end at the offset of their %.
 use Prim.Native.Nat.{_+_, _*_}
 use Prim.Native.String.{String}
 use mathlib.Core.List.{[], _∷_, map}

@@ -1,5 +1,5 @@
--- The conversions of paper 01: one row for each letter, with its kind of fact ("Kinds of fact"), its form and width ("What is written")
--- and its range ("Ranges"); and the composites, each with its own format.
+-- The conversions (RULES 4): one row for each letter, with its kind of fact, its form and width, and its range; and the composites, each
+-- with its own format.
 use Prim.Native.Char.{Char, code}
 use Prim.Native.Nat.{ℕ}
 use Prim.Native.String.{String}

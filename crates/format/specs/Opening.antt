@@ -1,4 +1,4 @@
--- Opening a format into elements (paper 01, "Elements of the format are handled in order, composites opened first").
+-- Opening a format into elements (RULES 4), and which entries of a list are elements (RULES 10).
 use Prim.Native.Char.{code}
 use Prim.Native.Nat.{ℕ, zero, suc, _+_, _-_, _*_, _/_, _%_}
 use mathlib.Core.Bool.{Bool, cond, _||_, _&&_}
@@ -16,7 +16,7 @@ use Rattle.format.specs.declared.opening.Piece.{Piece}
 use Rattle.format.specs.declared.opening.Sign.{Sign}
 use Rattle.format.specs.declared.opening.Sign.the-variants.{Own, Of}
 
--- "A format and a text have at most 1,024 bytes each"
+-- the most bytes of a format, and of a text (RULES 1)
 abbrev pub longest : ℕ
 longest = 1024
 
@@ -34,7 +34,7 @@ letterOf e = e % 256
 
 -- ---- what a format begins with
 
--- "E and O are taken only in the pairs of source 003": the letters after each
+-- the letters that E and O are taken before
 unfoldable pub after-E : List ℕ
 after-E = bytes "cCxXyY"
 
@@ -60,7 +60,7 @@ unfoldable pub paired : List ℕ → List ℕ → Piece
 paired letters [] = piece Refuse 2
 paired letters (b ∷ s) = piece (cond (among b letters) (letter b) Refuse) 3
 
--- "unknown or unfinished conversion": a conversion is %, E or O or nothing between, and its letter
+-- what follows a %: E or O or neither, and a letter; refused where that is unknown or not finished
 unfoldable pub conversion : List ℕ → Piece
 conversion [] = piece Refuse 1
 conversion (b ∷ s) =
@@ -130,7 +130,7 @@ compositeTo (suc depth) sign c = openFrom (compositeTo depth) (Of sign) 0 0 (own
 unfoldable pub openTo : ℕ → Sign → List ℕ → Opening
 openTo depth g s = openFrom (compositeTo depth) g 0 0 s
 
--- "A composite may name another composite, at most two deep"
+-- composites are opened at most two deep
 unfoldable pub opening : List ℕ → Opening
 opening s = openTo 2 Own s
 

@@ -1,4 +1,4 @@
-// The format layer: the table of conversions, and opening a format into elements.
+// The format layer (RULES 4): the table of conversions, and opening a format into elements.
 mod conversions;
 mod opening;
 

@@ -1,4 +1,4 @@
--- Demand 3: the verdicts are those of the paper's words, for the day and for the hour.
+-- Demand 3: the verdicts are those of RULES 8, for the day and for the hour.
 -- Assumes nothing.
 use Prim.Native.Nat.{ℕ, zero, suc, _+_, _-_, _≤_, _<_}
 use mathlib.Core.Bool.{Bool, true, false, cond, not, true≢false, false≢true}

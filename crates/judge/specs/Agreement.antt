@@ -1,4 +1,4 @@
--- Facts and agreement (paper 01, "The words of demand 3"). A fact is its kind and a number; AM is 0 and PM is 1.
+-- Facts and agreement (RULES 7, RULES 8). A fact is a kind with a number; AM is 0 and PM is 1.
 use Prim.Native.Nat.{ℕ, _-_}
 use mathlib.Core.Bool.{Bool, true, cond, not}
 use mathlib.Core.List.{List}

@@ -1,5 +1,5 @@
--- What a verdict tells of the facts that it is judged by: the ground of demand 3, which `demands` states with the writer's own bytes.
--- Days go by their day numbers.
+-- What a verdict tells of the facts that it is judged by (RULES 8): the ground of demand 3, which `demands` states with the writer's own
+-- bytes. Days go by their day numbers.
 use Prim.Native.Nat.{ℕ, suc, _≤_, _<_}
 use mathlib.Core.List.{List, List·Memᴰ as Member}
 use mathlib.Core.Logic.{_↔_}
@@ -55,7 +55,7 @@ pub record Earliest (One : ℕ → Type 0) (Agrees : ℕ → Type 0) (a b : ℕ)
   pub earlier : a < b
   pub none-before : (k : ℕ) → One k → Agrees k → k < b → k ≡ a
 
--- unsaid, impossible ("number 9"), open ("10") with the two earliest shown, or the one that agrees
+-- unsaid, impossible (9), open (10) with the two earliest shown, or the one that agrees
 pub record Judged (None : Type 0) (One : ℕ → Type 0) (Agrees : ℕ → Type 0) (v : Verdict) : Type 0 where
   pub unsaid : (v ≡ Unsaid) ↔ None
   pub impossible : (v ≡ Impossible) ↔ ((k : ℕ) → One k → Agrees k → ⊥)

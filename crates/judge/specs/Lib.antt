@@ -1,4 +1,4 @@
--- What it means to judge facts: agreement, the first two that agree, and demand 3 in the paper's words.
+-- What it means to judge facts: agreement, the first two that agree, and what a verdict tells.
 pub mod Agreement
 pub mod Search
 pub mod Verdicts

@@ -15,7 +15,7 @@ isTwo Nothing = false
 isTwo (One a) = false
 isTwo (Two a b) = true
 
--- k, k + 1, .., n numbers in all, are looked at, after what was found before; "a day search may stop at the second agreeing day"
+-- k, k + 1, .., n numbers in all, are looked at, after what was found before; it ends at the second that is found (RULES 8)
 unfoldable pub searchFrom : (ℕ → Bool) → ℕ → ℕ → Found → Found
 searchFrom p zero k h = h
 searchFrom p (suc n) k h = let more = searchFrom p n (suc k) (cond (p k) (hit k h) h) in cond (isTwo h) h more

@@ -1,4 +1,4 @@
-// Judging facts: which days, and which hours, agree with all of them.
+// Judging facts: which days, and which hours, agree with all of them (RULES 8).
 mod agreement;
 mod judging;
 mod search;

@@ -1,5 +1,4 @@
--- The kinds of fact of paper 01: "1 year, 2 century, 3 year in century, 4 month, 5 day, 6 day of year, 7 weekday (from a, A, u, w),
--- 8 U, 9 W, 10 G, 11 g, 12 V; 13 hour, 14 hour of twelve, 15 half of day; 16 minute, 17 second".
+-- The kinds of fact, by their numbers (RULES 7).
 use Prim.Native.Nat.{ℕ}
 use mathlib.Core.List.{List, [], _∷_}
 
@@ -58,7 +57,7 @@ second = 17
 abbrev pub kinds : ℕ
 kinds = 18
 
--- "Kinds 1 to 12, the date facts, bear on the day, 13 to 15 on the hour"
+-- which bear on the day, and which on the hour; minute and second bear on neither
 unfoldable pub dayKinds : List ℕ
 dayKinds =
     year

@@ -1,4 +1,4 @@
-// The kinds of fact, by their numbers. A fact is its kind and a number.
+// The kinds of fact, by their numbers (RULES 7).
 pub const YEAR: u32 = 1;
 
 pub const CENTURY: u32 = 2;

@@ -1,5 +1,4 @@
--- The writer (paper 01, "What is written" and "Numbers that come back"): what an element writes for a moment, and what a writing
--- answers and leaves in the buffer.
+-- The writer: what an element writes for a moment (RULES 5), and what a writing answers and leaves in the buffer (RULES 3).
 use Prim.Native.Nat.{ℕ, _%_}
 use mathlib.Core.Bool.{cond}
 use mathlib.Core.List.{List, [], _∷_, _++_, map}
@@ -51,7 +50,7 @@ text m (e ∷ es) = element m e ++ text m es
 
 -- ---- what comes back
 
--- the paper's number and place for each answer
+-- the number and place of each answer
 abbrev pub numbered : ℕ → ℕ → Writing
 numbered n p = record { number = n; place = p }
 
@@ -67,7 +66,7 @@ pub record Result : Type 0 where
   pub answer : Writing
   pub buffer : List ℕ
 
--- "A writer refusal leaves the whole buffer as it came"
+-- a refusal changes no byte of the buffer
 unfoldable pub refused : ℕ → ℕ → List ℕ → Result
 refused n p b = record { answer = numbered n p; buffer = b }
 
@@ -99,7 +98,7 @@ forMoment rest b (Bad n) = refused 2 n b
 unfoldable pub forFields : (Moment → Result) → List ℕ → Fields → Result
 forFields rest b t = forMoment rest b (momentOf (t .year) (t .month) (t .day) (t .hour) (t .minute) (t .second))
 
--- "Writer's order: 1, 2, 3, 4"
+-- the whole order: 1, 2, 3, 4, then 0
 unfoldable pub writing : List ℕ → Fields → List ℕ → Result
 writing f t b =
     let rest = forFields (byFormat f b) b t in

@@ -1,4 +1,4 @@
-// The writer: a format, a moment's fields and a buffer; all or nothing.
+// The writer (RULES 5): a format, a moment's fields and a buffer; all or nothing.
 mod measuring;
 mod putting;
 
@@ -41,7 +41,7 @@ pub enum Written {
     BufferTooSmall { needed: usize },
 }
 
-// The paper's number and place for an answer.
+// The number and place of an answer (RULES 3).
 pub struct Writing {
     pub number: u32,
     pub place: usize,

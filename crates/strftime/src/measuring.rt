@@ -59,7 +59,7 @@ fn full_length(t: Names, value: u32) -> usize
     name_length(t, place_for(t, value))
 }
 
-// The short form has three letters, or as many as the name.
+// Three letters, or as many as the name has.
 pub(crate) fn short_length(t: Names, value: u32) -> usize
     ensures { λ r. ⌜ r ≡ length (short (nameFor t value)) ⌝ }
 {

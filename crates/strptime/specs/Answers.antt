@@ -1,4 +1,4 @@
--- The reader's answers (paper 01, "Numbers that come back").
+-- The reader's answers (RULES 3), and how it comes to them (RULES 8).
 use Prim.Native.Nat.{ℕ, _-_}
 use mathlib.Core.Bool.{cond}
 use mathlib.Core.List.{List}
@@ -26,20 +26,20 @@ use Rattle.strptime.specs.declared.Shown.{Shown}
 use Rattle.strptime.specs.declared.Shown.the-variants.{Nothing, Days, Hours}
 use Rattle.strptime.specs.declared.State.{State}
 
--- ---- the paper's numbers
+-- ---- the numbers
 
--- a number and a place, and what is shown: "Whatever a row does not name comes back zero or unsaid"
+-- a number and a place, and what is shown; all else is unsaid
 unfoldable pub showing : ℕ → ℕ → Shown → Reading
 showing n p x = record { number = n; place = p; day = NoDate; hour = Unsaid; minute = Unsaid; second = Unsaid; shown = x }
 
 unfoldable pub refused : ℕ → ℕ → Reading
 refused n p = showing n p Nothing
 
--- 0: "first unread offset of the text", and "day, hour, minute, second, each said or unsaid"
+-- 0, with the first offset that was not read, and what is said of day, hour, minute and second
 unfoldable pub finished : ℕ → Day → Said → Said → Said → Reading
 finished p d h m s = record { number = 0; place = p; day = d; hour = h; minute = m; second = s; shown = Nothing }
 
--- the paper's number, place and values for each answer
+-- the number, place and values of each answer
 unfoldable pub readingOf : Answer → Reading
 readingOf (Done p d h m s) = finished p d h m s
 readingOf FormatTooLong = refused 1 0
@@ -59,11 +59,11 @@ readingOf (OpenHour a b) = showing 10 2 (Hours a b)
 unfoldable pub saidOf : ℕ → Said
 saidOf s = cond (eqb s 0) Unsaid (Is (s - 1))
 
--- a finished reading "answers the number said, or unsaid where none was"
+-- a finished reading has the minute and the second as they were said
 unfoldable pub done : State → Day → Said → Reading
 done t d h = finished (t .at) d h (saidOf (said (t .facts) kinds.minute)) (saidOf (said (t .facts) kinds.second))
 
--- then 9 or 10 for the hour: "A reading refused for its hour hands out no day, even where one agreed"
+-- then 9 or 10 for the hour, which hand out no day though one may have agreed
 unfoldable pub withHour : State → Day → Verdict → Reading
 withHour t d NotSaid = done t d Unsaid
 withHour t d Impossible = refused 9 2
@@ -112,7 +112,7 @@ byElements es s =
 unfoldable pub unlessLong : List ℕ → Reading → Reading
 unlessLong s rest = cond (leb (length s) longest) rest (refused 5 0)
 
--- "Reader's order: 1, 5, 3, then the first of 6, 7, 8 met from left to right, then 9 or 10 for the day, then 9 or 10 for the hour"
+-- the whole order: 1, 5, 3, then the elements, then the day, then the hour
 unfoldable pub reading : List ℕ → List ℕ → Reading
 reading f s = let rest = unlessLong s (byFormat f s) in cond (leb (length f) longest) rest (refused 1 0)
 

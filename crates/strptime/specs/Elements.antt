@@ -1,4 +1,4 @@
--- Reading one element of a format (paper 01, "How a margin is read").
+-- Reading one element of a format (RULES 6).
 use Prim.Native.Nat.{ℕ, _+_}
 use mathlib.Core.Bool.{cond, _&&_}
 use mathlib.Core.List.{List, [], _∷_}
@@ -19,12 +19,12 @@ use Rattle.text.specs.declared.names.NameRead.{NameRead}
 use Rattle.text.specs.declared.names.NameRead.the-variants.{Found, Nothing}
 use Rattle.text.specs.declared.names.Names.{Names}
 
--- an ordinary byte "must equal the next byte"
+-- an ordinary byte of the format must be the next byte of the text
 unfoldable pub ordinary : ℕ → List ℕ → ℕ → Item
 ordinary b [] at = NoMatch at
 ordinary b (c ∷ s) at = cond (eqb c b) (Skip (at + 1)) (NoMatch at)
 
--- a byte of the format: white space takes the longest run of zero or more white-space bytes
+-- a byte of the format: white space takes all the white space that stands there, also none
 unfoldable pub readByte : ℕ → List ℕ → ℕ → Item
 readByte b s at = cond (isSpace b) (Skip (at + spaces (drop at s))) (ordinary b (drop at s) at)
 
@@ -35,20 +35,20 @@ ranged c ds from =
     cond (eqb (length ds) 0) (NoMatch from)
     (cond (leb (c .low) v && leb v (c .high)) (Fact (c .kind) v from (from + length ds)) (OutOfRange from))
 
--- "A numeric conversion skips white space, then takes digits greedily, at least one, at most its writing width"
+-- a number: white space before it is skipped, then as many digits as stand there are taken, at most as many as its width
 unfoldable pub readNumber : Conversion → List ℕ → ℕ → Item
 readNumber c s at =
     let from = at + spaces (drop at s) in
     ranged c (digitRun (c .width) (drop from s)) from
 
--- "%w 0 is 7"
+-- 0 by %w is Sunday, 7
 unfoldable pub fromSunday : Item → Item
 fromSunday (Skip next) = Skip next
 fromSunday (Fact k n from next) = Fact k (cond (eqb n 0) 7 n) from next
 fromSunday (NoMatch p) = NoMatch p
 fromSunday (OutOfRange p) = OutOfRange p
 
--- "No white space is skipped before a name"
+-- a name, which must stand right there
 unfoldable pub named : Names → ℕ → NameRead → ℕ → Item
 named t k (Found i n) at = Fact k (valueAt t i) at (at + n)
 named t k Nothing at = NoMatch at

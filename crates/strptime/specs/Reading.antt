@@ -42,7 +42,7 @@ stepped said r = stays (here said (r .at)) (r .outcome)
 unfoldable pub noted : Facts → ℕ → ℕ → Facts
 noted f k n = record { said = set (f .said) k (suc n) }
 
--- "Saying the same thing twice is allowed", saying it differently is 8
+-- a kind may be said again with the same number; with another, that is 8 (RULES 7)
 unfoldable pub tell : State → ℕ → ℕ → ℕ → ℕ → Stepped
 tell t k n from next =
     cond (eqb (said (t .facts) k) 0 || eqb (said (t .facts) k) (suc n)) (goes (noted (t .facts) k n) next)

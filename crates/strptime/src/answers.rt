@@ -51,7 +51,7 @@ fn refused(number: u32, place: usize) -> Reading
     showing(number, place, Shown::Nothing)
 }
 
-// The paper's number, place and values for each answer.
+// The number, place and values of each answer.
 pub fn reading_of(answer: Answer) -> Reading
     ensures { λ r. ⌜ r ≡ readingOf answer ⌝ }
 {

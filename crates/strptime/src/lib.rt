@@ -1,4 +1,4 @@
-// The reader: a format and a text; the facts that the text says, and the day and hour that they fix.
+// The reader (RULES 6): a format and a text; the facts that the text says, and the day and hour that they fix.
 use calendar::Date;
 use judge::Facts;
 
@@ -84,7 +84,7 @@ pub enum Answer {
     },
 }
 
-// An answer in the paper's number, place and values.
+// The number, place and values of an answer (RULES 3).
 pub struct Reading {
     pub number: u32,
     pub place: usize,

@@ -15,8 +15,7 @@ unfoldable pub leading : ℕ → ℕ → ℕ → List ℕ
 leading f zero n = []
 leading f (suc w) n = leading f w (n / 10) ++ (cond (eqb n 0) f (digit (n % 10)) ∷ [])
 
--- n written on w places, filled on the left with f (paper 01: "Numbers are zero-filled to the width given,
--- blank-filled where marked b"): its last digit stands even where n is 0
+-- n written on w places, filled on the left with f, a zero or a blank (RULES 5): its last digit stands even where n is 0
 unfoldable pub filled : ℕ → ℕ → ℕ → List ℕ
 filled f zero n = []
 filled f (suc w) n = leading f w (n / 10) ++ (digit (n % 10) ∷ [])

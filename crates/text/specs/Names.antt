@@ -1,4 +1,4 @@
--- The names of paper 01: seven weekdays, twelve months, the two halves of the day; and how a name is read.
+-- Names: seven weekdays, twelve months, the two halves of the day (RULES 5); and how a name is read (RULES 6).
 use Prim.Native.Nat.{ℕ, suc}
 use mathlib.Core.Bool.{Bool, true, false, cond}
 use mathlib.Core.List.{List, [], _∷_, map}
@@ -34,7 +34,7 @@ namesOf Halves = halfNames
 unfoldable pub nameAt : Names → ℕ → List ℕ
 nameAt t i = getD (namesOf t) i []
 
--- the short form has three letters
+-- the short form: the first three letters
 abbrev pub short : List ℕ → List ℕ
 short n = take 3 n
 
@@ -53,7 +53,7 @@ unfoldable pub orElse : NameRead → NameRead → NameRead
 orElse (Found i n) r = Found i n
 orElse Nothing r = r
 
--- a name of a table at the start of a text: the full name if the text goes on with one, otherwise the short one
+-- a name of a table at the start of a text: full names go before short ones
 unfoldable pub readName : Names → List ℕ → NameRead
 readName t s = let shorter = firstName 0 (map short (namesOf t)) s in orElse (firstName 0 (namesOf t) s) shorter
 

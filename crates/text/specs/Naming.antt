@@ -1,5 +1,4 @@
--- How names count (paper 01, "The words of demand 3"): "a month name counts as 1 to 12, a weekday as Monday 1 to Sunday 7";
--- AM is 0 and PM is 1.
+-- How names count (RULES 7): months from January 1, weekdays from Monday 1; AM is 0 and PM is 1.
 use Prim.Native.Nat.{ℕ, _+_, _-_}
 use mathlib.Core.List.{List}
 use Rattle.text.specs.Names.{nameAt}

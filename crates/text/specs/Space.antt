@@ -1,4 +1,4 @@
--- White space (paper 01, "How a margin is read"): the bytes 32, 9 and 10.
+-- White space (RULES 1): blank, tab and newline.
 use Prim.Native.Nat.{ℕ, suc}
 use mathlib.Core.Bool.{Bool, cond, _||_}
 use mathlib.Core.List.{List, [], _∷_}

@@ -1,4 +1,4 @@
--- The value of each kind of fact lies in its range (paper 01, "Ranges"), for a valid date, an hour of the day and a valid moment.
+-- The value of each kind of fact lies in its range (RULES 4), for a valid date, an hour of the day and a valid moment.
 -- Assumes nothing.
 use Prim.Native.Nat.{ℕ, zero, suc, _+_, _%_, _≤_, _<_}
 use mathlib.Core.Bool.{Bool, true, false, cond}

@@ -1,4 +1,4 @@
--- A moment (paper 01): "year 1 to 9999, month 1 to 12, day 1 to the month's length, hour 0 to 23, minute 0 to 59, second 0 to 60".
+-- A moment: its fields and their ranges (RULES 2).
 use Prim.Native.Nat.{ℕ}
 use mathlib.Core.Bool.{cond}
 use lib.Dec.{eqb, leb}

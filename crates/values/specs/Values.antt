@@ -1,4 +1,4 @@
--- The value of each kind of fact (paper 01, "Kinds of fact" and "What is written"): what the writer writes and agreement compares.
+-- The value of each kind of fact (RULES 5, RULES 7): what the writer writes and agreement compares.
 -- The kinds in order are the values of the conversions Y, C, y, m, d, j, u, U, W, G, g, V, H, I, p, M and S.
 use Prim.Native.Nat.{ℕ, _/_, _%_}
 use mathlib.Core.Bool.{cond}
@@ -40,11 +40,11 @@ dateValues =
 unfoldable pub dateValue : ℕ → Date → ℕ
 dateValue k t = getD dateValues k none t
 
--- "12 for hours 0 and 12, else the hour mod 12"
+-- the remainder by 12, with 12 in place of 0
 unfoldable pub hourOfTwelve : ℕ → ℕ
 hourOfTwelve h = cond (eqb (h % 12) 0) 12 (h % 12)
 
--- AM is 0 and PM is 1: "hour 0 is AM, 12 is PM"
+-- AM, 0, before hour 12; PM, 1, from there on
 unfoldable pub halfOfDay : ℕ → ℕ
 halfOfDay h = cond (leb 12 h) 1 0
 
