@@ -244,7 +244,7 @@ pub extern "C" fn larusqem_days() -> u32
     Date::ends().days
 }
 
-// The day number of a date; 0 where the fields are no date, here and below.
+// The day number of a date. This and the functions of a date below give 0 where the fields are no date.
 #[no_mangle]
 pub extern "C" fn larusqem_day_number(year: u32, month: u32, day: u32) -> u32
     ensures { λ r. ⌜ r ≡ valueFrom dayNumberOf (fromFields year month day) ⌝ }
