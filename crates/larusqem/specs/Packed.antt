@@ -1,4 +1,4 @@
--- The writer and the opening of a format, for C: a number and a place in one 64-bit result.
+-- The answers' numbers and places, for C: both in one 64-bit result (RULES 3).
 use Prim.Native.Nat.{ℕ, _+_, _*_, _^_}
 use mathlib.Core.Bool.{cond}
 use mathlib.Core.List.{List}
@@ -7,8 +7,8 @@ use lib.ListN.{length}
 use Rattle.format.specs.Opening.{opened}
 use Rattle.format.specs.declared.opening.Opened.{Opened}
 use Rattle.format.specs.declared.opening.Opened.the-variants.{Done, TooLong, Bad}
-use Rattle.strftime.specs.declared.Fields.{Fields}
 use Rattle.strftime.specs.declared.Writing.{Writing}
+use Rattle.strptime.specs.declared.Reading.{Reading}
 
 -- the number above the low 32 bits, the place in them: every place fits there
 abbrev pub packed : ℕ → ℕ → ℕ
@@ -17,8 +17,8 @@ packed number place = number * 2 ^ 32 + place
 abbrev pub packedWriting : Writing → ℕ
 packedWriting w = packed (w .number) (w .place)
 
-abbrev pub fields : ℕ → ℕ → ℕ → ℕ → ℕ → ℕ → Fields
-fields y m d h n s = record { year = y; month = m; day = d; hour = h; minute = n; second = s }
+abbrev pub packedReading : Reading → ℕ
+packedReading r = packed (r .number) (r .place)
 
 -- what opening a format into a slice with some entries answers: 0 with the count, 1, 3 with the offset of the first bad %, or 4 with the
 -- entries needed

@@ -1,10 +1,12 @@
--- The reader's answer for C: fourteen words.
--- 0 number, 1 place, 2 to 4 year, month and day, 5 and 6 whether the hour is said and which, 7 and 8 the minute, 9 and 10 the second,
--- 11 to 13 the second of two days, or 11 the second of two hours. "Whatever a row does not name comes back zero or unsaid."
+-- A moment and the reader's answer for C (RULES 10): six words and fifteen.
+-- Those of an answer: 0 number, 1 place, 2 to 4 year, month and day, 5 and 6 whether the hour is said and which, 7 and 8 the minute,
+-- 9 and 10 the second, 11 to 13 the second of two days, 14 the second of two hours. What the row of the number does not name is 0.
 use Prim.Native.Nat.{ℕ}
 use mathlib.Core.List.{List, [], _∷_}
+use lib.ListN.{getD}
 use Rattle.calendar.specs.Calendar.{date}
 use Rattle.calendar.specs.declared.Date.{Date}
+use Rattle.strftime.specs.declared.Fields.{Fields}
 use Rattle.strptime.specs.declared.Day.{Day}
 use Rattle.strptime.specs.declared.Day.the-variants.{NoDate, On}
 use Rattle.strptime.specs.declared.Reading.{Reading}
@@ -12,6 +14,18 @@ use Rattle.strptime.specs.declared.Said.{Said}
 use Rattle.strptime.specs.declared.Said.the-variants.{Unsaid, Is}
 use Rattle.strptime.specs.declared.Shown.{Shown}
 use Rattle.strptime.specs.declared.Shown.the-variants.{Nothing, Days, Hours}
+
+-- the fields of a moment's words
+abbrev pub fieldsOf : List ℕ → Fields
+fieldsOf ws =
+    record {
+      year = getD ws 0 0;
+      month = getD ws 1 0;
+      day = getD ws 2 0;
+      hour = getD ws 3 0;
+      minute = getD ws 4 0;
+      second = getD ws 5 0;
+    }
 
 -- an unsaid day is 0 0 0
 abbrev pub dayOrZero : Day → Date
@@ -27,7 +41,7 @@ abbrev pub numberOr0 : Said → ℕ
 numberOr0 Unsaid = 0
 numberOr0 (Is n) = n
 
--- words 2 to 13, by what is shown: nothing, two days, or two hours
+-- words 2 to 14, by what is shown: nothing, two days, or two hours
 unfoldable pub more : Reading → Shown → List ℕ
 more r Nothing =
     let x = dayOrZero (r .day) in
@@ -35,9 +49,9 @@ more r Nothing =
     ∷ flag (r .hour) ∷ numberOr0 (r .hour)
     ∷ flag (r .minute) ∷ numberOr0 (r .minute)
     ∷ flag (r .second) ∷ numberOr0 (r .second)
-    ∷ 0 ∷ 0 ∷ 0 ∷ []
-more r (Days a b) = a .year ∷ a .month ∷ a .day ∷ 0 ∷ 0 ∷ 0 ∷ 0 ∷ 0 ∷ 0 ∷ b .year ∷ b .month ∷ b .day ∷ []
-more r (Hours a b) = 0 ∷ 0 ∷ 0 ∷ 0 ∷ a ∷ 0 ∷ 0 ∷ 0 ∷ 0 ∷ b ∷ 0 ∷ 0 ∷ []
+    ∷ 0 ∷ 0 ∷ 0 ∷ 0 ∷ []
+more r (Days a b) = a .year ∷ a .month ∷ a .day ∷ 0 ∷ 0 ∷ 0 ∷ 0 ∷ 0 ∷ 0 ∷ b .year ∷ b .month ∷ b .day ∷ 0 ∷ []
+more r (Hours a b) = 0 ∷ 0 ∷ 0 ∷ 0 ∷ a ∷ 0 ∷ 0 ∷ 0 ∷ 0 ∷ 0 ∷ 0 ∷ 0 ∷ b ∷ []
 
 unfoldable pub wordsOf : Reading → List ℕ
 wordsOf r = r .number ∷ r .place ∷ more r (r .shown)

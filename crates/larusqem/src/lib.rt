@@ -1,4 +1,4 @@
-// The library for C: each function is on numbers and slices alone, has no `requires`, and says all that it returns and
+// The library for C (RULES 10): each function is on numbers and slices alone, has no `requires`, and says all that it returns and
 // leaves in what it is lent. include/larusqem.h describes them for callers.
 use calendar::Date;
 use calendar::FromFields;
@@ -18,16 +18,19 @@ use strptime::Shown;
 use strptime::read_elements;
 use strptime::reading_of;
 use strptime::strptime;
+use values::date_value;
 ghost use mathlib.Core.Path.{_≡_};
 ghost use Prim.Native.Nat.{_<_, _^_};
 ghost use Rattle.calendar.specs.Calendar.{days};
 ghost use Rattle.calendar.specs.Dates.{fromFields, fromDayNumber};
 ghost use Rattle.format.specs.Opening.{openedInto};
+ghost use Rattle.kinds.specs.Kinds.{weekday, dayOfYear, isoYear, isoWeek};
 ghost use Rattle.strftime.specs.Writing.{writing, elementsWriting};
 ghost use Rattle.strptime.specs.Answers.{readingOf, reading, elementsReading};
-ghost use Rattle.larusqem.specs.Dates.{numberFrom, dateFrom};
-ghost use Rattle.larusqem.specs.Packed.{packed, packedWriting, fields, openedFor};
-ghost use Rattle.larusqem.specs.Words.{dayOrZero, flag, numberOr0, wordsOf};
+ghost use Rattle.values.specs.Values.{dayNumberOf, dateValue};
+ghost use Rattle.larusqem.specs.Dates.{valueFrom, threeInOne, dateWord, versionWord};
+ghost use Rattle.larusqem.specs.Packed.{packed, packedWriting, packedReading, openedFor};
+ghost use Rattle.larusqem.specs.Words.{fieldsOf, dayOrZero, flag, numberOr0, wordsOf};
 
 fn packed(number: u32, place: usize) -> u64
     requires { ⌜ place < 2 ^ 32 ⌝ }
@@ -38,16 +41,16 @@ fn packed(number: u32, place: usize) -> u64
 
 // ---- Writing
 
-fn fields(year: u32, month: u32, day: u32, hour: u32, minute: u32, second: u32) -> Fields
-    ensures { λ r. ⌜ r ≡ fields year month day hour minute second ⌝ }
+fn fields_of(moment: &[u32; 6]) -> Fields
+    ensures { λ r. ⌜ r ≡ fieldsOf (now (moment .entry)) ⌝ }
 {
     Fields {
-        year,
-        month,
-        day,
-        hour,
-        minute,
-        second,
+        year: moment[0],
+        month: moment[1],
+        day: moment[2],
+        hour: moment[3],
+        minute: moment[4],
+        second: moment[5],
     }
 }
 
@@ -60,57 +63,31 @@ fn packed_writing(w: Writing) -> u64
 
 // Writes a moment by a format over the start of the buffer.
 #[no_mangle]
-pub extern "C" fn larusqem_strftime(
-    format: &[u8],
-    year: u32,
-    month: u32,
-    day: u32,
-    hour: u32,
-    minute: u32,
-    second: u32,
-    out: &mut [u8],
-) -> u64
+pub extern "C" fn larusqem_strftime_words(format: &[u8], moment: &[u32; 6], out: &mut [u8]) -> u64
     ensures { λ r. ⌜ r
-        ≡ packedWriting (writing (now (format .entry)) (fields year month day hour minute second) (now (out .entry)) .answer) ⌝ }
+        ≡ packedWriting (writing (now (format .entry)) (fieldsOf (now (moment .entry))) (now (out .entry)) .answer) ⌝ }
     ensures { λ _. ⌜ now (out .exit)
-        ≡ writing (now (format .entry)) (fields year month day hour minute second) (now (out .entry)) .buffer ⌝ }
+        ≡ writing (now (format .entry)) (fieldsOf (now (moment .entry))) (now (out .entry)) .buffer ⌝ }
 {
-    packed_writing(writing_of(strftime(
-        format,
-        fields(year, month, day, hour, minute, second),
-        out,
-    )))
+    packed_writing(writing_of(strftime(format, fields_of(moment), out)))
 }
 
 // Writes a moment by the elements of a format that was opened before.
 #[no_mangle]
-pub extern "C" fn larusqem_write(
-    elements: &[u32],
-    year: u32,
-    month: u32,
-    day: u32,
-    hour: u32,
-    minute: u32,
-    second: u32,
-    out: &mut [u8],
-) -> u64
+pub extern "C" fn larusqem_write_words(elements: &[u32], moment: &[u32; 6], out: &mut [u8]) -> u64
     ensures { λ r. ⌜ r
-        ≡ packedWriting (elementsWriting (now (elements .entry)) (fields year month day hour minute second) (now (out .entry)) .answer) ⌝ }
+        ≡ packedWriting (elementsWriting (now (elements .entry)) (fieldsOf (now (moment .entry))) (now (out .entry)) .answer) ⌝ }
     ensures { λ _. ⌜ now (out .exit)
-        ≡ elementsWriting (now (elements .entry)) (fields year month day hour minute second) (now (out .entry)) .buffer ⌝ }
+        ≡ elementsWriting (now (elements .entry)) (fieldsOf (now (moment .entry))) (now (out .entry)) .buffer ⌝ }
 {
-    packed_writing(writing_of(write_elements(
-        elements,
-        fields(year, month, day, hour, minute, second),
-        out,
-    )))
+    packed_writing(writing_of(write_elements(elements, fields_of(moment), out)))
 }
 
 // ---- Opening a format
 
-// Opens a format into elements, for `larusqem_write` and `larusqem_read`.
+// Opens a format into elements, for `larusqem_write_words` and `larusqem_read_words`.
 #[no_mangle]
-pub extern "C" fn larusqem_open(format: &[u8], elements: &mut [u32]) -> u64
+pub extern "C" fn larusqem_open_words(format: &[u8], elements: &mut [u32]) -> u64
     ensures { λ r. ⌜ r ≡ openedFor (now (format .entry)) (now (elements .entry)) ⌝ }
     ensures { λ _. ⌜ now (elements .exit) ≡ openedInto (now (format .entry)) (now (elements .entry)) ⌝ }
 {
@@ -159,7 +136,7 @@ fn number_or_0(said: Said) -> u32
     }
 }
 
-fn words_of(r: Reading) -> [u32; 14]
+fn words_of(r: Reading) -> [u32; 15]
     requires { ⌜ r .place < 2 ^ 32 ⌝ }
     ensures { λ w. ⌜ w ≡ wordsOf r ⌝ }
 {
@@ -188,6 +165,7 @@ fn words_of(r: Reading) -> [u32; 14]
                 0,
                 0,
                 0,
+                0,
             ]
         }
         Shown::Days { first, second } => [
@@ -205,6 +183,7 @@ fn words_of(r: Reading) -> [u32; 14]
             second.year as u32,
             second.month as u32,
             second.day as u32,
+            0,
         ],
         Shown::Hours { first, second } => [
             number,
@@ -218,28 +197,29 @@ fn words_of(r: Reading) -> [u32; 14]
             0,
             0,
             0,
+            0,
+            0,
+            0,
             second,
-            0,
-            0,
         ],
     }
 }
 
-// An answer's number, and its words.
-fn tell(answer: Answer, words: &mut [u32; 14]) -> u32
+// An answer's words, and its number and place.
+fn tell(answer: Answer, words: &mut [u32; 15]) -> u64
     requires { ⌜ readingOf answer .place < 2 ^ 32 ⌝ }
-    ensures { λ r. ⌜ r ≡ readingOf answer .number ⌝ }
+    ensures { λ r. ⌜ r ≡ packedReading (readingOf answer) ⌝ }
     ensures { λ _. ⌜ now (words .exit) ≡ wordsOf (readingOf answer) ⌝ }
 {
     let r = reading_of(answer);
     *words = words_of(r);
-    r.number
+    packed(r.number, r.place)
 }
 
 // Reads a text by a format.
 #[no_mangle]
-pub extern "C" fn larusqem_strptime(format: &[u8], text: &[u8], words: &mut [u32; 14]) -> u32
-    ensures { λ r. ⌜ r ≡ reading (now (format .entry)) (now (text .entry)) .number ⌝ }
+pub extern "C" fn larusqem_strptime_words(format: &[u8], text: &[u8], words: &mut [u32; 15]) -> u64
+    ensures { λ r. ⌜ r ≡ packedReading (reading (now (format .entry)) (now (text .entry))) ⌝ }
     ensures { λ _. ⌜ now (words .exit) ≡ wordsOf (reading (now (format .entry)) (now (text .entry))) ⌝ }
 {
     tell(strptime(format, text), words)
@@ -247,8 +227,8 @@ pub extern "C" fn larusqem_strptime(format: &[u8], text: &[u8], words: &mut [u32
 
 // Reads a text by the elements of a format that was opened before.
 #[no_mangle]
-pub extern "C" fn larusqem_read(elements: &[u32], text: &[u8], words: &mut [u32; 14]) -> u32
-    ensures { λ r. ⌜ r ≡ elementsReading (now (elements .entry)) (now (text .entry)) .number ⌝ }
+pub extern "C" fn larusqem_read_words(elements: &[u32], text: &[u8], words: &mut [u32; 15]) -> u64
+    ensures { λ r. ⌜ r ≡ packedReading (elementsReading (now (elements .entry)) (now (text .entry))) ⌝ }
     ensures { λ _. ⌜ now (words .exit) ≡ wordsOf (elementsReading (now (elements .entry)) (now (text .entry))) ⌝ }
 {
     tell(read_elements(elements, text), words)
@@ -264,10 +244,10 @@ pub extern "C" fn larusqem_days() -> u32
     Date::ends().days
 }
 
-// The day number of a date, 0 where the fields are no date.
+// The day number of a date. This and the functions of a date below give 0 where the fields are no date.
 #[no_mangle]
 pub extern "C" fn larusqem_day_number(year: u32, month: u32, day: u32) -> u32
-    ensures { λ r. ⌜ r ≡ numberFrom (fromFields year month day) ⌝ }
+    ensures { λ r. ⌜ r ≡ valueFrom dayNumberOf (fromFields year month day) ⌝ }
 {
     match Date::from_fields(year, month, day) {
         FromFields::Valid(date) => date.day_number(),
@@ -275,15 +255,72 @@ pub extern "C" fn larusqem_day_number(year: u32, month: u32, day: u32) -> u32
     }
 }
 
+// The value of a kind of fact that bears on the day.
+fn value_from(kind: u32, year: u32, month: u32, day: u32) -> u32
+    ensures { λ r. ⌜ r ≡ valueFrom (dateValue kind) (fromFields year month day) ⌝ }
+{
+    match Date::from_fields(year, month, day) {
+        FromFields::Valid(date) => date_value(kind, date),
+        FromFields::Bad(_) => 0,
+    }
+}
+
+// Monday 1 to Sunday 7.
+#[no_mangle]
+pub extern "C" fn larusqem_weekday(year: u32, month: u32, day: u32) -> u32
+    ensures { λ r. ⌜ r ≡ valueFrom (dateValue weekday) (fromFields year month day) ⌝ }
+{
+    value_from(kinds::WEEKDAY, year, month, day)
+}
+
+#[no_mangle]
+pub extern "C" fn larusqem_day_of_year(year: u32, month: u32, day: u32) -> u32
+    ensures { λ r. ⌜ r ≡ valueFrom (dateValue dayOfYear) (fromFields year month day) ⌝ }
+{
+    value_from(kinds::DAY_OF_YEAR, year, month, day)
+}
+
+#[no_mangle]
+pub extern "C" fn larusqem_iso_year(year: u32, month: u32, day: u32) -> u32
+    ensures { λ r. ⌜ r ≡ valueFrom (dateValue isoYear) (fromFields year month day) ⌝ }
+{
+    value_from(kinds::ISO_YEAR, year, month, day)
+}
+
+#[no_mangle]
+pub extern "C" fn larusqem_iso_week(year: u32, month: u32, day: u32) -> u32
+    ensures { λ r. ⌜ r ≡ valueFrom (dateValue isoWeek) (fromFields year month day) ⌝ }
+{
+    value_from(kinds::ISO_WEEK, year, month, day)
+}
+
+fn three_in_one(first: u16, second: u8, third: u8) -> u32
+    ensures { λ r. ⌜ r ≡ threeInOne first second third ⌝ }
+{
+    first as u32 * 65536 + second as u32 * 256 + third as u32
+}
+
 // The date of a day number: year * 65536 + month * 256 + day, 0 where it is no day's.
 #[no_mangle]
-pub extern "C" fn larusqem_date(number: u32) -> u32
-    ensures { λ r. ⌜ r ≡ dateFrom (fromDayNumber number) ⌝ }
+pub extern "C" fn larusqem_date_word(number: u32) -> u32
+    ensures { λ r. ⌜ r ≡ dateWord (fromDayNumber number) ⌝ }
 {
     match Date::from_day_number(number) {
-        FromNumber::Day(date) => date.year as u32 * 65536
-            + date.month as u32 * 256
-            + date.day as u32,
+        FromNumber::Day(date) => three_in_one(date.year, date.month, date.day),
         FromNumber::Outside => 0,
     }
+}
+
+// ---- The version
+
+// major * 65536 + minor * 256 + patch
+#[no_mangle]
+pub extern "C" fn larusqem_version() -> u32
+    ensures { λ r. ⌜ r ≡ versionWord ⌝ }
+{
+    three_in_one(
+        version::MAJOR as u16,
+        version::MINOR as u8,
+        version::PATCH as u8,
+    )
 }

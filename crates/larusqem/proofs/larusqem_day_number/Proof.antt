@@ -1,6 +1,7 @@
 -- `larusqem::larusqem_day_number` meets its contract, by cases of what the fields give.
 use mathlib.Core.Path.{sym, ap, _∙_}
-use Rattle.larusqem.specs.Dates.{numberFrom}
+use Rattle.values.specs.Values.{dayNumberOf}
+use Rattle.larusqem.specs.Dates.{valueFrom}
 use borrow.Author.Needs.{needs}
 use Rattle.larusqem.proofs.larusqem_day_number.Statement.{statement}
 use Rattle.larusqem.proofs.larusqem_day_number.Tie as tie
@@ -20,10 +21,10 @@ enum-told c = search needs
 returns : tie.Need-returns
 returns c =
     let d = sym (c .before .before .date .given .1) ∙ c .before .before .before .before .from-fields .ensures in
-    c .day-number .ensures ∙ ap numberFrom d
+    c .day-number .ensures ∙ ap (valueFrom dayNumberOf) d
 
 returns-2 : tie.Need-returns-2
-returns-2 c = ap numberFrom (sym (c .enum-told .given .1) ∙ c .before .before .from-fields .ensures)
+returns-2 c = ap (valueFrom dayNumberOf) (sym (c .enum-told .given .1) ∙ c .before .before .from-fields .ensures)
 
 pub larusqem-day-number-spec : {M : Type 1} → statement M
 larusqem-day-number-spec =

@@ -1,10 +1,10 @@
--- `larusqem::larusqem_open` meets its contract: by cases of what the opening answers; every place fits 32 bits.
+-- `larusqem::larusqem_open_words` meets its contract: by cases of what the opening answers; every place fits 32 bits.
 use native.Mathlib.Omega.{arith}
 use Rattle.format.proofs.Opened.{opened-done, opened-bad}
 use Rattle.larusqem.proofs.Ways.{all-fit, too-many, too-long, bad-conversion}
 use borrow.Author.Needs.{needs}
-use Rattle.larusqem.proofs.larusqem_open.Statement.{statement}
-use Rattle.larusqem.proofs.larusqem_open.Tie as tie
+use Rattle.larusqem.proofs.larusqem_open_words.Statement.{statement}
+use Rattle.larusqem.proofs.larusqem_open_words.Tie as tie
 
 open-requires : tie.Need-open-requires
 open-requires c κs = search needs
@@ -69,8 +69,8 @@ returns-4 c =
     let o = c .before .before .before .before .before .before .«open» .ensures in
     (bad-conversion _ _ (o .0) (c .before .before .at .given .1) (c .packed4 .ensures), o .1)
 
-pub larusqem-open-spec : {M : Type 1} → statement M
-larusqem-open-spec =
+pub larusqem-open-words-spec : {M : Type 1} → statement M
+larusqem-open-words-spec =
     tie.close
     (tie.spec
     open-requires

@@ -1,13 +1,13 @@
--- `larusqem::larusqem_write` meets its contract: the writer's answer, whose place fits 32 bits.
+-- `larusqem::larusqem_write_words` meets its contract: the writer's answer, whose place fits 32 bits.
 use mathlib.Core.Path.{ap, _∙_}
 use Rattle.strftime.proofs.Places.{elements-place}
 use Rattle.larusqem.specs.Packed.{packedWriting}
 use borrow.Author.Needs.{needs}
-use Rattle.larusqem.proofs.larusqem_write.Statement.{statement}
-use Rattle.larusqem.proofs.larusqem_write.Tie as tie
+use Rattle.larusqem.proofs.larusqem_write_words.Statement.{statement}
+use Rattle.larusqem.proofs.larusqem_write_words.Tie as tie
 
-fields-requires : tie.Need-fields-requires
-fields-requires c κs = search needs
+fields-of-requires : tie.Need-fields-of-requires
+fields-of-requires c κs = search needs
 
 write-elements-requires : tie.Need-write-elements-requires
 write-elements-requires c κs = search needs
@@ -23,15 +23,15 @@ same-length c = search needs
 
 returns : tie.Need-returns
 returns c =
-    let t = c .before .before .before .before .before .before .fields .ensures in
+    let t = c .before .before .before .before .before .before .fields-of .ensures in
     let w = rw t at (c .before .before .before .before .write-elements .ensures) in
     (c .packed-writing .ensures ∙ ap packedWriting (c .before .writing-of .ensures ∙ w .0), w .1)
 
-pub larusqem-write-spec : {M : Type 1} → statement M
-larusqem-write-spec =
+pub larusqem-write-words-spec : {M : Type 1} → statement M
+larusqem-write-words-spec =
     tie.close
     (tie.spec
-    fields-requires
+    fields-of-requires
     write-elements-requires
     writing-of-requires
     packed-writing-requires
