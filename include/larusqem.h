@@ -1,23 +1,53 @@
 /*
- * Larusqem: a proved strftime and strptime, for C.
+ * Larusqem: a proved strftime and strptime, for C (C99 and later) and C++ (C++11 and later), on x86-64 Linux.
  *
- * The library is target/staticlib/liblarusqem.a, which `rt staticlib larusqem` proves and writes (x86-64 Linux). What every function
- * returns, and every entry of every array that it is lent, equals a definition in crates/larusqem/specs/, for all arguments.
+ *     struct larusqem_reading r = larusqem_strptime("%d %b %Y", 8, "5 Mar 1934", 10);
+ *     if (r.number == LARUSQEM_DONE)
+ *         printf("%u-%02u-%02u\n", r.year, r.month, r.day);
+ *     else
+ *         printf("%s, place %u\n", larusqem_sentence(r.number), r.place);
  *
- * Text is bytes with a length; a zero byte is a byte like any other and ends nothing. Where a length is 0 nothing is read or written, and
- * any pointer but NULL serves. A pointer is given with its true length, and an array that is written overlaps no other argument: nothing
- * can check these. Every other argument may be anything.
+ * `make install` puts this file, the library and larusqem(3) in place; link with `pkg-config --cflags --libs larusqem`. What the functions
+ * of the library return, and every entry of every array that they are lent, is proved equal to a definition in crates/larusqem/specs/, for
+ * all arguments. What is inline here hands structs to them as words, and is tested. docs/RULES.md has every rule in words.
+ *
+ * Text is bytes with a length: a zero byte is a byte like any other, ends nothing, and is not put after what is written. A pointer is given
+ * with its true length, and an array that is written overlaps no other argument: nothing can check these. Every other argument may be
+ * anything. Where a length is 0 nothing is read or written, and the pointer may be NULL (not so for the functions on words, below).
  *
  * The functions are pure: they keep nothing, allocate nothing, read no locale, no time zone and no clock, and have no state of their own.
- * Any number of threads may call them at once, on arrays of their own. A call takes some 30 KB of stack (1 KB by opened elements), and it
- * always returns; what takes longest, tens of milliseconds, is a reading that says weeks or weekdays and no year, month or day.
+ * Any number of threads may call them at once, on arrays of their own. A call takes at most 32 KB of stack (2 KB by opened elements), and
+ * it always returns; what takes longest, tens of milliseconds, is a reading that says weeks or weekdays and no year, month or day.
  *
- * The calendar is Gregorian from 0001-01-01 to 9999-12-31. The conversions are
- *   %Y %C %y %m %b %h %B %d %e %j %u %w %a %A %U %W %G %g %V %H %k %I %l %p %P %M %S %n %t %%
- *   %c %x %X %D %F %R %T %r
- * and the pairs %Ec %EC %Ex %EX %Ey %EY %Od %Oe %OH %OI %Om %OM %OS %Ou %OU %OV %Ow %OW %Oy, which mean the plain conversion.
- *
- * Numbers that come back
+ * The calendar is Gregorian from 0001-01-01 to 9999-12-31. The conversions of a format are
+ *   %Y %C %y %m %b %h %B %d %e %j %u %w %a %A %U %W %G %g %V %H %k %I %l %p %P %M %S
+ *   %n %t %%, which are a newline, a tab and the sign
+ *   %c %x %X %D %F %R %T %r, composites of the others
+ *   %Ec %EC %Ex %EX %Ey %EY %Od %Oe %OH %OI %Om %OM %OS %Ou %OU %OV %Ow %OW %Oy, which mean the plain conversion.
+ */
+#ifndef LARUSQEM_H
+#define LARUSQEM_H
+
+#include <stddef.h>
+#include <stdint.h>
+
+#ifdef __cplusplus
+extern "C" {
+#endif
+
+/* ---- Limits */
+
+/* the most bytes of a format, and of a text */
+#define LARUSQEM_LONGEST 1024
+/* the most elements that a format opens to: 13 for two bytes, as %c does */
+#define LARUSQEM_ELEMENTS 6656
+/* the bytes of a buffer that is enough for every writing: 9 for each element. By a format as it stands 12,288 are enough, 512 times %c. */
+#define LARUSQEM_WIDEST 59904
+/* the words of a moment and of a reading, for the functions on words */
+#define LARUSQEM_MOMENT_WORDS 6
+#define LARUSQEM_READING_WORDS 15
+
+/* ---- Numbers that come back (RULES 3)
  *
  *   no.  meaning                             place                                          what else (reader)
  *   0    done                                writer: bytes written                          day, hour, minute, second,
@@ -36,124 +66,286 @@
  *   10   two or more agree                   1 day, 2 hour                                  the first two, earliest first
  *
  * The writer judges 1, 2, 3, 4 in this order; the reader 1, 5, 3, then 6, 7, 8 from left to right, then 9 or 10 for the day, then for
- * the hour. Text left over is no refusal.
- *
- * A format that was opened once (larusqem_open) is a list of elements. An element is a number: a byte stands for itself, and a conversion
- * is 256 * (p + 1) + its letter, where p is the offset of its % in the format; composites are opened, and their conversions have the p of
- * the composite. What is opened is refused by 1, 3 and 4, where 4 is for elements that do not fit their array, with how many there are.
- * What is written or read by a list is refused by 3 for an entry that no opening makes, with the index of the first.
+ * the hour. Text left over is no refusal: a text was read whole only where the place is its length.
  */
-#ifndef LARUSQEM_H
-#define LARUSQEM_H
+enum larusqem_number {
+    LARUSQEM_DONE = 0,
+    LARUSQEM_FORMAT_TOO_LONG = 1,
+    LARUSQEM_BAD_MOMENT = 2,
+    LARUSQEM_BAD_CONVERSION = 3,
+    LARUSQEM_BUFFER_TOO_SMALL = 4,
+    LARUSQEM_TEXT_TOO_LONG = 5,
+    LARUSQEM_NO_MATCH = 6,
+    LARUSQEM_OUT_OF_RANGE = 7,
+    LARUSQEM_CONTRADICTION = 8,
+    LARUSQEM_NONE_AGREES = 9,
+    LARUSQEM_TWO_AGREE = 10
+};
 
-#include <stddef.h>
-#include <stdint.h>
+/* what a number means, for a message: words without a capital or a full stop */
+static inline const char *larusqem_sentence(uint32_t number)
+{
+    switch (number) {
+    case LARUSQEM_DONE:
+        return "done";
+    case LARUSQEM_FORMAT_TOO_LONG:
+        return "the format has more than 1,024 bytes";
+    case LARUSQEM_BAD_MOMENT:
+        return "the moment is not valid";
+    case LARUSQEM_BAD_CONVERSION:
+        return "a conversion of the format is unknown or unfinished";
+    case LARUSQEM_BUFFER_TOO_SMALL:
+        return "the output is longer than the buffer";
+    case LARUSQEM_TEXT_TOO_LONG:
+        return "the text has more than 1,024 bytes";
+    case LARUSQEM_NO_MATCH:
+        return "the text does not match the format";
+    case LARUSQEM_OUT_OF_RANGE:
+        return "a number is outside its range";
+    case LARUSQEM_CONTRADICTION:
+        return "the same thing is said again, differently";
+    case LARUSQEM_NONE_AGREES:
+        return "no day or no hour agrees with all that is said";
+    case LARUSQEM_TWO_AGREE:
+        return "two or more days or hours agree with all that is said";
+    default:
+        return "no number of this library";
+    }
+}
 
-#ifdef __cplusplus
-extern "C" {
-#endif
+/* ---- What goes in and comes out */
 
-/* the longest format and the longest text, the most elements that a format opens to, the length of a buffer that is enough for every
-   writing, and the words of a reading's answer */
-#define LARUSQEM_LONGEST 1024
-#define LARUSQEM_ELEMENTS 6656
-#define LARUSQEM_WIDEST 59904
-#define LARUSQEM_WORDS 14
+/* how a writing or an opening ended */
+struct larusqem_answer {
+    uint32_t number;
+    uint32_t place;
+};
 
-/* A 64-bit result is number * 2^32 + place. */
-static inline uint32_t larusqem_number(uint64_t result) { return (uint32_t)(result >> 32); }
-static inline uint32_t larusqem_place(uint64_t result) { return (uint32_t)result; }
+/* a day; 0, 0, 0 where there is none */
+struct larusqem_date {
+    uint32_t year;
+    uint32_t month;
+    uint32_t day;
+};
 
-/*
- * The words of a reading's answer. Whatever the row of its number does not name is 0.
- *
- *   word      number 0                       number 10, place 1     number 10, place 2     any other number
- *   0         0                              10                     10                     the number
- *   1         first unread offset            1                      2                      the place
- *   2 3 4     year, month, day; 0 0 0 where  the first of the       0 0 0                  0 0 0
- *             the text says no day           two days
- *   5 6       1 and the hour, 0 0 if unsaid  0 0                    0 and the first hour   0 0
- *   7 8       1 and the minute, or 0 0       0 0                    0 0                    0 0
- *   9 10      1 and the second, or 0 0       0 0                    0 0                    0 0
- *   11 12 13  0 0 0                          the second of the      the second hour, 0 0   0 0 0
- *                                            two days
- */
-enum larusqem_word {
-    LARUSQEM_AT_NUMBER = 0,
-    LARUSQEM_AT_PLACE = 1,
-    LARUSQEM_AT_YEAR = 2,
-    LARUSQEM_AT_MONTH = 3,
-    LARUSQEM_AT_DAY = 4,
-    LARUSQEM_AT_HOUR_SAID = 5,
-    LARUSQEM_AT_HOUR = 6,
-    LARUSQEM_AT_MINUTE_SAID = 7,
-    LARUSQEM_AT_MINUTE = 8,
-    LARUSQEM_AT_SECOND_SAID = 9,
-    LARUSQEM_AT_SECOND = 10,
-    LARUSQEM_AT_OTHER_YEAR = 11,
-    LARUSQEM_AT_OTHER_MONTH = 12,
-    LARUSQEM_AT_OTHER_DAY = 13,
-    LARUSQEM_AT_OTHER_HOUR = 11
+/* what is written: year 1 to 9999, month 1 to 12, day 1 to the month's length, hour 0 to 23, minute 0 to 59, second 0 to 60 */
+struct larusqem_moment {
+    uint32_t year;
+    uint32_t month;
+    uint32_t day;
+    uint32_t hour;
+    uint32_t minute;
+    uint32_t second;
 };
 
 /*
- * Writes a moment by a format over the start of `out`. No zero byte is put after it.
- *   format, format_length   the format
- *   year .. second          the moment: year 1 to 9999, month 1 to 12, day 1 to the month's length, hour 0 to 23, minute 0 to 59,
- *                           second 0 to 60
- *   out, out_length         the buffer
- * Returns number * 2^32 + place: 0, 1, 2, 3 or 4 of the table. On 0 the first `place` bytes of `out` are the text, and those past them
- * are as they came; on any other number all of `out` is as it came.
+ * What was read. Whatever the row of its number does not name is 0.
+ *
+ *   members                  number 0                       number 10, place 1    number 10, place 2      any other number
+ *   number, place            0, the first unread offset     10, 1                 10, 2                   the number, the place
+ *   year, month, day         the day; 0 0 0 where the       the first of the      0 0 0                   0 0 0
+ *                            text says no day               two days
+ *   hour_said, hour          1 and the hour, 0 0 if unsaid  0 0                   0 and the first hour    0 0
+ *   minute_said, minute      1 and the minute, or 0 0       0 0                   0 0                     0 0
+ *   second_said, second      1 and the second, or 0 0       0 0                   0 0                     0 0
+ *   other_year, other_month  0 0 0                          the second of the     0 0 0                   0 0 0
+ *     and other_day                                         two days
+ *   other_hour               0                              0                     the second hour         0
  */
-uint64_t larusqem_strftime(const uint8_t *format, size_t format_length, uint32_t year, uint32_t month, uint32_t day, uint32_t hour,
-                           uint32_t minute, uint32_t second, uint8_t *out, size_t out_length);
+struct larusqem_reading {
+    uint32_t number;
+    uint32_t place;
+    uint32_t year;
+    uint32_t month;
+    uint32_t day;
+    uint32_t hour_said;
+    uint32_t hour;
+    uint32_t minute_said;
+    uint32_t minute;
+    uint32_t second_said;
+    uint32_t second;
+    uint32_t other_year;
+    uint32_t other_month;
+    uint32_t other_day;
+    uint32_t other_hour;
+};
+
+/* ---- The functions of the library, on words
+ *
+ * They are what is proved; the functions below hand them structs. As these they take a moment and leave a reading, as words in the order of
+ * the members, all of which are written. Every result is number * 2^32 + place (larusqem_answer_of takes it apart). No pointer may be NULL.
+ */
+uint64_t larusqem_strftime_words(const uint8_t *format, size_t format_length, const uint32_t moment[LARUSQEM_MOMENT_WORDS], uint8_t *out,
+                                 size_t out_length);
+uint64_t larusqem_strptime_words(const uint8_t *format, size_t format_length, const uint8_t *text, size_t text_length,
+                                 uint32_t reading[LARUSQEM_READING_WORDS]);
+uint64_t larusqem_open_words(const uint8_t *format, size_t format_length, uint32_t *elements, size_t elements_length);
+uint64_t larusqem_write_words(const uint32_t *elements, size_t elements_length, const uint32_t moment[LARUSQEM_MOMENT_WORDS], uint8_t *out,
+                              size_t out_length);
+uint64_t larusqem_read_words(const uint32_t *elements, size_t elements_length, const uint8_t *text, size_t text_length,
+                             uint32_t reading[LARUSQEM_READING_WORDS]);
+
+/* Each member is the word of its place, and nothing lies between or after them. All members are uint32_t, so the library reaches each of
+   them by its own type, and a pointer to the struct serves as one to its words. */
+#if defined __cplusplus
+#define LARUSQEM_ASSERT(fact) static_assert(fact, #fact)
+#elif defined __STDC_VERSION__ && __STDC_VERSION__ >= 201112L
+#define LARUSQEM_ASSERT(fact) _Static_assert(fact, #fact)
+#else
+#define LARUSQEM_ASSERT(fact) extern char larusqem_asserted[(fact) ? 1 : -1]
+#endif
+#define LARUSQEM_WORD(name, index, member) LARUSQEM_ASSERT(offsetof(struct name, member) == (index) * sizeof(uint32_t))
+
+LARUSQEM_WORD(larusqem_moment, 0, year);
+LARUSQEM_WORD(larusqem_moment, 1, month);
+LARUSQEM_WORD(larusqem_moment, 2, day);
+LARUSQEM_WORD(larusqem_moment, 3, hour);
+LARUSQEM_WORD(larusqem_moment, 4, minute);
+LARUSQEM_WORD(larusqem_moment, 5, second);
+LARUSQEM_ASSERT(sizeof(struct larusqem_moment) == LARUSQEM_MOMENT_WORDS * sizeof(uint32_t));
+
+LARUSQEM_WORD(larusqem_reading, 0, number);
+LARUSQEM_WORD(larusqem_reading, 1, place);
+LARUSQEM_WORD(larusqem_reading, 2, year);
+LARUSQEM_WORD(larusqem_reading, 3, month);
+LARUSQEM_WORD(larusqem_reading, 4, day);
+LARUSQEM_WORD(larusqem_reading, 5, hour_said);
+LARUSQEM_WORD(larusqem_reading, 6, hour);
+LARUSQEM_WORD(larusqem_reading, 7, minute_said);
+LARUSQEM_WORD(larusqem_reading, 8, minute);
+LARUSQEM_WORD(larusqem_reading, 9, second_said);
+LARUSQEM_WORD(larusqem_reading, 10, second);
+LARUSQEM_WORD(larusqem_reading, 11, other_year);
+LARUSQEM_WORD(larusqem_reading, 12, other_month);
+LARUSQEM_WORD(larusqem_reading, 13, other_day);
+LARUSQEM_WORD(larusqem_reading, 14, other_hour);
+LARUSQEM_ASSERT(sizeof(struct larusqem_reading) == LARUSQEM_READING_WORDS * sizeof(uint32_t));
+
+#undef LARUSQEM_WORD
+#undef LARUSQEM_ASSERT
+
+/* the number and the place of a function on words */
+static inline struct larusqem_answer larusqem_answer_of(uint64_t result)
+{
+    struct larusqem_answer answer;
+
+    answer.number = (uint32_t)(result >> 32);
+    answer.place = (uint32_t)result;
+    return answer;
+}
+
+/* the bytes of a text, also where it is NULL with length 0 */
+static inline const uint8_t *larusqem_bytes(const char *text)
+{
+    return (const uint8_t *)(text ? text : "");
+}
+
+/* ---- Writing and reading */
 
 /*
- * Reads a text by a format: the one day and hour that all that it says fits, or why there is none.
- *   format, format_length   the format
- *   text, text_length       the text
- *   words                   the answer: 14 entries, all of them written
- * Returns the number: 0, 1, 3 or 5 to 10 of the table.
+ * Writes a moment by a format over the start of `out`. Answers 0, 1, 2, 3 or 4 of the table. On 0 the first `place` bytes of `out` are the
+ * text, and those past them are as they came; on any other number all of `out` is as it came.
  */
-uint32_t larusqem_strptime(const uint8_t *format, size_t format_length, const uint8_t *text, size_t text_length,
-                           uint32_t words[LARUSQEM_WORDS]);
+static inline struct larusqem_answer larusqem_strftime(const char *format, size_t format_length, struct larusqem_moment moment, char *out,
+                                                       size_t out_length)
+{
+    uint8_t none = 0;
 
-/*
- * Opens a format into elements, once, for any number of calls of larusqem_write and larusqem_read.
- *   format, format_length       the format
- *   elements, elements_length   room for the elements; LARUSQEM_ELEMENTS entries are enough for every format, and 13 for every two
- *                               bytes of this one
- * Returns number * 2^32 + place, judged in this order: 1 with 0; 3 with the offset of the first bad %; 4 with the number of elements where
- * they do not all fit; 0 with their number. On 0 and 4 the elements are stored, on 3 those before the bad %, each as many as fit, and
- * on 1 none. Every other entry is as it came.
- */
-uint64_t larusqem_open(const uint8_t *format, size_t format_length, uint32_t *elements, size_t elements_length);
+    return larusqem_answer_of(larusqem_strftime_words(larusqem_bytes(format), format_length, (const uint32_t *)&moment,
+                                                      out ? (uint8_t *)out : &none, out_length));
+}
 
-/*
- * As larusqem_strftime, by elements that larusqem_open stored. Returns number * 2^32 + place, judged in this order: 2 with the first bad
- * field; 3 with the index of the first entry that no opening makes; 4 with the bytes needed; 0 with the bytes written. No opening makes
- * an entry past 255 whose lowest byte is no letter of
+/* Reads a text by a format: the one day and hour that all that it says fits, or why there is none. Answers 0, 1, 3 or 5 to 10. */
+static inline struct larusqem_reading larusqem_strptime(const char *format, size_t format_length, const char *text, size_t text_length)
+{
+    struct larusqem_reading reading;
+
+    larusqem_strptime_words(larusqem_bytes(format), format_length, larusqem_bytes(text), text_length, (uint32_t *)&reading);
+    return reading;
+}
+
+/* ---- Formats opened once (RULES 10)
+ *
+ * An element of an opened format is a number. A byte stands for itself; %n, %t and %% open to the bytes 10, 9 and 37. A conversion is
+ * 256 * (p + 1) + its letter, one of
  *   Y C y m b h B d e j u w a A U W G g V H k I l p P M S
- * nor one of 2^18 or more, nor an entry past the first LARUSQEM_ELEMENTS.
+ * where p is the offset of its % in the format. Composites are opened: their conversions have the p of the composite. No opening makes any
+ * other entry, nor one of 2^18 or more, nor an entry past the first LARUSQEM_ELEMENTS.
  */
-uint64_t larusqem_write(const uint32_t *elements, size_t elements_length, uint32_t year, uint32_t month, uint32_t day, uint32_t hour,
-                        uint32_t minute, uint32_t second, uint8_t *out, size_t out_length);
 
 /*
- * As larusqem_strptime, by elements that larusqem_open stored. Returns 0, 3 or 5 to 10 of the table: 5, then 3 as larusqem_write, then as
- * larusqem_strptime.
+ * Opens a format into elements, once, for any number of calls of larusqem_write and larusqem_read. LARUSQEM_ELEMENTS entries are enough for
+ * every format, and 13 for every two bytes of this one. Answers, judged in this order: 1 with 0; 3 with the offset of the first bad %;
+ * 4 with the number of elements where they do not all fit; 0 with their number. On 0 and 4 the elements are stored, on 3 those before the
+ * bad %, each as many as fit, and on 1 none. Every other entry is as it came.
  */
-uint32_t larusqem_read(const uint32_t *elements, size_t elements_length, const uint8_t *text, size_t text_length,
-                       uint32_t words[LARUSQEM_WORDS]);
+static inline struct larusqem_answer larusqem_open(const char *format, size_t format_length, uint32_t *elements, size_t elements_length)
+{
+    uint32_t none = 0;
 
-/* How many days the calendar has: the day number of its last, 3,652,059. */
+    return larusqem_answer_of(
+        larusqem_open_words(larusqem_bytes(format), format_length, elements ? elements : &none, elements_length));
+}
+
+/*
+ * As larusqem_strftime, by elements that larusqem_open stored. Answers, judged in this order: 2 with the first bad field; 3 with the index
+ * of the first entry that no opening makes; 4 with the bytes needed; 0 with the bytes written.
+ */
+static inline struct larusqem_answer larusqem_write(const uint32_t *elements, size_t elements_length, struct larusqem_moment moment,
+                                                    char *out, size_t out_length)
+{
+    uint32_t no_element = 0;
+    uint8_t none = 0;
+
+    return larusqem_answer_of(larusqem_write_words(elements ? elements : &no_element, elements_length, (const uint32_t *)&moment,
+                                                   out ? (uint8_t *)out : &none, out_length));
+}
+
+/* As larusqem_strptime, by elements that larusqem_open stored. Answers 0, 3 or 5 to 10: 5, then 3 as larusqem_write, then the others. */
+static inline struct larusqem_reading larusqem_read(const uint32_t *elements, size_t elements_length, const char *text, size_t text_length)
+{
+    struct larusqem_reading reading;
+    uint32_t none = 0;
+
+    larusqem_read_words(elements ? elements : &none, elements_length, larusqem_bytes(text), text_length, (uint32_t *)&reading);
+    return reading;
+}
+
+/* ---- The calendar (RULES 2). The functions of a date answer 0 where the three are no date of the calendar. */
+
+/* how many days the calendar has: the day number of its last, 3,652,059 */
 uint32_t larusqem_days(void);
 
-/* The day number of a date: 0001-01-01 is 1, 9999-12-31 is larusqem_days(). 0 where the three are no date of the calendar. */
+/* the day number: 0001-01-01 is 1, 9999-12-31 is larusqem_days() */
 uint32_t larusqem_day_number(uint32_t year, uint32_t month, uint32_t day);
 
-/* The date of a day number: year * 65536 + month * 256 + day. 0 where no day of the calendar has that number. */
-uint32_t larusqem_date(uint32_t day_number);
+/* Monday 1 to Sunday 7 */
+uint32_t larusqem_weekday(uint32_t year, uint32_t month, uint32_t day);
+
+/* 1 to 366 */
+uint32_t larusqem_day_of_year(uint32_t year, uint32_t month, uint32_t day);
+
+/* the ISO 8601 year and week, as %G and %V write them */
+uint32_t larusqem_iso_year(uint32_t year, uint32_t month, uint32_t day);
+uint32_t larusqem_iso_week(uint32_t year, uint32_t month, uint32_t day);
+
+/* the date of a day number: year * 65536 + month * 256 + day, 0 where no day of the calendar has that number */
+uint32_t larusqem_date_word(uint32_t day_number);
+
+/* the same as a struct */
+static inline struct larusqem_date larusqem_date_of(uint32_t day_number)
+{
+    uint32_t word = larusqem_date_word(day_number);
+    struct larusqem_date date;
+
+    date.year = word >> 16;
+    date.month = (word >> 8) & 255;
+    date.day = word & 255;
+    return date;
+}
+
+/* ---- The version of the library that is linked: major * 65536 + minor * 256 + patch */
+uint32_t larusqem_version(void);
 
 #ifdef __cplusplus
 }

@@ -1,0 +1,68 @@
+# Builds, tests and installs the library for C and the program; `make help` says how. Nothing is built before it is proved.
+PREFIX = /usr/local
+BINDIR = $(PREFIX)/bin
+INCLUDEDIR = $(PREFIX)/include
+LIBDIR = $(PREFIX)/lib
+MANDIR = $(PREFIX)/share/man
+
+version := $(shell sed -nE 's/^pub const (MAJOR|MINOR|PATCH): u32 = ([0-9]+);$$/\2/p' crates/version/src/lib.rt | paste -sd.)
+soname := liblarusqem.so.$(firstword $(subst ., ,$(version)))
+
+static = target/staticlib/liblarusqem.a
+shared = target/sharedlib/liblarusqem.so.$(version)
+program = target/bin/date_lines
+
+fill = sed -e 's|@prefix@|$(PREFIX)|' -e 's|@includedir@|$(INCLUDEDIR)|' -e 's|@libdir@|$(LIBDIR)|' -e 's|@version@|$(version)|'
+
+.PHONY: all library program install install-library install-program uninstall test help FORCE
+# two provers would meet in target/
+.NOTPARALLEL:
+
+all: library program
+library: $(static) $(shared)
+program: $(program)
+
+# tools/library knows whether the library is out of date, and the prover whether the program is
+$(static): FORCE
+	@tools/library >/dev/null
+
+$(shared): $(static)
+	mkdir -p $(@D)
+	$(CC) -shared -Wl,-z,defs -Wl,-soname,$(soname) $(LDFLAGS) -Wl,--whole-archive $< -Wl,--no-whole-archive -o $@
+
+$(program): FORCE
+	rt check date_lines
+
+install: install-library install-program
+
+install-library: library
+	install -d $(addprefix $(DESTDIR),$(INCLUDEDIR) $(LIBDIR)/pkgconfig $(MANDIR)/man3)
+	install -m 644 include/larusqem.h $(DESTDIR)$(INCLUDEDIR)
+	install -m 644 $(static) $(shared) $(DESTDIR)$(LIBDIR)
+	ln -sf $(notdir $(shared)) $(DESTDIR)$(LIBDIR)/$(soname)
+	ln -sf $(soname) $(DESTDIR)$(LIBDIR)/liblarusqem.so
+	$(fill) larusqem.pc.in | install -m 644 /dev/stdin $(DESTDIR)$(LIBDIR)/pkgconfig/larusqem.pc
+	$(fill) man/larusqem.3 | install -m 644 /dev/stdin $(DESTDIR)$(MANDIR)/man3/larusqem.3
+
+install-program: program
+	install -d $(addprefix $(DESTDIR),$(BINDIR) $(MANDIR)/man1)
+	install -m 755 $(program) $(DESTDIR)$(BINDIR)
+	$(fill) man/date_lines.1 | install -m 644 /dev/stdin $(DESTDIR)$(MANDIR)/man1/date_lines.1
+
+uninstall:
+	rm -f $(DESTDIR)$(INCLUDEDIR)/larusqem.h $(DESTDIR)$(BINDIR)/date_lines
+	rm -f $(addprefix $(DESTDIR)$(LIBDIR)/,liblarusqem.a liblarusqem.so $(soname) $(notdir $(shared)) pkgconfig/larusqem.pc)
+	rm -f $(DESTDIR)$(MANDIR)/man3/larusqem.3 $(DESTDIR)$(MANDIR)/man1/date_lines.1
+
+test:
+	tests/run
+
+help:
+	@echo 'make                   proves and builds the library, static and shared, and the program date_lines (minutes)'
+	@echo 'make library           the library alone'
+	@echo 'make program           the program alone'
+	@echo 'make install           installs header, libraries, pkg-config file, program and manual pages under PREFIX ($(PREFIX));'
+	@echo '                       also install-library and install-program. A system library folder wants ldconfig after it.'
+	@echo 'make uninstall         removes them'
+	@echo 'make test              all tests (half an hour)'
+	@echo 'Variables: PREFIX, BINDIR, INCLUDEDIR, LIBDIR, MANDIR, DESTDIR, CC, LDFLAGS. The version is $(version).'

@@ -1,0 +1,235 @@
+/* Tests of include/larusqem.h: every function, number, member and limit, through the installed library. It is C99 and C++11 at once.
+   VERSION is the version that the library shall have. examples/c/check builds and runs it. */
+#include <stdio.h>
+#include <string.h>
+
+#include <larusqem.h>
+
+static unsigned checks, failures;
+
+static void check(int holds, const char *fact, int line)
+{
+    checks++;
+    if (holds)
+        return;
+    failures++;
+    fprintf(stderr, "wrappers.c:%d: not so: %s\n", line, fact);
+}
+#define CHECK(fact) check(fact, #fact, __LINE__)
+
+static const struct larusqem_moment moment = {1934, 3, 5, 7, 8, 9};
+static uint32_t elements[LARUSQEM_ELEMENTS + 1];
+static char out[LARUSQEM_WIDEST];
+static char longer[LARUSQEM_LONGEST + 1];
+
+static int answers(struct larusqem_answer a, uint32_t number, uint32_t place) { return a.number == number && a.place == place; }
+
+/* whether all of the buffer is as `fresh` left it, from a place on */
+static void fresh(void) { memset(out, '#', sizeof out); }
+static int untouched(size_t from)
+{
+    while (from < sizeof out && out[from] == '#')
+        from++;
+    return from == sizeof out;
+}
+
+static struct larusqem_answer write_by(const char *format, struct larusqem_moment m, size_t room)
+{
+    fresh();
+    return larusqem_strftime(format, strlen(format), m, out, room);
+}
+
+static struct larusqem_answer write_opened(const char *format, struct larusqem_moment m, size_t room)
+{
+    struct larusqem_answer opened = larusqem_open(format, strlen(format), elements, LARUSQEM_ELEMENTS);
+
+    fresh();
+    return larusqem_write(elements, opened.place, m, out, room);
+}
+
+static void sentences(void)
+{
+    for (uint32_t a = 0; a <= LARUSQEM_TWO_AGREE + 1; a++) {
+        CHECK(larusqem_sentence(a)[0] != '\0');
+        for (uint32_t b = 0; b < a; b++)
+            CHECK(strcmp(larusqem_sentence(a), larusqem_sentence(b)) != 0);
+    }
+    CHECK(strcmp(larusqem_sentence(LARUSQEM_DONE), "done") == 0);
+    CHECK(strcmp(larusqem_sentence(UINT32_MAX), larusqem_sentence(LARUSQEM_TWO_AGREE + 1)) == 0);
+}
+
+static void writing(void)
+{
+    static const char text[] = "Mon Mar  5 07:08:09 1934";
+    static const struct larusqem_moment bad[6] = {{0, 0, 0, 24, 60, 61},  {1900, 13, 30, 24, 60, 61}, {1900, 2, 29, 24, 60, 61},
+                                                  {1900, 2, 28, 24, 60, 61}, {1900, 2, 28, 23, 60, 61},  {1900, 2, 28, 23, 59, 61}};
+
+    CHECK(answers(write_by("%c", moment, sizeof out), LARUSQEM_DONE, 24) && memcmp(out, text, 24) == 0 && untouched(24));
+    CHECK(answers(write_by("%c", moment, 24), LARUSQEM_DONE, 24) && memcmp(out, text, 24) == 0 && untouched(24));
+    CHECK(answers(write_by("%c", moment, 23), LARUSQEM_BUFFER_TOO_SMALL, 24) && untouched(0));
+    CHECK(answers(write_by("%c%", moment, sizeof out), LARUSQEM_BAD_CONVERSION, 2) && untouched(0));
+    CHECK(answers(write_opened("%c", moment, sizeof out), LARUSQEM_DONE, 24) && memcmp(out, text, 24) == 0 && untouched(24));
+    CHECK(answers(write_opened("%c", moment, 23), LARUSQEM_BUFFER_TOO_SMALL, 24) && untouched(0));
+    for (uint32_t field = 1; field <= 6; field++) {
+        CHECK(answers(write_by("%F", bad[field - 1], sizeof out), LARUSQEM_BAD_MOMENT, field) && untouched(0));
+        CHECK(answers(write_opened("%F", bad[field - 1], sizeof out), LARUSQEM_BAD_MOMENT, field) && untouched(0));
+    }
+    fresh();
+    CHECK(answers(larusqem_strftime(longer, sizeof longer, moment, out, sizeof out), LARUSQEM_FORMAT_TOO_LONG, 0) && untouched(0));
+    CHECK(answers(larusqem_strftime("a\0%d", 4, moment, out, sizeof out), LARUSQEM_DONE, 4) && memcmp(out, "a\0" "05", 4) == 0);
+    elements[0] = 'a';
+    elements[1] = 256 + '%';
+    CHECK(answers(larusqem_write(elements, 2, moment, out, sizeof out), LARUSQEM_BAD_CONVERSION, 1));
+    elements[1] = (1u << 18) + 'd';
+    CHECK(answers(larusqem_write(elements, 2, moment, out, sizeof out), LARUSQEM_BAD_CONVERSION, 1));
+}
+
+static void opening(void)
+{
+    static const uint32_t expected[8] = {10, 9, 37, 256 * 7 + 'd', 256 * 10 + 'y', 256 * 13 + 'H', ':', 256 * 13 + 'M'};
+
+    elements[8] = 77;
+    CHECK(answers(larusqem_open("%n%t%%%Od%Ey%R", 14, elements, 8), LARUSQEM_DONE, 8));
+    CHECK(memcmp(elements, expected, sizeof expected) == 0 && elements[8] == 77);
+    CHECK(answers(larusqem_open("%R%R%R", 6, elements, 8), LARUSQEM_BUFFER_TOO_SMALL, 9) && elements[8] == 77);
+    CHECK(answers(larusqem_open("%R%Q", 4, elements, 8), LARUSQEM_BAD_CONVERSION, 2));
+    CHECK(answers(larusqem_open(longer, sizeof longer, elements, 8), LARUSQEM_FORMAT_TOO_LONG, 0));
+}
+
+static void limits(void)
+{
+    static char format[LARUSQEM_LONGEST];
+    const struct larusqem_moment wednesday = {1934, 3, 7, 7, 8, 9};
+    size_t i;
+
+    for (i = 0; i < sizeof format; i++)
+        format[i] = i % 2 == 0 ? '%' : 'c';
+    CHECK(answers(larusqem_open(format, sizeof format, elements, LARUSQEM_ELEMENTS), LARUSQEM_DONE, LARUSQEM_ELEMENTS));
+    CHECK(answers(larusqem_strftime(format, sizeof format, wednesday, out, sizeof out), LARUSQEM_DONE, 12288));
+    for (i = 0; i < LARUSQEM_ELEMENTS + 1; i++)
+        elements[i] = 256 + 'A';
+    CHECK(answers(larusqem_write(elements, LARUSQEM_ELEMENTS, wednesday, out, sizeof out), LARUSQEM_DONE, LARUSQEM_WIDEST));
+    CHECK(answers(larusqem_write(elements, LARUSQEM_ELEMENTS + 1, wednesday, out, sizeof out), LARUSQEM_BAD_CONVERSION, LARUSQEM_ELEMENTS));
+}
+
+/* a text with the reading that its format shall give it, both ways and on words */
+static void reads(const char *format, const char *text, struct larusqem_reading expected, int line)
+{
+    size_t format_length = strlen(format), text_length = strlen(text);
+    struct larusqem_reading anew = larusqem_strptime(format, format_length, text, text_length), opened;
+    struct larusqem_answer answer = larusqem_open(format, format_length, elements, LARUSQEM_ELEMENTS);
+    uint32_t words[LARUSQEM_READING_WORDS];
+
+    check(memcmp(&anew, &expected, sizeof expected) == 0, text, line);
+    larusqem_strptime_words((const uint8_t *)format, format_length, (const uint8_t *)text, text_length, words);
+    check(memcmp(words, &expected, sizeof expected) == 0, text, line);
+    if (answer.number != LARUSQEM_DONE)
+        return;
+    opened = larusqem_read(elements, answer.place, text, text_length);
+    check(memcmp(&opened, &expected, sizeof expected) == 0, text, line);
+}
+
+static struct larusqem_reading refusal(uint32_t number, uint32_t place)
+{
+    struct larusqem_reading r;
+
+    memset(&r, 0, sizeof r);
+    r.number = number;
+    r.place = place;
+    return r;
+}
+
+static void reading(void)
+{
+    static const struct larusqem_reading whole = {0, 24, 1934, 3, 5, 1, 7, 1, 8, 1, 9, 0, 0, 0, 0};
+    static const struct larusqem_reading minute = {0, 2, 0, 0, 0, 0, 0, 1, 8, 0, 0, 0, 0, 0, 0};
+    static const struct larusqem_reading left_over = {0, 10, 1934, 3, 5, 0, 0, 0, 0, 0, 0, 0, 0, 0, 0};
+    static const struct larusqem_reading two_days = {10, 1, 1, 3, 5, 0, 0, 0, 0, 0, 0, 2, 3, 5, 0};
+    static const struct larusqem_reading two_hours = {10, 2, 0, 0, 0, 0, 7, 0, 0, 0, 0, 0, 0, 0, 19};
+    struct larusqem_reading r;
+
+    reads("%c", "Mon Mar  5 07:08:09 1934", whole, __LINE__);
+    reads("%M", "08", minute, __LINE__);
+    reads("%d %b %Y", "5 Mar 19345", left_over, __LINE__);
+    reads("%d %Q", "5", refusal(LARUSQEM_BAD_CONVERSION, 3), __LINE__);
+    reads("%d %b", "5 Mai", refusal(LARUSQEM_NO_MATCH, 2), __LINE__);
+    reads("%H%M", "930", refusal(LARUSQEM_OUT_OF_RANGE, 0), __LINE__);
+    reads("%d %e", "5 6", refusal(LARUSQEM_CONTRADICTION, 2), __LINE__);
+    reads("%a %d %b %Y", "Tue 5 Mar 1934", refusal(LARUSQEM_NONE_AGREES, 1), __LINE__);
+    reads("%H %p", "7 PM", refusal(LARUSQEM_NONE_AGREES, 2), __LINE__);
+    reads("%d %b", "5 mar", two_days, __LINE__);
+    reads("%d %b %Y %I", "5 Mar 1934 07", two_hours, __LINE__);
+    CHECK(two_days.other_year == 2 && two_days.other_month == 3 && two_days.other_day == 5 && two_hours.other_hour == 19);
+
+    r = larusqem_strptime(longer, sizeof longer, "5", 1);
+    CHECK(r.number == LARUSQEM_FORMAT_TOO_LONG && r.place == 0);
+    r = larusqem_strptime("%d", 2, longer, sizeof longer);
+    CHECK(r.number == LARUSQEM_TEXT_TOO_LONG && r.place == 0);
+    elements[0] = 256;
+    r = larusqem_read(elements, 1, longer, sizeof longer);
+    CHECK(r.number == LARUSQEM_TEXT_TOO_LONG && r.place == 0);
+    r = larusqem_read(elements, 1, "5", 1);
+    CHECK(r.number == LARUSQEM_BAD_CONVERSION && r.place == 0);
+}
+
+/* NULL with length 0, for every pointer */
+static void nulls(void)
+{
+    struct larusqem_reading r;
+
+    CHECK(answers(larusqem_strftime(NULL, 0, moment, NULL, 0), LARUSQEM_DONE, 0));
+    CHECK(answers(larusqem_strftime("%F", 2, moment, NULL, 0), LARUSQEM_BUFFER_TOO_SMALL, 10));
+    CHECK(answers(larusqem_open(NULL, 0, NULL, 0), LARUSQEM_DONE, 0));
+    CHECK(answers(larusqem_open("%F", 2, NULL, 0), LARUSQEM_BUFFER_TOO_SMALL, 5));
+    CHECK(answers(larusqem_write(NULL, 0, moment, NULL, 0), LARUSQEM_DONE, 0));
+    elements[0] = 256 + 'd';
+    CHECK(answers(larusqem_write(elements, 1, moment, NULL, 0), LARUSQEM_BUFFER_TOO_SMALL, 2));
+    r = larusqem_strptime(NULL, 0, NULL, 0);
+    CHECK(r.number == LARUSQEM_DONE && r.place == 0 && r.year == 0 && !r.hour_said && !r.minute_said && !r.second_said);
+    r = larusqem_strptime("%d", 2, NULL, 0);
+    CHECK(r.number == LARUSQEM_NO_MATCH && r.place == 0);
+    r = larusqem_read(NULL, 0, NULL, 0);
+    CHECK(r.number == LARUSQEM_DONE && r.place == 0 && r.year == 0);
+    r = larusqem_read(elements, 1, NULL, 0);
+    CHECK(r.number == LARUSQEM_NO_MATCH && r.place == 0);
+}
+
+static int is_date(struct larusqem_date date, uint32_t year, uint32_t month, uint32_t day)
+{
+    return date.year == year && date.month == month && date.day == day;
+}
+
+static void calendar(void)
+{
+    uint32_t version = larusqem_version();
+    char said[40];
+
+    CHECK(larusqem_days() == 3652059);
+    CHECK(larusqem_day_number(1, 1, 1) == 1 && larusqem_day_number(9999, 12, 31) == larusqem_days());
+    CHECK(is_date(larusqem_date_of(1), 1, 1, 1) && is_date(larusqem_date_of(larusqem_days()), 9999, 12, 31));
+    CHECK(is_date(larusqem_date_of(0), 0, 0, 0) && is_date(larusqem_date_of(larusqem_days() + 1), 0, 0, 0));
+    CHECK(is_date(larusqem_date_of(larusqem_day_number(2000, 2, 29) + 1), 2000, 3, 1));
+    CHECK(larusqem_weekday(1934, 3, 5) == 1 && larusqem_weekday(2017, 1, 1) == 7 && larusqem_weekday(9999, 12, 31) == 5);
+    CHECK(larusqem_day_of_year(1934, 3, 5) == 64 && larusqem_day_of_year(2000, 12, 31) == 366);
+    CHECK(larusqem_iso_year(2017, 1, 1) == 2016 && larusqem_iso_week(2017, 1, 1) == 52);
+    CHECK(larusqem_iso_year(2010, 1, 1) == 2009 && larusqem_iso_week(2010, 1, 1) == 53);
+    CHECK(larusqem_day_number(1900, 2, 29) == 0 && larusqem_weekday(1900, 2, 29) == 0 && larusqem_day_of_year(1900, 2, 29) == 0);
+    CHECK(larusqem_iso_year(1900, 2, 29) == 0 && larusqem_iso_week(1900, 2, 29) == 0);
+
+    snprintf(said, sizeof said, "%u.%u.%u", version >> 16, (version >> 8) & 255, version & 255);
+    CHECK(strcmp(said, VERSION) == 0);
+}
+
+int main(void)
+{
+    memset(longer, 'x', sizeof longer);
+    sentences();
+    writing();
+    opening();
+    limits();
+    reading();
+    nulls();
+    calendar();
+    printf("%u checks, %u failed\n", checks, failures);
+    return failures != 0;
+}
