@@ -1,7 +1,7 @@
-//! Paper 01 once more, in plain Rust: written from the paper's text alone, to be compared with the proved library and to make vectors.
-//! It shares no code and no table with the library or its bindings, and takes the slow, literal way wherever the
-//! paper names one: weeks are counted by walking the calendar day by day, and a reading is judged against every day.
-//! Python's datetime module judges its calendar (`vectors days` and tests/every_day.py), the paper's own cases its rules (`margins.rs`).
+//! The rules of docs/RULES.md once more, in plain Rust: written from their text alone, to be compared with the proved library and to make
+//! vectors. It shares no code and no table with the library or its bindings, and takes the slow, literal way wherever there is one: weeks
+//! are counted by walking the calendar day by day, and a reading is judged against every day. Python's datetime module judges its calendar
+//! (`vectors days` and tests/every_day.py), cases worked by hand its rules (`margins.rs`).
 
 /// The last day of the calendar, 9999-12-31.
 pub const DAYS: usize = 3_652_059;
@@ -512,9 +512,8 @@ fn judged(cal: &Calendar, facts: &Facts, at: usize) -> Reading {
     }
     let mut hour = None;
     if facts[13..=15].iter().any(|f| f.is_some()) {
-        let fits = |h: &u32| {
-            facts[13].is_none_or(|n| n == *h) && facts[14].is_none_or(|n| n == twelve(*h)) && facts[15].is_none_or(|n| n == *h / 12)
-        };
+        let agrees = |kind: usize, number: u32| facts[kind].is_none() || facts[kind] == Some(number);
+        let fits = |h: &u32| agrees(13, *h) && agrees(14, twelve(*h)) && agrees(15, *h / 12);
         let found: Vec<u32> = (0..24).filter(fits).collect();
         match found[..] {
             [] => return refused(9, 2),
