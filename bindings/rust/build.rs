@@ -30,11 +30,15 @@ fn main() {
     }
 }
 
-/// Links the library of a folder: the archive, or else the shared library.
+/// The library of a folder and how it is linked: the archive, or else the shared library.
+fn library(folder: &Path) -> Option<(PathBuf, &'static str)> {
+    let files = [("liblarusqem.a", "static"), ("liblarusqem.so", "dylib")];
+    files.into_iter().map(|(file, kind)| (folder.join(file), kind)).find(|(file, _)| file.exists())
+}
+
 fn link(folder: &Path) -> Option<()> {
-    let (file, kind) =
-        [("liblarusqem.a", "static"), ("liblarusqem.so", "dylib")].into_iter().find(|(file, _)| folder.join(file).exists())?;
-    println!("cargo:rerun-if-changed={}", folder.join(file).display());
+    let (file, kind) = library(folder)?;
+    println!("cargo:rerun-if-changed={}", file.display());
     println!("cargo:rustc-link-search=native={}", folder.display());
     println!("cargo:rustc-link-lib={kind}=larusqem");
     Some(())
@@ -48,7 +52,9 @@ fn installed() -> Option<PathBuf> {
         .output()
         .ok()
         .filter(|answer| answer.status.success())?;
-    Some(PathBuf::from(String::from_utf8(answer.stdout).ok()?.trim().strip_prefix("-L")?))
+    let flags = String::from_utf8(answer.stdout).ok()?;
+    let folders = flags.split_whitespace().filter_map(|flag| flag.strip_prefix("-L"));
+    folders.map(PathBuf::from).find(|folder| library(folder).is_some())
 }
 
 /// The folder of the repository's own library, proved anew where a source is newer.

@@ -17,7 +17,7 @@ use core::str::FromStr;
 /// let format = Format::new("%Y-%m-%d").unwrap();
 /// for number in 700_000..700_100 {
 ///     let date = Date::from_day_number(number).unwrap();
-///     let text = format.write(&Moment::midnight(date));
+///     let text = format.write(Moment::midnight(date));
 ///     assert_eq!(text, date.to_string().as_bytes());
 ///     assert_eq!(format.read(&text).unwrap().date, Some(date));
 /// }
@@ -61,11 +61,11 @@ impl Format {
     /// let format = Format::new("%H:%M").unwrap();
     /// let moment: Moment = "1934-03-05 07:08:09".parse().unwrap();
     /// let mut out = [b'.'; 8];
-    /// assert_eq!(format.write_to(&moment, &mut out), Ok(5));
+    /// assert_eq!(format.write_to(moment, &mut out), Ok(5));
     /// assert_eq!(&out, b"07:08...");
-    /// assert_eq!(format.write_to(&moment, &mut out[..4]), Err(WriteError::BufferTooSmall { needed: 5 }));
+    /// assert_eq!(format.write_to(moment, &mut out[..4]), Err(WriteError::BufferTooSmall { needed: 5 }));
     /// ```
-    pub fn write_to(&self, moment: &Moment, out: &mut [u8]) -> Result<usize, WriteError> {
+    pub fn write_to(&self, moment: Moment, out: &mut [u8]) -> Result<usize, WriteError> {
         WriteError::judge(ffi::write(&self.elements, &moment.words(), out))
     }
 
@@ -75,9 +75,9 @@ impl Format {
     /// use larusqem::{Date, Format, Moment};
     ///
     /// let format = Format::new("%G-W%V-%u").unwrap();
-    /// assert_eq!(format.write(&Moment::midnight(Date::new(2017, 1, 1).unwrap())), b"2016-W52-7");
+    /// assert_eq!(format.write(Moment::midnight(Date::new(2017, 1, 1).unwrap())), b"2016-W52-7");
     /// ```
-    pub fn write(&self, moment: &Moment) -> Vec<u8> {
+    pub fn write(&self, moment: Moment) -> Vec<u8> {
         let mut out = vec![0; 64];
         let written = self.write_to(moment, &mut out).or_else(|refused| {
             out.resize(refused.place(), 0);
@@ -93,10 +93,10 @@ impl Format {
     /// use larusqem::{Date, Format, Moment};
     ///
     /// let noon = Moment::new(Date::new(1934, 3, 5).unwrap(), 12, 0, 0).unwrap();
-    /// assert_eq!(Format::new("%l°").unwrap().write_string(&noon).unwrap(), "12°");
-    /// assert!(Format::new(b"%l\xb0").unwrap().write_string(&noon).is_err());
+    /// assert_eq!(Format::new("%l°").unwrap().write_string(noon).unwrap(), "12°");
+    /// assert!(Format::new(b"%l\xb0").unwrap().write_string(noon).is_err());
     /// ```
-    pub fn write_string(&self, moment: &Moment) -> Result<String, FromUtf8Error> {
+    pub fn write_string(&self, moment: Moment) -> Result<String, FromUtf8Error> {
         String::from_utf8(self.write(moment))
     }
 

@@ -10,7 +10,7 @@
 //! let format = Format::new("%a %d %b %Y %H:%M").unwrap();
 //! let date = Date::new(1934, 3, 5).unwrap();
 //! let moment = Moment::new(date, 7, 8, 9).unwrap();
-//! assert_eq!(format.write(&moment), b"Mon 05 Mar 1934 07:08");
+//! assert_eq!(format.write(moment), b"Mon 05 Mar 1934 07:08");
 //!
 //! let text = "mon 5 march 1934 7:08 in the margin";
 //! let reading = format.read(text).unwrap();
@@ -79,12 +79,12 @@ pub use reading::Reading;
 ///
 /// let moment: Moment = "1934-03-05 07:08:09".parse().unwrap();
 /// let mut out = *b"..............................";
-/// assert_eq!(strftime("%c", &moment, &mut out), Ok(24));
+/// assert_eq!(strftime("%c", moment, &mut out), Ok(24));
 /// assert_eq!(&out, b"Mon Mar  5 07:08:09 1934......");
-/// assert_eq!(strftime("%c", &moment, &mut out[..23]), Err(WriteError::BufferTooSmall { needed: 24 }));
-/// assert_eq!(strftime("at %Q", &moment, &mut out), Err(WriteError::Format(FormatError::BadConversion { offset: 3 })));
+/// assert_eq!(strftime("%c", moment, &mut out[..23]), Err(WriteError::BufferTooSmall { needed: 24 }));
+/// assert_eq!(strftime("at %Q", moment, &mut out), Err(WriteError::Format(FormatError::BadConversion { offset: 3 })));
 /// ```
-pub fn strftime(format: impl AsRef<[u8]>, moment: &Moment, out: &mut [u8]) -> Result<usize, WriteError> {
+pub fn strftime(format: impl AsRef<[u8]>, moment: Moment, out: &mut [u8]) -> Result<usize, WriteError> {
     WriteError::judge(ffi::strftime(format.as_ref(), &moment.words(), out))
 }
 

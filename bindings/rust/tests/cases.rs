@@ -15,10 +15,10 @@ fn midnight(year: u32, month: u32, day: u32) -> Moment {
 
 fn write(format: &str, m: Moment) -> String {
     let mut out = [0; 64];
-    let n = strftime(format, &m, &mut out).unwrap();
+    let n = strftime(format, m, &mut out).unwrap();
     let opened = Format::new(format).unwrap();
-    assert_eq!(opened.write(&m), &out[..n]);
-    let text = opened.write_string(&m).unwrap();
+    assert_eq!(opened.write(m), &out[..n]);
+    let text = opened.write_string(m).unwrap();
     assert_eq!(text.as_bytes(), &out[..n]);
     text
 }
@@ -77,7 +77,7 @@ fn refused_writing() {
     let format = Format::new("%c").unwrap();
     let morning = moment("1934-03-05 07:08:09");
     let mut out = [7; 24];
-    for refused in [format.write_to(&morning, &mut out[..23]), strftime("%c", &morning, &mut out[..23])] {
+    for refused in [format.write_to(morning, &mut out[..23]), strftime("%c", morning, &mut out[..23])] {
         assert_eq!(refused, Err(WriteError::BufferTooSmall { needed: 24 }));
         assert_eq!((refused.unwrap_err().number(), refused.unwrap_err().place()), (4, 24));
     }
@@ -85,15 +85,15 @@ fn refused_writing() {
     assert_eq!(Format::new(vec![b'x'; 1025]), Err(FormatError::TooLong));
     assert_eq!(Format::new("%c%c%Q"), Err(FormatError::BadConversion { offset: 4 }));
     assert_eq!("%".parse::<Format>(), Err(FormatError::BadConversion { offset: 0 }));
-    assert_eq!(strftime("%E", &morning, &mut out), Err(WriteError::Format(FormatError::BadConversion { offset: 0 })));
-    assert_eq!(strftime(vec![b'x'; 1025], &morning, &mut out), Err(WriteError::Format(FormatError::TooLong)));
+    assert_eq!(strftime("%E", morning, &mut out), Err(WriteError::Format(FormatError::BadConversion { offset: 0 })));
+    assert_eq!(strftime(vec![b'x'; 1025], morning, &mut out), Err(WriteError::Format(FormatError::TooLong)));
     assert_eq!(out, [7; 24]);
 }
 
 #[test]
 fn longest() {
     let format = Format::new("%c".repeat(512)).unwrap();
-    assert_eq!(format.write(&midnight(1934, 3, 5)).len(), 24 * 512);
+    assert_eq!(format.write(midnight(1934, 3, 5)).len(), 24 * 512);
     let format = Format::new(vec![b' '; 1024]).unwrap();
     assert_eq!(format.read(vec![b' '; 1024]).unwrap().unread, 1024);
     assert_eq!(format.read(vec![b' '; 1025]), Err(ReadError::TextTooLong));
@@ -157,7 +157,7 @@ fn every_thousandth_day() {
         assert_eq!(date.to_string().parse(), Ok(date));
         let (weekday, j, g, v) = (date.weekday(), date.day_of_year(), date.iso_year(), date.iso_week());
         let shown = format!("{date} {weekday} {} {j:03} {g:04} {v:02}", weekday.number());
-        assert_eq!(format.write_string(&Moment::midnight(date)).unwrap(), shown);
+        assert_eq!(format.write_string(Moment::midnight(date)).unwrap(), shown);
         let next = date.next_day().unwrap();
         assert!(next > date && next.previous_day() == Some(date));
     }
@@ -216,7 +216,7 @@ fn errors_have_sources() {
     let source = |error: &dyn Error| error.source().map(|source| source.to_string());
     let unknown = Some("unknown or unfinished conversion at byte 0 of the format".to_string());
     assert_eq!(source(&strptime("%Q", "").unwrap_err()), unknown);
-    assert_eq!(source(&strftime("%Q", &Moment::midnight(Date::FIRST), &mut []).unwrap_err()), unknown);
+    assert_eq!(source(&strftime("%Q", Moment::midnight(Date::FIRST), &mut []).unwrap_err()), unknown);
     assert_eq!(source(&"1934-13-01".parse::<Date>().unwrap_err()), Some("the month is not 1 to 12".to_string()));
     assert_eq!(source(&ReadError::NoDay), None);
     let field: &dyn Error = &Date::new(0, 1, 1).unwrap_err();
