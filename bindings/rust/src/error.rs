@@ -48,8 +48,9 @@ impl FieldError {
     /// Refuses words that are no moment: it is the writer that judges them, here for an empty text.
     pub(crate) fn check(moment: &ffi::MomentWords) -> Result<(), FieldError> {
         match ffi::write(&[], moment, &mut []) {
+            (0, _) => Ok(()),
             (2, place) => Err(FieldError { field: Field::ALL[place - 1] }),
-            _ => Ok(()),
+            (number, _) => unreachable!("an empty text is not refused by {number}"),
         }
     }
 

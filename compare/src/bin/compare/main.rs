@@ -243,17 +243,28 @@ fn compare_days(random: &mut Random, cal: &Calendar, tally: &mut Tally) {
         }
     }
     *tally.counts.entry(("days", 0, "")).or_insert(0) += cal.days.len() as u64;
+    let mut no_date = |year: u32, month: u32, day: u32| {
+        if rules::bad_field(&[year, month, day, 0, 0, 0]).is_some() {
+            let found = library::of_date(year, month, day);
+            tally.count("no date", 0);
+            if found != [0; 5] {
+                tally.differs("the functions of a date that is none", &(year, month, day, found));
+            }
+        }
+    };
+    for year in 0..=10_000 {
+        for month in 0..=13 {
+            (0..=32).for_each(|day| no_date(year, month, day));
+        }
+    }
     for _ in 0..200_000 {
         let mut m = cases::fields(random);
         m[random.below(3)] = random.next() as u32;
-        if rules::bad_field(&[m[0], m[1], m[2], 0, 0, 0]).is_some() {
-            let found = library::of_date(m[0], m[1], m[2]);
-            tally.count("no date", 0);
-            if found != [0; 5] {
-                tally.differs("the functions of a date that is none", &(m, found));
-            }
-        }
-        let number = *random.pick(&[0, 3_652_060, u32::MAX, m[0].max(3_652_060)]);
+        no_date(m[0], m[1], m[2]);
+    }
+    for _ in 0..200_000 {
+        let any = (random.next() as u32).max(3_652_060);
+        let number = *random.pick(&[0, 3_652_060, u32::MAX, any]);
         if library::date_word(number) != 0 {
             tally.differs("larusqem_date_word", &number);
         }
