@@ -66,7 +66,7 @@ impl Day {
     }
 }
 
-/// Every day of the calendar, in order, and for each kind and number the days that show it, as bits.
+/// Every day of the calendar (RULES 2), in order, and for each kind and number the days that show it, as bits.
 pub struct Calendar {
     pub days: Vec<Day>,
     /// Where each year begins in `days`; one more entry for the end.
@@ -178,10 +178,10 @@ impl Calendar {
     }
 }
 
-/// At each kind 1 to 17 the number said, if one was. AM is 0 and PM is 1.
+/// At each kind 1 to 17 (RULES 7) the number said, if one was. AM is 0 and PM is 1.
 pub type Facts = [Option<u32>; 18];
 
-/// What a format's elements ask for, composites opened.
+/// What a format's elements ask for (RULES 4), composites opened.
 #[derive(Clone, Copy, PartialEq, Eq, Debug)]
 pub enum Item {
     /// A byte that copies itself and must be met.
@@ -295,7 +295,7 @@ fn twelve(hour: u32) -> u32 {
     }
 }
 
-/// What the items write for a valid moment.
+/// What the items write for a valid moment (RULES 5).
 pub fn written(cal: &Calendar, items: &[Item], m: &Moment) -> Vec<u8> {
     let d = cal.find(m[0], m[1], m[2]);
     let mut out = Vec::new();
@@ -367,7 +367,7 @@ pub fn write_opened(cal: &Calendar, opened: &Result<Vec<Item>, usize>, m: &Momen
     }
 }
 
-/// What the reader answers. Whatever the number's row does not name is zero or unsaid.
+/// What the reader answers (RULES 3): whatever the number does not bring with it is zero or unsaid.
 #[derive(Clone, Default, PartialEq, Eq, Debug)]
 pub struct Reading {
     pub number: u32,
@@ -445,7 +445,7 @@ fn name_at(text: &[u8], names: &[&str]) -> Option<(u32, usize)> {
     None
 }
 
-/// What the items read: 6, 7 or 8 from left to right, then what the facts leave.
+/// What the items read (RULES 6): 6, 7 or 8 from left to right, then what the facts leave.
 fn read_items(cal: &Calendar, items: &[Item], text: &[u8]) -> Reading {
     let mut facts: Facts = [None; 18];
     let mut at = 0;
@@ -499,7 +499,7 @@ fn read_items(cal: &Calendar, items: &[Item], text: &[u8]) -> Reading {
     judged(cal, &facts, at)
 }
 
-/// The day and the hour that the facts leave.
+/// The day and the hour that the facts leave (RULES 8).
 fn judged(cal: &Calendar, facts: &Facts, at: usize) -> Reading {
     let mut day = None;
     if facts[1..=12].iter().any(|f| f.is_some()) {

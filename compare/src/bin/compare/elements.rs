@@ -1,4 +1,4 @@
-//! The elements of an opened format, as include/larusqem.h numbers them.
+//! The elements of an opened format as numbers (RULES 10).
 use compare::rules::{self, Item};
 
 /// The most elements that a format opens to.
