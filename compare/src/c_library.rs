@@ -1,5 +1,5 @@
 //! The C library's strftime, in the C locale.
-use crate::paper01::{Calendar, Moment};
+use crate::rules::{Calendar, Moment};
 
 #[repr(C)]
 struct Tm {
@@ -18,7 +18,7 @@ struct Tm {
 
 mod c {
     extern "C" {
-        pub fn strftime(out: *mut u8, room: usize, format: *const u8, tm: *const super::Tm) -> usize;
+        pub(super) fn strftime(out: *mut u8, room: usize, format: *const u8, tm: *const super::Tm) -> usize;
     }
 }
 

@@ -1,6 +1,6 @@
-//! What the programs `compare` and `vectors` share: paper 01 once more, the C library's strftime, and random numbers.
+//! What the programs `compare` and `vectors` share: the rules once more, the C library's strftime, and random numbers.
 pub mod c_library;
 #[cfg(test)]
 mod margins;
-pub mod paper01;
 pub mod random;
+pub mod rules;

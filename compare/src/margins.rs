@@ -1,5 +1,5 @@
-//! The cases of paper 01, "Margins on both sides of the line", on `paper01.rs`: what is expected is typed from the paper.
-use crate::paper01::{read, write, Calendar, Moment, Reading};
+//! Cases worked by hand, on `rules.rs`: what is expected is typed, not computed.
+use crate::rules::{read, write, Calendar, Moment, Reading};
 
 const MORNING: Moment = [1934, 3, 5, 7, 8, 9];
 

@@ -1,8 +1,8 @@
-//! The writer against the C library's strftime where the two have the same rules: years of four digits, and every conversion of paper 01.
+//! The writer against the C library's strftime where the two have the same rules: years of four digits, and every conversion.
 use crate::library;
 use compare::c_library;
-use compare::paper01::Calendar;
 use compare::random::Random;
+use compare::rules::Calendar;
 
 /// The date conversions, on every day.
 const DATES: &[u8] = b"%a %A %b %B %C %d %e %g %G %h %j %m %u %U %V %w %W %y %Y";

@@ -1,7 +1,7 @@
 //! Random formats, moments and texts: well formed, damaged, contradictory, and nonsense.
 use crate::elements::LETTERS;
-use compare::paper01::{month_length, written, Calendar, Item, Moment, PAIRS};
 use compare::random::Random;
+use compare::rules::{month_length, written, Calendar, Item, Moment, PAIRS};
 
 const DATES: &[u8] = b"YCymdejuwaAbBhUWGgV";
 const TIMES: &[u8] = b"HkIlpPMS";
@@ -71,15 +71,14 @@ fn token(random: &mut Random, out: &mut Vec<u8>) {
         93..=98 => conversion(out, *random.pick(b"nt%")),
         _ => {
             // bad: an unknown letter, a wrong pair, a flag or a width, an unfinished conversion
-            let bad: &[u8] = match random.below(6) {
-                0 => &[b'%', random.next() as u8],
-                1 => &[b'%', b'E', random.next() as u8],
-                2 => &[b'%', b'O', random.next() as u8],
-                3 => b"%-d",
-                4 => b"%5Y",
-                _ => b"%",
-            };
-            out.extend_from_slice(bad);
+            match random.below(6) {
+                0 => out.extend([b'%', random.next() as u8]),
+                1 => out.extend([b'%', b'E', random.next() as u8]),
+                2 => out.extend([b'%', b'O', random.next() as u8]),
+                3 => out.extend(b"%-d"),
+                4 => out.extend(b"%5Y"),
+                _ => out.push(b'%'),
+            }
         }
     }
 }

@@ -1,5 +1,5 @@
-//! The elements of an opened format, as include/larusqem.h numbers them.
-use compare::paper01::{self, Item};
+//! The elements of an opened format as numbers (RULES 10).
+use compare::rules::{self, Item};
 
 /// The most elements that a format opens to.
 pub const MOST: usize = 6656;
@@ -18,7 +18,7 @@ fn element(item: &Item, offset: usize) -> u32 {
 fn item(entry: u32) -> Option<Item> {
     let low = entry as u8;
     match entry / 256 {
-        0 => Some(paper01::byte(low)),
+        0 => Some(rules::byte(low)),
         1..=1023 if LETTERS.contains(&low) => Some(Item::Conversion(low)),
         _ => None,
     }
@@ -40,9 +40,9 @@ pub struct Opened {
 
 impl Opened {
     pub fn new(format: &[u8]) -> Opened {
-        let (placed, bad) = match paper01::placed_items(format) {
+        let (placed, bad) = match rules::placed_items(format) {
             Ok(placed) => (placed, None),
-            Err(at) => (paper01::placed_items(&format[..at]).unwrap(), Some(at)),
+            Err(at) => (rules::placed_items(&format[..at]).unwrap(), Some(at)),
         };
         Opened {
             items: placed.iter().map(|(item, _)| *item).collect(),

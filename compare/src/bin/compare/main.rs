@@ -1,4 +1,4 @@
-//! Compares the proved library with an independent implementation of paper 01 (`paper01.rs`) on random cases, and its writer with the
+//! Compares the proved library with an independent implementation of the rules (`rules.rs`) on random cases, and its writer with the
 //! C library's strftime on every day of the years 1000 to 9999. Usage: compare SECONDS [SEED]
 mod c_days;
 mod cases;
@@ -6,8 +6,8 @@ mod elements;
 mod library;
 mod speed;
 
-use compare::paper01::{self, Calendar, Item, Reading};
 use compare::random::Random;
+use compare::rules::{self, Calendar, Item, Reading};
 use elements::Opened;
 use library::{Lent, WORDS};
 use std::collections::BTreeMap;
@@ -45,7 +45,7 @@ impl Tally {
     }
 }
 
-/// A reading as the fourteen words of include/larusqem.h.
+/// A reading as its fifteen words (RULES 10).
 fn words(r: &Reading) -> [u32; WORDS] {
     let mut w = [0; WORDS];
     w[0] = r.number;
@@ -66,7 +66,7 @@ fn words(r: &Reading) -> [u32; WORDS] {
     }
     if let Some([a, b]) = r.two_hours {
         w[6] = a;
-        w[11] = b;
+        w[14] = b;
     }
     w
 }
@@ -83,32 +83,32 @@ fn room(random: &mut Random, needed: usize) -> usize {
     }
 }
 
-/// `larusqem_strftime` by a format.
+/// `larusqem_strftime_words` by a format.
 fn compare_strftime(random: &mut Random, cal: &Calendar, tally: &mut Tally, format: &[u8]) {
     let m = cases::fields(random);
-    let needed = paper01::write(cal, format, &m, usize::MAX).2.len();
+    let needed = rules::write(cal, format, &m, usize::MAX).2.len();
     let room = room(random, needed);
-    let (number, place, bytes) = paper01::write(cal, format, &m, room);
+    let (number, place, bytes) = rules::write(cal, format, &m, room);
     let mut out = Lent::new(random, room, |n| n as u8);
     let found = library::strftime(format, &m, out.slice());
     tally.count("strftime", number);
     if found != (number, place) || !out.is(&bytes) {
-        tally.differs("larusqem_strftime", &(format, m, room, found, (number, place)));
+        tally.differs("larusqem_strftime_words", &(format, m, room, found, (number, place)));
     }
 }
 
-/// `larusqem_write` by elements, or by any entries.
+/// `larusqem_write_words` by elements, or by any entries.
 fn compare_write(random: &mut Random, cal: &Calendar, tally: &mut Tally, function: &'static str, entries: &[u32]) {
     let m = cases::fields(random);
     let opened = elements::items(entries);
-    let needed = paper01::write_opened(cal, &opened, &m, usize::MAX).2.len();
+    let needed = rules::write_opened(cal, &opened, &m, usize::MAX).2.len();
     let room = room(random, needed);
-    let (number, place, bytes) = paper01::write_opened(cal, &opened, &m, room);
+    let (number, place, bytes) = rules::write_opened(cal, &opened, &m, room);
     let mut out = Lent::new(random, room, |n| n as u8);
     let found = library::write(entries, &m, out.slice());
     tally.count(function, number);
     if found != (number, place) || !out.is(&bytes) {
-        tally.differs("larusqem_write", &(entries, m, room, found, (number, place)));
+        tally.differs("larusqem_write_words", &(entries, m, room, found, (number, place)));
     }
 }
 
@@ -130,20 +130,20 @@ fn names(items: &[Item], letters: &[u8]) -> bool {
     items.iter().any(|i| matches!(i, Item::Conversion(l) if letters.contains(l)))
 }
 
-/// `larusqem_read` by elements, or by any entries.
+/// `larusqem_read_words` by elements, or by any entries.
 fn compare_read(random: &mut Random, tally: &mut Tally, function: &'static str, entries: &[u32], text: &[u8], reading: &Reading) {
     let mut lent = Lent::new(random, WORDS, |n| n as u32);
     let found = library::read(entries, text, lent.slice());
     tally.count_reading(function, reading);
-    if found != reading.number || !lent.is(&words(reading)) {
-        tally.differs("larusqem_read", &(entries, text, found, lent.slice().to_vec(), reading));
+    if found != (reading.number, reading.place) || !lent.is(&words(reading)) {
+        tally.differs("larusqem_read_words", &(entries, text, found, lent.slice().to_vec(), reading));
     }
 }
 
 /// Both readers on a text.
 fn compare_reading(random: &mut Random, cal: &Calendar, tally: &mut Tally, format: &[u8], opened: &Opened) {
     let text = cases::text(random, cal, &opened.items);
-    let reading = paper01::read(cal, format, &text);
+    let reading = rules::read(cal, format, &text);
     let long = takes_long(&opened.items, &reading);
     if long && skipped(random, &opened.items) {
         return;
@@ -158,8 +158,8 @@ fn compare_reading(random: &mut Random, cal: &Calendar, tally: &mut Tally, forma
     let mut lent = Lent::new(random, WORDS, |n| n as u32);
     let found = library::strptime(format, &text, lent.slice());
     tally.count_reading("strptime", &reading);
-    if found != reading.number || !lent.is(&words(&reading)) {
-        tally.differs("larusqem_strptime", &(format, &text, found, lent.slice().to_vec(), &reading));
+    if found != (reading.number, reading.place) || !lent.is(&words(&reading)) {
+        tally.differs("larusqem_strptime_words", &(format, &text, found, lent.slice().to_vec(), &reading));
     }
 }
 
@@ -176,7 +176,7 @@ fn compare_opening(random: &mut Random, tally: &mut Tally, format: &[u8], opened
     };
     tally.count("open", expected.0);
     if found != expected || !lent.is(&all[..stored]) {
-        tally.differs("larusqem_open", &(format, room, found, expected));
+        tally.differs("larusqem_open_words", &(format, room, found, expected));
     }
 }
 
@@ -219,7 +219,7 @@ fn compare_strange(random: &mut Random, cal: &Calendar, tally: &mut Tally) {
     if random.chance(50) {
         text.truncate(1024 - random.below(4));
     }
-    let reading = paper01::read_opened(cal, &opened, &text);
+    let reading = rules::read_opened(cal, &opened, &text);
     if !takes_long(&good, &reading) || !skipped(random, &good) {
         compare_read(random, tally, "read, strange", &entries, &text, &reading);
     }
@@ -233,36 +233,56 @@ fn compare_days(random: &mut Random, cal: &Calendar, tally: &mut Tally) {
     for (i, d) in cal.days.iter().enumerate() {
         let (year, month, day) = d.date();
         let number = i as u32 + 1;
-        if library::day_number(year, month, day) != number || library::date(number) != year << 16 | month << 8 | day {
-            tally.differs("larusqem_day_number or larusqem_date", &(number, year, month, day));
+        let expected = [number, d.value(7), d.value(6), d.value(10), d.value(12)];
+        let found = library::of_date(year, month, day);
+        if found != expected {
+            tally.differs("the functions of a date", &(year, month, day, found, expected));
+        }
+        if library::date_word(number) != year << 16 | month << 8 | day {
+            tally.differs("larusqem_date_word", &(number, library::date_word(number)));
         }
     }
-    *tally.counts.entry(("day_number, date", 0, "")).or_insert(0) += cal.days.len() as u64;
+    *tally.counts.entry(("days", 0, "")).or_insert(0) += cal.days.len() as u64;
+    let mut no_date = |year: u32, month: u32, day: u32| {
+        if rules::bad_field(&[year, month, day, 0, 0, 0]).is_some() {
+            let found = library::of_date(year, month, day);
+            tally.count("no date", 0);
+            if found != [0; 5] {
+                tally.differs("the functions of a date that is none", &(year, month, day, found));
+            }
+        }
+    };
+    for year in 0..=10_000 {
+        for month in 0..=13 {
+            (0..=32).for_each(|day| no_date(year, month, day));
+        }
+    }
     for _ in 0..200_000 {
         let mut m = cases::fields(random);
         m[random.below(3)] = random.next() as u32;
-        if paper01::bad_field(&[m[0], m[1], m[2], 0, 0, 0]).is_some() && library::day_number(m[0], m[1], m[2]) != 0 {
-            tally.differs("larusqem_day_number", &m);
-        }
-        let number = *random.pick(&[0, 3_652_060, u32::MAX, m[0].max(3_652_060)]);
-        if library::date(number) != 0 {
-            tally.differs("larusqem_date", &number);
+        no_date(m[0], m[1], m[2]);
+    }
+    for _ in 0..200_000 {
+        let any = (random.next() as u32).max(3_652_060);
+        let number = *random.pick(&[0, 3_652_060, u32::MAX, any]);
+        if library::date_word(number) != 0 {
+            tally.differs("larusqem_date_word", &number);
         }
     }
 }
 
-/// The fast search of `paper01.rs` against asking every day.
+/// The fast search of `rules.rs` against asking every day.
 fn search_check(random: &mut Random, cal: &Calendar, tally: &mut Tally) {
     for _ in 0..150 {
         let m = cases::moment(random);
         let d = cal.find(m[0], m[1], m[2]);
-        let mut facts: paper01::Facts = [None; 18];
+        let mut facts: rules::Facts = [None; 18];
         for _ in 0..1 + random.below(5) {
             let kind = 1 + random.below(12);
             facts[kind] = Some(if random.chance(80) { d.value(kind) } else { cases::number(random, kind) });
         }
         if cal.first_two(&facts) != cal.first_two_slowly(&facts) {
-            tally.differs("paper01.rs, the fast search", &facts);
+            tally.differs("rules.rs, the fast search", &facts);
         }
     }
 }
@@ -287,7 +307,7 @@ fn main() {
     compare_days(&mut random, &cal, &mut tally);
     println!("{:6.1} s  the calendar, day by day", began.elapsed().as_secs_f64());
 
-    let days = c_days::compare(&mut random, &cal, |case| tally.differs("larusqem_strftime against the C library", case));
+    let days = c_days::compare(&mut random, &cal, |case| tally.differs("larusqem_strftime_words against the C library", case));
     println!("{:6.1} s  the C library's strftime: {days} days of the years 1000 to 9999, every conversion", began.elapsed().as_secs_f64());
 
     let cases_began = Instant::now();

@@ -1,6 +1,5 @@
-//! Writes and reads per second of the library alone.
+//! Writes and reads per second of the library alone. Calls of C functions stay where they are: nothing is optimised away.
 use crate::library;
-use std::hint::black_box;
 use std::time::{Duration, Instant};
 
 fn rate(name: &str, mut once: impl FnMut(u32)) {
@@ -23,10 +22,10 @@ fn write(format: &str) {
     let mut out = [0u8; 128];
     let moment = |n: u32| [1900 + n % 200, 1 + n % 12, 1 + n % 28, n % 24, n % 60, n % 60];
     rate(&format!("write \"{format}\""), |n| {
-        black_box(library::strftime(black_box(format.as_bytes()), &moment(n), &mut out));
+        library::strftime(format.as_bytes(), &moment(n), &mut out);
     });
     rate(&format!("write \"{format}\", opened once"), |n| {
-        black_box(library::write(black_box(elements), &moment(n), &mut out));
+        library::write(elements, &moment(n), &mut out);
     });
 }
 
@@ -34,12 +33,12 @@ fn read(format: &str, text: &str) {
     let mut elements = [0; 6656];
     let (_, count) = library::open(format.as_bytes(), &mut elements);
     let elements = &elements[..count as usize];
-    let mut words = [0u32; 14];
+    let mut words = [0; library::WORDS];
     rate(&format!("read \"{text}\" by \"{format}\""), |_| {
-        black_box(library::strptime(black_box(format.as_bytes()), black_box(text.as_bytes()), &mut words));
+        library::strptime(format.as_bytes(), text.as_bytes(), &mut words);
     });
     rate(&format!("read \"{text}\" by \"{format}\", opened once"), |_| {
-        black_box(library::read(black_box(elements), black_box(text.as_bytes()), &mut words));
+        library::read(elements, text.as_bytes(), &mut words);
     });
 }
 

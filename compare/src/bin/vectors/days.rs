@@ -1,6 +1,6 @@
 //! What the program every_day must write: one line for each century of years (0 to 99, 100 to 199, .., 9900 to 9999), its last year and a
 //! digest of all its days. tests/every_day.py says of which values.
-use compare::paper01::{Calendar, Day};
+use compare::rules::{Calendar, Day};
 use std::io::Write;
 
 const M: u64 = 4_294_967_291; // prime

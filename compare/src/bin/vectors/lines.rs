@@ -1,18 +1,18 @@
-//! Inputs for the program date_lines, and what it must write: paper 01's paragraph "Program", each sentence at least once.
-//! For the paper's example, case `paper`, the output is the paper's own.
+//! Inputs for the program date_lines, and what it must write: each of its rules (RULES 9) at least once.
+//! For case `example` the output is typed, not computed.
 use crate::{cat, Counts};
-use compare::paper01::{read, Calendar};
+use compare::rules::{read, Calendar};
 use std::fs;
 use std::path::Path;
 
 /// The bytes of an input, at most.
 const MOST: usize = 32768;
 
-const PAPER_INPUT: &str = "%d %b %Y %H:%M
+const EXAMPLE_INPUT: &str = "%d %b %Y %H:%M
 5 Mar 1934 07:08
 29 Feb 1900 07:08
 ";
-const PAPER_OUTPUT: &str = "number place date time
+const EXAMPLE_OUTPUT: &str = "number place date time
 0 16 1934-03-05 07:08:--
 9 1 - --:--:--
 ";
@@ -53,11 +53,11 @@ fn filled(lines: &[u8], size: usize) -> Vec<u8> {
 fn cases() -> Vec<(&'static str, Vec<u8>)> {
     let any: Vec<u8> = (0..=255).filter(|b| *b != b'\n').collect();
     let any_ordinary: Vec<u8> = any.iter().flat_map(|b| if *b == b'%' { vec![b'%', b'%'] } else { vec![*b] }).collect();
-    let paper = PAPER_INPUT.as_bytes();
+    let example = EXAMPLE_INPUT.as_bytes();
     vec![
         // lines
-        ("paper", paper.to_vec()),
-        ("no_last_newline", paper[..paper.len() - 1].to_vec()),
+        ("example", example.to_vec()),
+        ("no_last_newline", example[..example.len() - 1].to_vec()),
         ("empty", b"".to_vec()),
         ("format_only", b"%Y\n".to_vec()),
         ("format_only_no_newline", b"%Y".to_vec()),
@@ -105,7 +105,7 @@ fn cases() -> Vec<(&'static str, Vec<u8>)> {
 }
 
 pub fn make(cal: &Calendar, directory: &Path) -> std::io::Result<()> {
-    assert_eq!(report(cal, PAPER_INPUT.as_bytes()), PAPER_OUTPUT);
+    assert_eq!(report(cal, EXAMPLE_INPUT.as_bytes()), EXAMPLE_OUTPUT);
     let cases = cases();
     let mut counts = Counts::default();
     fs::create_dir_all(directory)?;

@@ -1,4 +1,4 @@
-//! Makes what the programs of crates/ are run on and what they must write, by `paper01.rs` and without the proved library:
+//! Makes what the programs of crates/ are run on and what they must write, by `rules.rs` and without the proved library:
 //!
 //!     vectors write INPUT OUTPUT    the input of write_cases, and what it must write
 //!     vectors read INPUT OUTPUT     the input of read_cases, and what it must write
@@ -12,7 +12,7 @@ mod lines;
 mod read;
 mod write;
 
-use compare::paper01::Calendar;
+use compare::rules::Calendar;
 use std::collections::BTreeMap;
 use std::path::Path;
 

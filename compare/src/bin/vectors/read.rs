@@ -7,8 +7,8 @@
 //! one hour.
 use crate::{cat, Counts};
 use compare::c_library;
-use compare::paper01::{numeric, read, write, Calendar, Moment, Reading, HALVES, MONTHS, WEEKDAYS};
 use compare::random::Random;
+use compare::rules::{numeric, read, write, Calendar, Moment, Reading, HALVES, MONTHS, WEEKDAYS};
 use std::fs;
 use std::path::Path;
 
@@ -310,7 +310,6 @@ impl Cases<'_> {
         self.add("%S %I", "60 12");
         self.add("%M %Y", "7 1934");
         self.add("%M %F", "8 1934-03-05");
-        // two of the paper's cases
         self.add("%H%M", "930");
         self.add("%I:%M", "07:08");
     }

@@ -7,8 +7,8 @@
 //! Where the C library's strftime has the same rules, what is written is compared with it too.
 use crate::{cat, Counts};
 use compare::c_library;
-use compare::paper01::{month_length, write, Calendar, Moment, PAIRS};
 use compare::random::Random;
+use compare::rules::{month_length, write, Calendar, Moment, PAIRS};
 use std::fs;
 use std::path::Path;
 

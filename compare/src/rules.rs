@@ -1,7 +1,7 @@
-//! Paper 01 once more, in plain Rust: written from the paper's text alone, to be compared with the proved library and to make vectors.
-//! It shares no code and no table with the library or its bindings, and takes the slow, literal way wherever the
-//! paper names one: weeks are counted by walking the calendar day by day, and a reading is judged against every day.
-//! Python's datetime module judges its calendar (`vectors days` and tests/every_day.py), the paper's own cases its rules (`margins.rs`).
+//! The rules of docs/RULES.md once more, in plain Rust: written from their text alone, to be compared with the proved library and to make
+//! vectors. It shares no code and no table with the library or its bindings, and takes the slow, literal way wherever there is one: weeks
+//! are counted by walking the calendar day by day, and a reading is judged against every day. Python's datetime module judges its calendar
+//! (`vectors days` and tests/every_day.py), cases worked by hand its rules (`margins.rs`).
 
 /// The last day of the calendar, 9999-12-31.
 pub const DAYS: usize = 3_652_059;
@@ -66,7 +66,7 @@ impl Day {
     }
 }
 
-/// Every day of the calendar, in order, and for each kind and number the days that show it, as bits.
+/// Every day of the calendar (RULES 2), in order, and for each kind and number the days that show it, as bits.
 pub struct Calendar {
     pub days: Vec<Day>,
     /// Where each year begins in `days`; one more entry for the end.
@@ -178,10 +178,10 @@ impl Calendar {
     }
 }
 
-/// At each kind 1 to 17 the number said, if one was. AM is 0 and PM is 1.
+/// At each kind 1 to 17 (RULES 7) the number said, if one was. AM is 0 and PM is 1.
 pub type Facts = [Option<u32>; 18];
 
-/// What a format's elements ask for, composites opened.
+/// What a format's elements ask for (RULES 4), composites opened.
 #[derive(Clone, Copy, PartialEq, Eq, Debug)]
 pub enum Item {
     /// A byte that copies itself and must be met.
@@ -295,7 +295,7 @@ fn twelve(hour: u32) -> u32 {
     }
 }
 
-/// What the items write for a valid moment.
+/// What the items write for a valid moment (RULES 5).
 pub fn written(cal: &Calendar, items: &[Item], m: &Moment) -> Vec<u8> {
     let d = cal.find(m[0], m[1], m[2]);
     let mut out = Vec::new();
@@ -367,7 +367,7 @@ pub fn write_opened(cal: &Calendar, opened: &Result<Vec<Item>, usize>, m: &Momen
     }
 }
 
-/// What the reader answers. Whatever the number's row does not name is zero or unsaid.
+/// What the reader answers (RULES 3): whatever the number does not bring with it is zero or unsaid.
 #[derive(Clone, Default, PartialEq, Eq, Debug)]
 pub struct Reading {
     pub number: u32,
@@ -445,7 +445,7 @@ fn name_at(text: &[u8], names: &[&str]) -> Option<(u32, usize)> {
     None
 }
 
-/// What the items read: 6, 7 or 8 from left to right, then what the facts leave.
+/// What the items read (RULES 6): 6, 7 or 8 from left to right, then what the facts leave.
 fn read_items(cal: &Calendar, items: &[Item], text: &[u8]) -> Reading {
     let mut facts: Facts = [None; 18];
     let mut at = 0;
@@ -499,7 +499,7 @@ fn read_items(cal: &Calendar, items: &[Item], text: &[u8]) -> Reading {
     judged(cal, &facts, at)
 }
 
-/// The day and the hour that the facts leave.
+/// The day and the hour that the facts leave (RULES 8).
 fn judged(cal: &Calendar, facts: &Facts, at: usize) -> Reading {
     let mut day = None;
     if facts[1..=12].iter().any(|f| f.is_some()) {
@@ -512,9 +512,8 @@ fn judged(cal: &Calendar, facts: &Facts, at: usize) -> Reading {
     }
     let mut hour = None;
     if facts[13..=15].iter().any(|f| f.is_some()) {
-        let fits = |h: &u32| {
-            facts[13].is_none_or(|n| n == *h) && facts[14].is_none_or(|n| n == twelve(*h)) && facts[15].is_none_or(|n| n == *h / 12)
-        };
+        let agrees = |kind: usize, number: u32| facts[kind].is_none() || facts[kind] == Some(number);
+        let fits = |h: &u32| agrees(13, *h) && agrees(14, twelve(*h)) && agrees(15, *h / 12);
         let found: Vec<u32> = (0..24).filter(fits).collect();
         match found[..] {
             [] => return refused(9, 2),

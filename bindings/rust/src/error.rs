@@ -1,0 +1,357 @@
+//! Why something is refused, by the numbers and places of RULES 3.
+use crate::date::Date;
+use crate::ffi;
+use core::fmt;
+
+/// A field of a moment.
+#[derive(Clone, Copy, PartialEq, Eq, Hash, Debug)]
+#[non_exhaustive]
+pub enum Field {
+    /// 1 to 9999.
+    Year,
+    /// 1 to 12.
+    Month,
+    /// 1 to the month's length.
+    Day,
+    /// 0 to 23.
+    Hour,
+    /// 0 to 59.
+    Minute,
+    /// 0 to 60.
+    Second,
+}
+
+impl Field {
+    const ALL: [Field; 6] = [Field::Year, Field::Month, Field::Day, Field::Hour, Field::Minute, Field::Second];
+}
+
+impl fmt::Display for Field {
+    fn fmt(&self, f: &mut fmt::Formatter) -> fmt::Result {
+        f.pad(match self {
+            Field::Year => "year",
+            Field::Month => "month",
+            Field::Day => "day",
+            Field::Hour => "hour",
+            Field::Minute => "minute",
+            Field::Second => "second",
+        })
+    }
+}
+
+/// A field is outside its range: there is no such date or moment.
+#[derive(Clone, Copy, PartialEq, Eq, Hash, Debug)]
+pub struct FieldError {
+    field: Field,
+}
+
+impl FieldError {
+    /// Refuses words that are no moment: it is the writer that judges them, here for an empty text.
+    pub(crate) fn check(moment: &ffi::MomentWords) -> Result<(), FieldError> {
+        match ffi::write(&[], moment, &mut []) {
+            (0, _) => Ok(()),
+            (2, place) => Err(FieldError { field: Field::ALL[place - 1] }),
+            (number, _) => unreachable!("an empty text is not refused by {number}"),
+        }
+    }
+
+    /// The first field that is outside its range.
+    pub fn field(&self) -> Field {
+        self.field
+    }
+
+    /// The refusal's number.
+    pub fn number(&self) -> u32 {
+        2
+    }
+
+    /// The refusal's place.
+    pub fn place(&self) -> usize {
+        self.field as usize + 1
+    }
+}
+
+impl fmt::Display for FieldError {
+    fn fmt(&self, f: &mut fmt::Formatter) -> fmt::Result {
+        let range = match self.field {
+            Field::Year => "1 to 9999",
+            Field::Month => "1 to 12",
+            Field::Day => "1 to the month's length",
+            Field::Hour => "0 to 23",
+            Field::Minute => "0 to 59",
+            Field::Second => "0 to 60",
+        };
+        write!(f, "the {} is not {range}", self.field)
+    }
+}
+
+/// Why a text is no date `YYYY-MM-DD` or no moment `YYYY-MM-DD HH:MM:SS`.
+#[derive(Clone, Copy, PartialEq, Eq, Hash, Debug)]
+#[non_exhaustive]
+pub enum ParseError {
+    /// It has another shape.
+    Shape {
+        /// The first offset of the text where the shape does not go on.
+        offset: usize,
+    },
+    /// It has the shape, and names what is not there.
+    Field(FieldError),
+}
+
+impl fmt::Display for ParseError {
+    fn fmt(&self, f: &mut fmt::Formatter) -> fmt::Result {
+        match self {
+            ParseError::Shape { offset } => write!(f, "the text has another shape from byte {offset}"),
+            ParseError::Field(_) => write!(f, "no such date or time"),
+        }
+    }
+}
+
+impl From<FieldError> for ParseError {
+    fn from(error: FieldError) -> ParseError {
+        ParseError::Field(error)
+    }
+}
+
+/// Why a format cannot be opened.
+#[derive(Clone, Copy, PartialEq, Eq, Hash, Debug)]
+#[non_exhaustive]
+pub enum FormatError {
+    /// 1: it has more than 1,024 bytes.
+    TooLong,
+    /// 3: a conversion is unknown or unfinished.
+    BadConversion {
+        /// Where its `%` stands in the format.
+        offset: usize,
+    },
+}
+
+impl FormatError {
+    /// The refusal's number.
+    pub fn number(&self) -> u32 {
+        match self {
+            FormatError::TooLong => 1,
+            FormatError::BadConversion { .. } => 3,
+        }
+    }
+
+    /// The refusal's place.
+    pub fn place(&self) -> usize {
+        match *self {
+            FormatError::TooLong => 0,
+            FormatError::BadConversion { offset } => offset,
+        }
+    }
+}
+
+impl fmt::Display for FormatError {
+    fn fmt(&self, f: &mut fmt::Formatter) -> fmt::Result {
+        match self {
+            FormatError::TooLong => write!(f, "the format has more than 1024 bytes"),
+            FormatError::BadConversion { offset } => write!(f, "unknown or unfinished conversion at byte {offset} of the format"),
+        }
+    }
+}
+
+/// Why a moment is not written. The buffer is then as it came.
+#[derive(Clone, Copy, PartialEq, Eq, Hash, Debug)]
+#[non_exhaustive]
+pub enum WriteError {
+    /// 1 or 3: the format cannot be opened.
+    Format(FormatError),
+    /// 4: the text is longer than the buffer.
+    BufferTooSmall {
+        /// How many bytes it has.
+        needed: usize,
+    },
+}
+
+impl WriteError {
+    /// What the writer answers for a valid moment: how many bytes, or why none.
+    pub(crate) fn judge((number, place): (u32, usize)) -> Result<usize, WriteError> {
+        match number {
+            0 => Ok(place),
+            1 => Err(WriteError::Format(FormatError::TooLong)),
+            3 => Err(WriteError::Format(FormatError::BadConversion { offset: place })),
+            4 => Err(WriteError::BufferTooSmall { needed: place }),
+            _ => unreachable!("the writer refuses no valid moment by {number}"),
+        }
+    }
+
+    /// The refusal's number.
+    pub fn number(&self) -> u32 {
+        match self {
+            WriteError::Format(error) => error.number(),
+            WriteError::BufferTooSmall { .. } => 4,
+        }
+    }
+
+    /// The refusal's place.
+    pub fn place(&self) -> usize {
+        match *self {
+            WriteError::Format(error) => error.place(),
+            WriteError::BufferTooSmall { needed } => needed,
+        }
+    }
+}
+
+impl fmt::Display for WriteError {
+    fn fmt(&self, f: &mut fmt::Formatter) -> fmt::Result {
+        match self {
+            WriteError::Format(_) => write!(f, "the format cannot be opened"),
+            WriteError::BufferTooSmall { needed } => write!(f, "the text has {needed} bytes, more than the buffer"),
+        }
+    }
+}
+
+impl From<FormatError> for WriteError {
+    fn from(error: FormatError) -> WriteError {
+        WriteError::Format(error)
+    }
+}
+
+/// Why a text is not read. Judged are 1, 5, 3, then 6, 7 and 8 from left to right, then 9 or 10 for the day, then 9 or 10 for the hour.
+///
+/// ```
+/// use larusqem::{strptime, Date, FormatError, ReadError};
+///
+/// assert_eq!(strptime("%d %Q", "5 x"), Err(ReadError::Format(FormatError::BadConversion { offset: 3 })));
+/// assert_eq!(strptime("%F", "1934-March"), Err(ReadError::NoMatch { offset: 5 }));
+/// assert_eq!(strptime("%H%M", "930"), Err(ReadError::OutOfRange { offset: 0 }));
+/// assert_eq!(strptime("%d %e", "5 6"), Err(ReadError::Contradiction { offset: 2 }));
+/// assert_eq!(strptime("%G %V %u", "2016 53 7"), Err(ReadError::NoDay));
+/// assert_eq!(strptime("%H %p", "7 PM"), Err(ReadError::NoHour));
+/// assert_eq!(
+///     strptime("%d %b", "5 mar"),
+///     Err(ReadError::TwoDays { first: Date::new(1, 3, 5).unwrap(), second: Date::new(2, 3, 5).unwrap() })
+/// );
+/// assert_eq!(strptime("%I:%M", "07:08"), Err(ReadError::TwoHours { first: 7, second: 19 }));
+///
+/// let refusal = strptime("%I:%M", "07:08").unwrap_err();
+/// assert_eq!((refusal.number(), refusal.place()), (10, 2));
+/// ```
+#[derive(Clone, Copy, PartialEq, Eq, Hash, Debug)]
+#[non_exhaustive]
+pub enum ReadError {
+    /// 1 or 3: the format cannot be opened.
+    Format(FormatError),
+    /// 5: the text has more than 1,024 bytes.
+    TextTooLong,
+    /// 6: the text does not match the format.
+    NoMatch {
+        /// Where in the text.
+        offset: usize,
+    },
+    /// 7: a number is outside its range.
+    OutOfRange {
+        /// Where its first digit stands in the text.
+        offset: usize,
+    },
+    /// 8: a fact is said again, differently.
+    Contradiction {
+        /// Where its first digit or letter stands in the text.
+        offset: usize,
+    },
+    /// 9, place 1: no day fits all that is said.
+    NoDay,
+    /// 9, place 2: no hour fits all that is said.
+    NoHour,
+    /// 10, place 1: two or more days fit.
+    TwoDays {
+        /// The earliest.
+        first: Date,
+        /// The next.
+        second: Date,
+    },
+    /// 10, place 2: two or more hours fit.
+    TwoHours {
+        /// The earliest.
+        first: u32,
+        /// The next.
+        second: u32,
+    },
+}
+
+impl ReadError {
+    /// The refusal's number.
+    pub fn number(&self) -> u32 {
+        match self {
+            ReadError::Format(error) => error.number(),
+            ReadError::TextTooLong => 5,
+            ReadError::NoMatch { .. } => 6,
+            ReadError::OutOfRange { .. } => 7,
+            ReadError::Contradiction { .. } => 8,
+            ReadError::NoDay | ReadError::NoHour => 9,
+            ReadError::TwoDays { .. } | ReadError::TwoHours { .. } => 10,
+        }
+    }
+
+    /// The refusal's place.
+    pub fn place(&self) -> usize {
+        match *self {
+            ReadError::Format(error) => error.place(),
+            ReadError::TextTooLong => 0,
+            ReadError::NoMatch { offset } | ReadError::OutOfRange { offset } | ReadError::Contradiction { offset } => offset,
+            ReadError::NoDay | ReadError::TwoDays { .. } => 1,
+            ReadError::NoHour | ReadError::TwoHours { .. } => 2,
+        }
+    }
+}
+
+impl fmt::Display for ReadError {
+    fn fmt(&self, f: &mut fmt::Formatter) -> fmt::Result {
+        match self {
+            ReadError::Format(_) => write!(f, "the format cannot be opened"),
+            ReadError::TextTooLong => write!(f, "the text has more than 1024 bytes"),
+            ReadError::NoMatch { offset } => write!(f, "the text does not match the format at byte {offset}"),
+            ReadError::OutOfRange { offset } => write!(f, "the number at byte {offset} of the text is outside its range"),
+            ReadError::Contradiction { offset } => write!(f, "what stands at byte {offset} of the text was said before, differently"),
+            ReadError::NoDay => write!(f, "no day fits all that the text says"),
+            ReadError::NoHour => write!(f, "no hour fits all that the text says"),
+            ReadError::TwoDays { first, second } => write!(f, "two or more days fit what the text says: {first}, {second}"),
+            ReadError::TwoHours { first, second } => write!(f, "two or more hours fit what the text says: {first}, {second}"),
+        }
+    }
+}
+
+impl From<FormatError> for ReadError {
+    fn from(error: FormatError) -> ReadError {
+        ReadError::Format(error)
+    }
+}
+
+#[cfg(feature = "std")]
+mod sources {
+    use super::{FieldError, FormatError, ParseError, ReadError, WriteError};
+    use std::error::Error;
+
+    impl Error for FieldError {}
+
+    impl Error for FormatError {}
+
+    impl Error for ParseError {
+        fn source(&self) -> Option<&(dyn Error + 'static)> {
+            match self {
+                ParseError::Field(error) => Some(error),
+                _ => None,
+            }
+        }
+    }
+
+    impl Error for WriteError {
+        fn source(&self) -> Option<&(dyn Error + 'static)> {
+            match self {
+                WriteError::Format(error) => Some(error),
+                _ => None,
+            }
+        }
+    }
+
+    impl Error for ReadError {
+        fn source(&self) -> Option<&(dyn Error + 'static)> {
+            match self {
+                ReadError::Format(error) => Some(error),
+                _ => None,
+            }
+        }
+    }
+}

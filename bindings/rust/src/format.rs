@@ -1,0 +1,127 @@
+//! Formats that are opened once.
+use crate::error::{FormatError, ReadError, WriteError};
+use crate::ffi;
+use crate::moment::Moment;
+use crate::reading::Reading;
+use alloc::boxed::Box;
+use alloc::string::{FromUtf8Error, String};
+use alloc::vec;
+use alloc::vec::Vec;
+use core::str::FromStr;
+
+/// A format (RULES 4) that was opened once, for any number of writings and readings.
+///
+/// ```
+/// use larusqem::{Date, Format, FormatError, Moment};
+///
+/// let format = Format::new("%Y-%m-%d").unwrap();
+/// for number in 700_000..700_100 {
+///     let date = Date::from_day_number(number).unwrap();
+///     let text = format.write(Moment::midnight(date));
+///     assert_eq!(text, date.to_string().as_bytes());
+///     assert_eq!(format.read(&text).unwrap().date, Some(date));
+/// }
+/// assert_eq!(Format::new("100%").unwrap_err(), FormatError::BadConversion { offset: 3 });
+/// ```
+#[derive(Clone, PartialEq, Eq, Hash, Debug)]
+pub struct Format {
+    elements: Box<[u32]>,
+}
+
+impl Format {
+    /// Opens a format.
+    pub fn new(format: impl AsRef<[u8]>) -> Result<Format, FormatError> {
+        let format = format.as_ref();
+        // an entry for each byte is enough where there are no composites, and no format is opened that has more bytes
+        let mut elements = vec![0; format.len().min(1024)];
+        let opened = match ffi::open(format, &mut elements) {
+            (4, needed) => {
+                elements.resize(needed, 0);
+                ffi::open(format, &mut elements)
+            }
+            opened => opened,
+        };
+        match opened {
+            (0, count) => {
+                elements.truncate(count);
+                Ok(Format { elements: elements.into() })
+            }
+            (1, _) => Err(FormatError::TooLong),
+            (3, offset) => Err(FormatError::BadConversion { offset }),
+            (number, _) => unreachable!("a format with room for its elements is not refused by {number}"),
+        }
+    }
+
+    /// Writes a moment over the start of `out`, and says how many bytes that is. A refusal leaves all of `out` as it came; the only one
+    /// is that `out` is too small.
+    ///
+    /// ```
+    /// use larusqem::{Format, Moment, WriteError};
+    ///
+    /// let format = Format::new("%H:%M").unwrap();
+    /// let moment: Moment = "1934-03-05 07:08:09".parse().unwrap();
+    /// let mut out = [b'.'; 8];
+    /// assert_eq!(format.write_to(moment, &mut out), Ok(5));
+    /// assert_eq!(&out, b"07:08...");
+    /// assert_eq!(format.write_to(moment, &mut out[..4]), Err(WriteError::BufferTooSmall { needed: 5 }));
+    /// ```
+    pub fn write_to(&self, moment: Moment, out: &mut [u8]) -> Result<usize, WriteError> {
+        WriteError::judge(ffi::write(&self.elements, &moment.words(), out))
+    }
+
+    /// Writes a moment.
+    ///
+    /// ```
+    /// use larusqem::{Date, Format, Moment};
+    ///
+    /// let format = Format::new("%G-W%V-%u").unwrap();
+    /// assert_eq!(format.write(Moment::midnight(Date::new(2017, 1, 1).unwrap())), b"2016-W52-7");
+    /// ```
+    pub fn write(&self, moment: Moment) -> Vec<u8> {
+        let mut out = vec![0; 64];
+        let written = self.write_to(moment, &mut out).or_else(|refused| {
+            out.resize(refused.place(), 0);
+            self.write_to(moment, &mut out)
+        });
+        out.truncate(written.expect("an opened format is refused only for room, and says how much"));
+        out
+    }
+
+    /// Writes a moment as a `String`. This fails only where the format itself is not UTF-8, since its bytes are copied.
+    ///
+    /// ```
+    /// use larusqem::{Date, Format, Moment};
+    ///
+    /// let noon = Moment::new(Date::new(1934, 3, 5).unwrap(), 12, 0, 0).unwrap();
+    /// assert_eq!(Format::new("%l°").unwrap().write_string(noon).unwrap(), "12°");
+    /// assert!(Format::new(b"%l\xb0").unwrap().write_string(noon).is_err());
+    /// ```
+    pub fn write_string(&self, moment: Moment) -> Result<String, FromUtf8Error> {
+        String::from_utf8(self.write(moment))
+    }
+
+    /// Reads a text (RULES 6 to 8). Text left over is no refusal: [`Reading::is_whole`] tells.
+    ///
+    /// ```
+    /// use larusqem::{Format, ReadError};
+    ///
+    /// let format = Format::new("%I:%M %p").unwrap();
+    /// assert_eq!(format.read("12:30 am").unwrap().hour, Some(0));
+    /// assert_eq!(format.read("12:30 noon"), Err(ReadError::NoMatch { offset: 6 }));
+    ///
+    /// let text = "12:30 AM, after midnight";
+    /// assert!(!format.read(text).unwrap().is_whole(text));
+    /// ```
+    pub fn read(&self, text: impl AsRef<[u8]>) -> Result<Reading, ReadError> {
+        Reading::from_words(ffi::read(&self.elements, text.as_ref()))
+    }
+}
+
+/// As [`Format::new`].
+impl FromStr for Format {
+    type Err = FormatError;
+
+    fn from_str(format: &str) -> Result<Format, FormatError> {
+        Format::new(format)
+    }
+}

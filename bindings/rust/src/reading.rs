@@ -1,0 +1,100 @@
+//! What a text says.
+use crate::date::Date;
+use crate::error::{FormatError, ReadError};
+use crate::ffi;
+use crate::moment::Moment;
+use core::fmt;
+
+/// What a text says: the day and the hour are the only ones that all that it says fits. What it does not say is `None`, and never filled
+/// in.
+#[derive(Clone, Copy, PartialEq, Eq, Hash, Debug)]
+#[non_exhaustive]
+pub struct Reading {
+    /// The first unread offset of the text.
+    pub unread: usize,
+    /// The day, where anything said bears on it.
+    pub date: Option<Date>,
+    /// The hour, 0 to 23, where anything said bears on it.
+    pub hour: Option<u32>,
+    /// The minute, 0 to 59, where it was said.
+    pub minute: Option<u32>,
+    /// The second, 0 to 60, where it was said.
+    pub second: Option<u32>,
+}
+
+impl Reading {
+    /// Whether all of the text was read. Text left over is no refusal, so that only a whole reading has seen all that stands there:
+    ///
+    /// ```
+    /// use larusqem::strptime;
+    ///
+    /// for text in ["5 Mar 1934", "5 Mar 19345", "5 Mar 1934?? perhaps 1935"] {
+    ///     let reading = strptime("%d %b %Y", text).unwrap();
+    ///     assert_eq!(reading.date.unwrap().to_string(), "1934-03-05");
+    ///     assert_eq!(reading.is_whole(text), text == "5 Mar 1934");
+    /// }
+    /// ```
+    pub fn is_whole(&self, text: impl AsRef<[u8]>) -> bool {
+        self.unread == text.as_ref().len()
+    }
+
+    /// The moment, where day, hour, minute and second are all said.
+    ///
+    /// ```
+    /// use larusqem::strptime;
+    ///
+    /// let reading = strptime("%F %T", "1934-03-05 7:08:09").unwrap();
+    /// assert_eq!(reading.moment().unwrap().to_string(), "1934-03-05 07:08:09");
+    /// assert_eq!(strptime("%F", "1934-03-05").unwrap().moment(), None);
+    /// ```
+    pub fn moment(&self) -> Option<Moment> {
+        Moment::new(self.date?, self.hour?, self.minute?, self.second?).ok()
+    }
+
+    /// What the words of a reading say.
+    pub(crate) fn from_words(words: ffi::ReadingWords) -> Result<Reading, ReadError> {
+        let [number, place, year, month, day, hour_said, hour, minute_said, minute, second_said, second, ..] = words;
+        let [.., other_year, other_month, other_day, other_hour] = words;
+        let offset = place as usize;
+        let said = |said: u32, number: u32| (said == 1).then_some(number);
+        Err(match (number, place) {
+            (0, _) => {
+                return Ok(Reading {
+                    unread: offset,
+                    date: (year != 0).then(|| Date::known(year, month, day)),
+                    hour: said(hour_said, hour),
+                    minute: said(minute_said, minute),
+                    second: said(second_said, second),
+                })
+            }
+            (1, _) => ReadError::Format(FormatError::TooLong),
+            (3, _) => ReadError::Format(FormatError::BadConversion { offset }),
+            (5, _) => ReadError::TextTooLong,
+            (6, _) => ReadError::NoMatch { offset },
+            (7, _) => ReadError::OutOfRange { offset },
+            (8, _) => ReadError::Contradiction { offset },
+            (9, 1) => ReadError::NoDay,
+            (9, _) => ReadError::NoHour,
+            (10, 1) => ReadError::TwoDays { first: Date::known(year, month, day), second: Date::known(other_year, other_month, other_day) },
+            (10, _) => ReadError::TwoHours { first: hour, second: other_hour },
+            _ => unreachable!("the reader answers no number {number}"),
+        })
+    }
+}
+
+/// As the program `date_lines` shows it: `1934-03-05 07:08:--`, an unsaid day `-` and an unsaid hour, minute or second `--`.
+impl fmt::Display for Reading {
+    fn fmt(&self, f: &mut fmt::Formatter) -> fmt::Result {
+        match self.date {
+            Some(date) => write!(f, "{date}")?,
+            None => f.write_str("-")?,
+        }
+        for (before, said) in [(' ', self.hour), (':', self.minute), (':', self.second)] {
+            match said {
+                Some(number) => write!(f, "{before}{number:02}")?,
+                None => write!(f, "{before}--")?,
+            }
+        }
+        Ok(())
+    }
+}

@@ -1,0 +1,236 @@
+//! Worked cases through the Rust types, by a format that is opened once and by one that is not.
+use larusqem::{strftime, strptime, Date, Field, Format, FormatError, Moment, ParseError, ReadError, Reading, Weekday, WriteError};
+
+fn date(year: u32, month: u32, day: u32) -> Date {
+    Date::new(year, month, day).unwrap()
+}
+
+fn moment(text: &str) -> Moment {
+    text.parse().unwrap()
+}
+
+fn midnight(year: u32, month: u32, day: u32) -> Moment {
+    Moment::midnight(date(year, month, day))
+}
+
+fn write(format: &str, m: Moment) -> String {
+    let mut out = [0; 64];
+    let n = strftime(format, m, &mut out).unwrap();
+    let opened = Format::new(format).unwrap();
+    assert_eq!(opened.write(m), &out[..n]);
+    let text = opened.write_string(m).unwrap();
+    assert_eq!(text.as_bytes(), &out[..n]);
+    text
+}
+
+fn read(format: &str, text: &str) -> Result<Reading, ReadError> {
+    let answer = strptime(format, text);
+    assert_eq!(Format::new(format).unwrap().read(text), answer);
+    answer
+}
+
+#[test]
+fn writing() {
+    assert_eq!(write("%c", moment("1934-03-05 07:08:09")), "Mon Mar  5 07:08:09 1934");
+    assert_eq!(write("%j %U %W %G-%V", midnight(1934, 3, 5)), "064 09 10 1934-10");
+    assert_eq!(write("%G %V", midnight(2010, 1, 1)), "2009 53");
+    assert_eq!(write("%G %V", midnight(2010, 1, 4)), "2010 01");
+    assert_eq!(write("%G %V", midnight(2011, 1, 2)), "2010 52");
+    assert_eq!(write("%G %V", midnight(2017, 1, 1)), "2016 52");
+    assert_eq!(write("%A", midnight(2000, 2, 29)), "Tuesday");
+    assert_eq!(write("", midnight(1, 1, 1)), "");
+}
+
+#[test]
+fn refused_moments() {
+    for (field, fields) in [
+        (Field::Year, (0, 1, 1, 0, 0, 0)),
+        (Field::Year, (10000, 13, 1, 0, 0, 0)),
+        (Field::Month, (1934, 0, 1, 0, 0, 0)),
+        (Field::Month, (1934, 13, 32, 0, 0, 0)),
+        (Field::Day, (1934, 3, 0, 0, 0, 0)),
+        (Field::Day, (1900, 2, 29, 0, 0, 0)),
+        (Field::Hour, (1934, 3, 5, 24, 60, 61)),
+        (Field::Minute, (1934, 3, 5, 23, 60, 61)),
+        (Field::Second, (1934, 3, 5, 23, 59, 61)),
+        (Field::Year, (65536 + 1934, 3, 5, 0, 0, 0)),
+        (Field::Month, (1934, 256 + 3, 5, 0, 0, 0)),
+        (Field::Day, (1934, 3, 256 + 5, 0, 0, 0)),
+        (Field::Hour, (1934, 3, 5, 256, 0, 0)),
+        (Field::Minute, (1934, 3, 5, 0, 256, 0)),
+        (Field::Second, (1934, 3, 5, 0, 0, u32::MAX)),
+    ] {
+        let refusal = Moment::try_from(fields).unwrap_err();
+        assert_eq!(refusal.field(), field);
+        let places = [Field::Year, Field::Month, Field::Day, Field::Hour, Field::Minute, Field::Second];
+        assert_eq!((refusal.number(), places[refusal.place() - 1]), (2, field));
+        if fields.3 == 0 && fields.4 == 0 && fields.5 == 0 {
+            assert_eq!(Date::try_from((fields.0, fields.1, fields.2)), Err(refusal));
+        }
+    }
+    assert_eq!(moment("9999-12-31 23:59:60").second(), 60);
+    assert_eq!(<(u32, u32, u32)>::from(Date::from(moment("2000-02-29 00:00:00"))), (2000, 2, 29));
+}
+
+#[test]
+fn refused_writing() {
+    let format = Format::new("%c").unwrap();
+    let morning = moment("1934-03-05 07:08:09");
+    let mut out = [7; 24];
+    for refused in [format.write_to(morning, &mut out[..23]), strftime("%c", morning, &mut out[..23])] {
+        assert_eq!(refused, Err(WriteError::BufferTooSmall { needed: 24 }));
+        assert_eq!((refused.unwrap_err().number(), refused.unwrap_err().place()), (4, 24));
+    }
+    assert_eq!(out, [7; 24]);
+    assert_eq!(Format::new(vec![b'x'; 1025]), Err(FormatError::TooLong));
+    assert_eq!(Format::new("%c%c%Q"), Err(FormatError::BadConversion { offset: 4 }));
+    assert_eq!("%".parse::<Format>(), Err(FormatError::BadConversion { offset: 0 }));
+    assert_eq!(strftime("%E", morning, &mut out), Err(WriteError::Format(FormatError::BadConversion { offset: 0 })));
+    assert_eq!(strftime(vec![b'x'; 1025], morning, &mut out), Err(WriteError::Format(FormatError::TooLong)));
+    assert_eq!(out, [7; 24]);
+}
+
+#[test]
+fn longest() {
+    let format = Format::new("%c".repeat(512)).unwrap();
+    assert_eq!(format.write(midnight(1934, 3, 5)).len(), 24 * 512);
+    let format = Format::new(vec![b' '; 1024]).unwrap();
+    assert_eq!(format.read(vec![b' '; 1024]).unwrap().unread, 1024);
+    assert_eq!(format.read(vec![b' '; 1025]), Err(ReadError::TextTooLong));
+}
+
+#[test]
+fn reading() {
+    let read_day = |format, text| read(format, text).unwrap().date;
+    assert_eq!(read_day("%G %V %u", "2009 53 5"), Some(date(2010, 1, 1)));
+    assert_eq!(read_day("%d %b %Y", "29 Feb 2000"), Some(date(2000, 2, 29)));
+    assert_eq!(read_day("%c", "MON mar 5 7:8:9 1934"), Some(date(1934, 3, 5)));
+    let all = |r: Reading| (r.unread, r.date, r.hour, r.minute, r.second);
+    assert_eq!(all(read("", "x").unwrap()), (0, None, None, None, None));
+    assert_eq!(all(read("%M", "0").unwrap()), (1, None, None, Some(0), None));
+    assert_eq!(all(read("%c", "Mon Mar  5 07:08:09 1934").unwrap()), (24, Some(date(1934, 3, 5)), Some(7), Some(8), Some(9)));
+}
+
+#[test]
+fn whole_readings() {
+    let whole = |format, text| read(format, text).unwrap().is_whole(text);
+    assert!(whole("%d %b %Y", "5 Mar 1934"));
+    assert!(whole("%d %b %Y", "5 Mar 193"));
+    assert!(!whole("%d %b %Y", "5 Mar 19345"));
+    assert!(!whole("%d %b %Y", "5 Mar 1934 "));
+    assert!(whole("%d %b %Y%n", "5 Mar 1934 "));
+    assert!(whole("", ""));
+}
+
+#[test]
+fn refused_reading() {
+    assert_eq!(read("%G %V %u", "2016 53 7"), Err(ReadError::NoDay));
+    assert_eq!(read("%a %d %b %Y", "Tue 5 Mar 1934"), Err(ReadError::NoDay));
+    assert_eq!(read("%C %y", "00 00"), Err(ReadError::NoDay));
+    assert_eq!(read("%d %b %Y %I", "5 Mar 1934 07"), Err(ReadError::TwoHours { first: 7, second: 19 }));
+    assert_eq!(read("%d %b", "5 mar"), Err(ReadError::TwoDays { first: date(1, 3, 5), second: date(2, 3, 5) }));
+    assert_eq!(read("%H%M", "930"), Err(ReadError::OutOfRange { offset: 0 }));
+    assert_eq!(read("%d %e", "5 6"), Err(ReadError::Contradiction { offset: 2 }));
+    assert_eq!(read("%H %p", "7 PM"), Err(ReadError::NoHour));
+    assert_eq!(strptime("%5Y", "x"), Err(ReadError::Format(FormatError::BadConversion { offset: 0 })));
+    assert_eq!(strptime("%5Y", vec![b'x'; 1025]), Err(ReadError::TextTooLong));
+    assert_eq!(strptime(vec![b'x'; 1025], "x"), Err(ReadError::Format(FormatError::TooLong)));
+}
+
+#[test]
+fn calendar_ends() {
+    assert_eq!((Date::FIRST.day_number(), Date::FIRST.weekday(), Date::FIRST.previous_day()), (1, Weekday::Monday, None));
+    assert_eq!((Date::LAST.day_number(), Date::LAST.weekday(), Date::LAST.next_day()), (Date::DAYS, Weekday::Friday, None));
+    assert_eq!(Date::from_day_number(0), None);
+    assert_eq!(Date::from_day_number(Date::DAYS + 1), None);
+    assert_eq!(Date::from_day_number(u32::MAX), None);
+}
+
+/// What the types say of a day is what the writer writes for it.
+#[test]
+fn every_thousandth_day() {
+    let format = Format::new("%F %A %u %j %G %V").unwrap();
+    for number in (1..=Date::DAYS).step_by(1000) {
+        let date = Date::from_day_number(number).unwrap();
+        assert_eq!(date.day_number(), number);
+        assert_eq!(Date::new(date.year(), date.month(), date.day()), Ok(date));
+        assert_eq!(date.to_string().parse(), Ok(date));
+        let (weekday, j, g, v) = (date.weekday(), date.day_of_year(), date.iso_year(), date.iso_week());
+        let shown = format!("{date} {weekday} {} {j:03} {g:04} {v:02}", weekday.number());
+        assert_eq!(format.write_string(Moment::midnight(date)).unwrap(), shown);
+        let next = date.next_day().unwrap();
+        assert!(next > date && next.previous_day() == Some(date));
+    }
+}
+
+#[test]
+fn exact_texts() {
+    for (text, offset) in [
+        ("", 0),
+        ("1934", 4),
+        ("1934-03-0", 9),
+        ("1934-03-055", 10),
+        ("1934-03-05\n", 10),
+        (" 1934-03-05", 0),
+        ("+934-03-05", 0),
+        ("1934/03/05", 4),
+        ("1934-3-5", 6),
+        ("193\u{664}-03-05", 3),
+    ] {
+        assert_eq!(text.parse::<Date>(), Err(ParseError::Shape { offset }), "{text}");
+    }
+    for (text, offset) in [("1934-03-05", 10), ("1934-03-05 07:08", 16), ("1934-03-05T07:08:09", 10), ("1934-03-05 07:08:09Z", 19)] {
+        assert_eq!(text.parse::<Moment>(), Err(ParseError::Shape { offset }), "{text}");
+    }
+    let field = |refused: ParseError| match refused {
+        ParseError::Field(error) => error.field(),
+        other => panic!("{other}"),
+    };
+    for (text, bad) in [("0000-01-01", Field::Year), ("1934-00-01", Field::Month), ("1900-02-29", Field::Day)] {
+        assert_eq!(field(text.parse::<Date>().unwrap_err()), bad);
+        assert_eq!(field(format!("{text} 07:08:09").parse::<Moment>().unwrap_err()), bad);
+    }
+    assert_eq!(field("1934-03-05 24:00:00".parse::<Moment>().unwrap_err()), Field::Hour);
+    assert_eq!(field("1934-03-05 23:59:61".parse::<Moment>().unwrap_err()), Field::Second);
+}
+
+#[test]
+fn shown_to_people() {
+    assert_eq!(date(34, 3, 5).to_string(), "0034-03-05");
+    assert_eq!(moment("0034-03-05 07:08:60").to_string(), "0034-03-05 07:08:60");
+    assert_eq!(format!("{:>7}|{:9}|", Field::Day, Weekday::Sunday), "    day|Sunday   |");
+    assert_eq!(Date::new(1900, 2, 29).unwrap_err().to_string(), "the day is not 1 to the month's length");
+    let shown = |format, text| read(format, text).unwrap().to_string();
+    assert_eq!(shown("%d %b %Y %H:%M", "5 Mar 1934 07:08"), "1934-03-05 07:08:--");
+    assert_eq!(shown("%S", "9"), "- --:--:09");
+    let refused = |format, text| read(format, text).unwrap_err().to_string();
+    assert_eq!(refused("%d %b", "5 mar"), "two or more days fit what the text says: 0001-03-05, 0002-03-05");
+    assert_eq!(refused("%H%M", "930"), "the number at byte 0 of the text is outside its range");
+}
+
+#[cfg(feature = "std")]
+#[test]
+fn errors_have_sources() {
+    use std::error::Error;
+
+    let source = |error: &dyn Error| error.source().map(|source| source.to_string());
+    let unknown = Some("unknown or unfinished conversion at byte 0 of the format".to_string());
+    assert_eq!(source(&strptime("%Q", "").unwrap_err()), unknown);
+    assert_eq!(source(&strftime("%Q", Moment::midnight(Date::FIRST), &mut []).unwrap_err()), unknown);
+    assert_eq!(source(&"1934-13-01".parse::<Date>().unwrap_err()), Some("the month is not 1 to 12".to_string()));
+    assert_eq!(source(&ReadError::NoDay), None);
+    let field: &dyn Error = &Date::new(0, 1, 1).unwrap_err();
+    assert!(field.downcast_ref::<larusqem::FieldError>().is_some() && field.source().is_none());
+}
+
+#[test]
+fn versions_agree() {
+    let (major, minor, patch) = larusqem::version();
+    assert_eq!(format!("{major}.{minor}.{patch}"), env!("CARGO_PKG_VERSION"));
+}
+
+#[test]
+fn formats_are_shared_by_threads() {
+    fn shared<T: Send + Sync>() {}
+    shared::<Format>();
+}
