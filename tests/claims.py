@@ -1,9 +1,9 @@
 #!/usr/bin/env python3
 """Checks that whatever the documents and comments cite exists: python3 tests/claims.py
 
-A citation in a document is a code span: `calendar/specs/Calendar.antt#leap` is the definition, theorem or function `leap` of that file under
-crates/, `calendar/must-fail/years_by_julian_rule` an edit, `tests/every_day.py` or any other path with a slash a file or folder of the
-repository. Anywhere, RULES and a number is a section of docs/RULES.md, and no other paper is named.
+A citation in a document is a code span: `calendar/specs/Calendar.antt#leap` is the definition, theorem or function `leap` of that file
+under crates/, `calendar/must-fail/years_by_julian_rule` an edit, `tests/every_day.py` or any other path with a slash a file or folder of
+the repository. Anywhere, RULES and a number is a section of docs/RULES.md, and no paper is named.
 """
 import os
 import re
@@ -58,7 +58,8 @@ def sections():
         cited = re.findall(r"\bRULES (\d+(?:\.\d+)*)", text)
         count += len(cited)
         missing += [f"{path} cites a section that is not there: RULES {section}" for section in sorted(set(cited) - there)]
-        missing += [f"{path} names a paper: {line.strip()[:100]}" for line in text.split("\n") if re.search(r"\b[Pp]aper(?:'s)? 0?\d", line)]
+        papers = [line.strip() for line in text.split("\n") if re.search(r"\b[Pp]aper(?:'s)? 0?\d", line)]
+        missing += [f"{path} names a paper: {line[:100]}" for line in papers]
     return count, missing
 
 

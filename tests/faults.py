@@ -106,7 +106,8 @@ def outputs(t):
     with open("/dev/full", "wb") as full:
         t.expect("a full disk", t.run(stdout=full), None, NOT_WRITTEN + b"No space left on device")
         for option in ["--help", "--version"]:
-            t.expect(f"a full disk for {option}", t.run(option, stdout=full), None, b"date_lines: the text could not be written whole: No space")
+            said = b"date_lines: the text could not be written whole: No space left on device"
+            t.expect(f"a full disk for {option}", t.run(option, stdout=full), None, said)
     t.expect("output closed", t.run(preexec_fn=lambda: os.close(1)), b"", NOT_WRITTEN + b"Bad file descriptor")
     for script in ["i", "1i1a1", "1" * 70, "a", ".ii"]:
         t.expect(f"writes by {script}", t.run(faults={"FAULTS_WRITE": script}), REPORT)

@@ -46,7 +46,8 @@ def main(program):
                 with open(os.path.join(EXAMPLES, words[1]), encoding="utf-8") as file:
                     right, written = text == file.read(), "another file"
             elif kind == "sh" and next_kind == "text":
-                run = subprocess.run(["bash", "-euo", "pipefail", "-c", text], cwd=folder, env=env, capture_output=True, text=True, check=False)
+                shell = ["bash", "-euo", "pipefail", "-c", text]
+                run = subprocess.run(shell, cwd=folder, env=env, capture_output=True, text=True, check=False)
                 written = run.stdout + run.stderr
                 right = written == expected and run.returncode == 0
             elif kind == "text":

@@ -2,7 +2,7 @@
 """Checks that the version is the same everywhere: python3 tests/version.py PROGRAM
 
 crates/version/src/lib.rt says it; the Rust crate's manifest, the newest entry of CHANGELOG.md and PROGRAM --version must agree. (The
-library's own word for it is compared with the manifest by the Rust crate's tests; header, pkg-config file and man pages take it from there.)
+library's own word for it is compared with the manifest by the Rust crate's tests; pkg-config file and manual pages take it from there.)
 """
 import os
 import re
@@ -20,11 +20,12 @@ def found(path, pattern):
 
 def main(program):
     source = "crates/version/src/lib.rt"
+    said = subprocess.run([program, "--version"], capture_output=True, text=True, check=True).stdout
     version = ".".join(found(source, rf"^pub const {part}: u32 = (\d+);$") for part in ["MAJOR", "MINOR", "PATCH"])
     others = {
         "bindings/rust/Cargo.toml": found("bindings/rust/Cargo.toml", r'^version = "(.*)"$'),
         "CHANGELOG.md": found("CHANGELOG.md", r"^## (\S+)"),
-        "--version": subprocess.run([program, "--version"], capture_output=True, text=True, check=True).stdout.removeprefix("date_lines ").strip(),
+        "--version": said.removeprefix("date_lines ").strip(),
     }
     wrong = {place: said for place, said in others.items() if said != version}
     for place, said in wrong.items():
