@@ -63,7 +63,7 @@ pub fn first_part(input: &[u8], elements: &mut [u32; MOST_ELEMENTS], out: &mut [
 // Puts the lines for the texts of `input` from `from` on at the front of `out`, as long as there is room for a longest line.
 pub fn next_part(
     opened: Opened,
-    elements: &[u32],
+    elements: &[u32; MOST_ELEMENTS],
     input: &[u8],
     from: usize,
     out: &mut [u8; PART],

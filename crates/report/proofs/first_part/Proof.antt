@@ -35,6 +35,9 @@ open-requires c κs = search needs
 slice-aggregate-put-bytes : tie.Need-slice-aggregate-put-bytes
 slice-aggregate-put-bytes c = search needs
 
+put-bytes-requires : tie.Need-put-bytes-requires
+put-bytes-requires c κs = search needs
+
 -- the format is the first line
 formats : (c : tie.After-open) →
     let a = c .before .before .before .before .before .args in
@@ -44,9 +47,6 @@ formats c =
     let l = c .before .before .before in
     let e : l .line-end .result ≡ lineLength (now (l .before .before .args .input)) = omega (arith, l .line-end .ensures) in
     (rw (← e) (c .«open» .ensures .0), rw (← e) (c .«open» .ensures .1))
-
-put-bytes-requires : tie.Need-put-bytes-requires
-put-bytes-requires c κs = search needs
 
 returns : tie.Need-returns
 unfolding bytes

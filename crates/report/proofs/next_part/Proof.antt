@@ -1,5 +1,5 @@
 -- `report::next_part` meets its contract. The invariant: the lines that are put and those for the texts that are left are what is to be
---  reported.
+-- reported.
 use Prim.Native.Nat.{_-_, _≤_}
 use mathlib.Core.Path.{_≡_, _∙_}
 use native.Mathlib.Omega.{arith}
@@ -20,7 +20,7 @@ abbrev μ-loop : tie.MeasureT-loop
 
 loop-holds : tie.Need-loop-holds Inv-loop μ-loop
 loop-holds c =
-    let a = c .before .before .args in
+    let a = c .before .args in
     list-start (readingBy (a .opened) (now (a .elements))) (now (a .input)) (a .from) (now (a .out))
 
 sub-if1 : tie.Need-sub-if1 Inv-loop μ-loop
@@ -35,19 +35,19 @@ line-end-requires c κs = tt
 -- the line found lies in the input
 found : (c : tie.After-line-end Inv-loop μ-loop) →
     let l = c .before .before .before in
-    (l .loop .next ≤ c .line-end .result) × (c .line-end .result ≤ length (now (l .before .before .before .args .input)))
+    (l .loop .next ≤ c .line-end .result) × (c .line-end .result ≤ length (now (l .before .before .args .input)))
 found c =
     let l = c .before .before .before in
-    within (now (l .before .before .before .args .input)) (l .loop .next) (omega arith) (c .line-end .ensures)
+    within (now (l .before .before .args .input)) (l .loop .next) (omega arith) (c .line-end .ensures)
 
 sub-answer-to : tie.Need-sub-answer-to Inv-loop μ-loop
-sub-answer-to c = found c .0
+sub-answer-to c = found (c .before) .0
 
 part-answer-to-start : tie.Need-part-answer-to-start Inv-loop μ-loop
-part-answer-to-start c = found c .0
+part-answer-to-start c = found (c .before) .0
 
 part-answer-to-end : tie.Need-part-answer-to-end Inv-loop μ-loop
-part-answer-to-end c = found c .1
+part-answer-to-end c = found (c .before) .1
 
 answer-to-requires : tie.Need-answer-to-requires Inv-loop μ-loop
 answer-to-requires c κs = tt
@@ -57,9 +57,9 @@ reading-of-requires c κs = tt
 
 -- its reading
 read : (c : tie.After-reading-of Inv-loop μ-loop) →
-    let e = c .before .before .before .before in
+    let e = c .before .before .before .before .before in
     let l = e .before .before .before in
-    let a = l .before .before .before .args in
+    let a = l .before .before .args in
     let t = take (e .line-end .result - l .loop .next) (drop (l .loop .next) (now (a .input))) in
     c .reading-of .result ≡ readingBy (a .opened) (now (a .elements)) t
 read c = c .reading-of .ensures ∙ c .before .before .answer-to .ensures
@@ -68,16 +68,16 @@ put-line-requires : tie.Need-put-line-requires Inv-loop μ-loop
 put-line-requires c κs = (rw (read c) (short _ _ _), omega arith)
 
 add-next : tie.Need-add-next Inv-loop μ-loop
-add-next c = omega (arith, found (c .before .before .before .before .before))
+add-next c = omega (arith, found (c .before .before .before .before .before .before))
 
 loop-less : tie.Need-loop-less Inv-loop μ-loop
-loop-less c = omega (arith, found (c .before .before .before .before .before))
+loop-less c = omega (arith, found (c .before .before .before .before .before .before))
 
 loop-again : tie.Need-loop-again Inv-loop μ-loop
 loop-again c =
-    let e = c .before .before .before .before .before in
+    let e = c .before .before .before .before .before .before in
     let l = e .before .before .before in
-    let a = l .before .before .before .args in
+    let a = l .before .before .args in
     let p = c .put-line .ensures in
     list-next (readingBy (a .opened) (now (a .elements))) (now (a .input)) (a .from) (now (a .out)) (l .loop .inv) (omega arith)
     (e .line-end .ensures) (rw (read (c .before)) at (p .0)) (omega arith)
