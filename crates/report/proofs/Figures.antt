@@ -12,7 +12,7 @@ use Rattle.format.specs.declared.opening.Opened.the-variants.{Done, TooLong, Ba
 use Rattle.judge.specs.Verdicts.{dayVerdict, hourVerdict}
 use Rattle.judge.specs.declared.Verdict.{Verdict}
 use Rattle.judge.specs.declared.Verdict.the-variants.{Unsaid, Impossible, Open, Agreed}
-use Rattle.report.specs.Private.{readingBy, Usable}
+use Rattle.report.specs.Parts.{readingBy}
 use Rattle.strptime.specs.Answers.{showing, refused, finished, done, withHour, withDay, judged, concluded}
 use Rattle.strptime.specs.Answers.{readBy, byElements, unlessLong, elementsReading}
 use Rattle.strptime.specs.Reading.{start, readAll}
@@ -61,8 +61,8 @@ elements-number es s = picked (λ (x : Reading). x .number ≤ 10) (leb (length 
 abbrev Short : Reading → Type 0
 Short r = (r .number < 10000) × (r .place < 10000)
 
-pub short : (o : Opened) (es s : List ℕ) → Usable o es → Short (readingBy o es s)
-unfolding readingBy Usable unlessLong showing refused
-short (Done n) es s u = (omega (arith, elements-number (take n es) s), omega (arith, elements-place (take n es) s))
-short TooLong es s u = (lit≤ tt, lit≤ tt)
-short (Bad p) es s u = picked Short (leb (length s) longest) (lit≤ tt, omega arith) (lit≤ tt, lit≤ tt)
+pub short : (o : Opened) (es s : List ℕ) → Short (readingBy o es s)
+unfolding readingBy unlessLong showing refused
+short (Done n) es s = (omega (arith, elements-number (take n es) s), omega (arith, elements-place (take n es) s))
+short TooLong es s = (lit≤ tt, lit≤ tt)
+short (Bad p) es s = picked Short (leb (length s) longest) (lit≤ tt, omega arith) (lit≤ tt, lit≤ tt)

@@ -1,19 +1,19 @@
 -- A format that was opened once answers each text as the reader does, over plain variables.
 -- Assumes nothing.
-use Prim.Native.Nat.{ℕ, _≤_, _<_}
+use Prim.Native.Nat.{ℕ, zero, suc, _≤_, _<_, min}
 use mathlib.Core.Bool.{true}
-use mathlib.Core.List.{List}
-use mathlib.Core.Path.{_≡_, refl, sym, _∙_}
+use mathlib.Core.List.{List, [], _∷_}
+use mathlib.Core.Path.{_≡_, refl, sym, ap, _∙_}
 use native.Mathlib.Omega.{arith}
 use lib.ListN.{length, getD, take, length-take}
-use lib.Seq.{getD-take}
+use lib.Seq.{getD-take, take-nil}
 use Rattle.laws.specs.Lists.{every}
-use Rattle.format.specs.Opening.{mostElements, isByte, opening, opened, openedInto}
+use Rattle.format.specs.Opening.{longest, mostElements, isByte, opening, opened, openedInto}
 use Rattle.format.specs.declared.opening.Opened.{Opened}
 use Rattle.format.specs.declared.opening.Opened.the-variants.{Done, TooLong, Bad}
 use Rattle.format.proofs.Elements.{all-elements, are-bytes}
 use Rattle.format.proofs.Opened.{Opens, opened-done, opened-bad, opened-long, stored}
-use Rattle.report.specs.Private.{readingBy, Usable}
+use Rattle.report.specs.Parts.{readingBy}
 use Rattle.strptime.specs.Answers.{reading, elementsReading}
 use Rattle.strptime.proofs.Opens.{format-long, conversion-bad, format-read, entries-read}
 
@@ -28,21 +28,24 @@ pub first-bytes : (s : List ℕ) (n : ℕ) → ((k : ℕ) → getD s k 0 < 256) 
 first-bytes s n f =
     are-bytes (take n s) (λ k h. let l : k < n = omega (arith, length-take n s) in rw (getD-take n s k 0 l) (f k))
 
--- ---- the format f is answered by r and the elements es
-abbrev pub Answers : List ℕ → Opened → List ℕ → Type 0
-Answers f r es = Usable r es × ((s : List ℕ) → readingBy r es s ≡ reading f s)
+-- the first elements, at most as many as there are
+pub first-few : (es : List ℕ) (n : ℕ) → take (min n (length es)) es ≡ take n es
+first-few [] n = take-nil (min n 0) ∙ sym (take-nil n)
+first-few (e ∷ es) zero = let m : min 0 (suc (length es)) ≡ 0 = omega arith in rw m
+first-few (e ∷ es) (suc n) =
+    let m : min (suc n) (suc (length es)) ≡ suc (min n (length es)) = omega arith in
+    rw m (ap (λ (l : List ℕ). e ∷ l) (first-few es n))
 
--- it is opened into entries that have room for all its elements
+-- ---- a format answers each text as its opening does, which stored its elements into entries that have room for all of them
 pub answers : (f room : List ℕ) {r : Opened} {es : List ℕ} → every isByte f ≡ true → mostElements ≤ length room → mostElements ≤ length es
-    → r ≡ opened f → es ≡ openedInto f room → Answers f r es
-unfolding Usable readingBy
-answers f room {r} {es} b h k e g = go r refl
+    → r ≡ opened f → es ≡ openedInto f room → (s : List ℕ) → readingBy r es s ≡ reading f s
+unfolding readingBy
+answers f room {r} {es} b h k e g s = go r refl
   where
-    go : (q : Opened) → r ≡ q → Answers f q es
-    go (Done n) d =
-        let o = opened-done f e d in
-        (omega (arith, o .few), λ s. rw (stored f room g o (omega (arith, o .few))) (whole-read f s b o))
-    go TooLong d = (tt, λ s. format-long f s (opened-long f e d))
+    go : (q : Opened) → r ≡ q → readingBy q es s ≡ reading f s
+    go (Done n) d = let o = opened-done f e d in rw (stored f room g o (omega (arith, o .few))) (whole-read f s b o)
+    go TooLong d = format-long f s (opened-long f e d)
     go (Bad p) d =
         let o = opened-bad f e d in
-        (omega (arith, o .within, o .short), λ s. conversion-bad f s (o .short) (o .bad))
+        let m : min p longest ≡ p = omega (arith, o .within, o .short) in
+        rw m (conversion-bad f s (o .short) (o .bad))

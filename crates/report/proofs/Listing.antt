@@ -1,19 +1,19 @@
 -- The lines of an input, one after the other, and what is put for each, over plain variables.
 -- Assumes nothing.
-use Prim.Native.Nat.{ℕ, suc, _+_, _-_, _*_, _≤_, _<_}
+use Prim.Native.Nat.{ℕ, suc, _+_, _-_, _≤_, _<_}
 use mathlib.Core.Bool.{Bool, true, false, cond}
 use mathlib.Core.List.{List, [], _∷_, _++_}
 use mathlib.Core.Path.{_≡_, refl, ap, _∙_}
-use native.Mathlib.Nat.{add-zero}
 use native.Mathlib.Omega.{arith}
 use lib.Dec.{eqb}
-use lib.ListN.{length, take, drop, length-append, length-drop, drop-of-length-le}
-use lib.Seq.{sets, drop-drop, length-sets}
-use Rattle.laws.proofs.Stores.{sets-append}
+use lib.ListN.{length, take, drop, length-drop, drop-of-length-le}
+use lib.Seq.{drop-drop, length-sets}
+use Rattle.laws.specs.Stores.{Puts}
 use Rattle.report.specs.Line.{lineOf}
 use Rattle.report.specs.Lines.{newline, onto, lines, lineLength}
-use Rattle.laws.specs.Stores.{Puts}
+use Rattle.report.specs.Parts.{Part}
 use Rattle.report.specs.Report.{answered}
+use Rattle.report.proofs.Putting.{part-start, part-put}
 use Rattle.strptime.specs.declared.Reading.{Reading}
 
 -- a byte at the front of the first line
@@ -52,34 +52,34 @@ module _ (s : List ℕ) (i : ℕ) where
       let q : stop + 1 ≡ i + suc n = omega arith in
       rw (p, q, ← drop-drop (suc n) i s) (first-line (drop i s) (omega (arith, length-drop i s)))
 
--- to put what is left of the lines from `next` on gives what is to be shown
-pub record Listing (read : List ℕ → Reading) (s before : List ℕ) (at from : ℕ) (out : List ℕ) (end next : ℕ) : Type 0 where
+-- ---- the lines that a part has so far: those for the texts from `from` to `next` are put, and those from `next` on are left
+pub record Listing (read : List ℕ → Reading) (s : List ℕ) (from : ℕ) (before out : List ℕ) (count next : ℕ) : Type 0 where
   pub kept : length out ≡ length before
-  pub room : end + 30 * (length s - next) ≤ length out
-  pub count : end + length (answered read (lines (drop next s))) ≡ at + length (answered read (lines (drop from s)))
-  pub rest : sets out end (answered read (lines (drop next s))) ≡ sets before at (answered read (lines (drop from s)))
+  pub puts : Part (answered read (lines (drop from s))) before out count (answered read (lines (drop next s)))
+  pub ahead : from ≤ next
+  pub some : 0 < count → from < next
 
-module _ (read : List ℕ → Reading) (s before : List ℕ) (at from : ℕ) where
-  pub list-start : at + 30 * (length s - from) ≤ length before → Listing read s before at from before at from
-  list-start h = record { kept = refl; room = h; count = refl; rest = refl }
+module _ (read : List ℕ → Reading) (s : List ℕ) (from : ℕ) (before : List ℕ) where
+  pub list-start : Listing read s from before before 0 from
+  list-start =
+      record {
+        kept = refl;
+        puts = part-start (answered read (lines (drop from s))) before;
+        ahead = omega arith;
+        some = λ h. omega arith;
+      }
 
-  module _ {out : List ℕ} {end next : ℕ} (l : Listing read s before at from out end next) where
-    pub list-next : {stop last : ℕ} {after : List ℕ} → next < length s → stop ≡ next + lineLength (drop next s)
-        → Puts (lineOf (read (take (stop - next) (drop next s)))) out end after last → last ≤ end + 30
-        → Listing read s before at from after last (stop + 1)
-    unfolding answered
-    list-next {stop} h e p m =
-        let x = lineOf (read (take (stop - next) (drop next s))) in
-        let y = answered read (lines (drop (stop + 1) s)) in
-        let q : answered read (lines (drop next s)) ≡ x ++ y = rw (next-line s next h e) in
-        let k = ap length (p .stores) ∙ length-sets out end x in
-        record {
-          kept = k ∙ l .kept;
-          room = omega (arith, k, l .room);
-          count = omega (arith, p .ends, length-append x y, ap length q, l .count);
-          rest = rw (p .stores, p .ends, ← sets-append out end x y, ← q) (l .rest);
-        }
-
-    pub list-end : length s ≤ next → Puts (answered read (lines (drop from s))) before at out end
-    unfolding answered
-    list-end h = record { ends = rw (no-line s next h, add-zero end) at (l .count); stores = rw (no-line s next h) at (l .rest) }
+  pub list-next : {out after : List ℕ} {count next stop last : ℕ} → Listing read s from before out count next → next < length s
+      → stop ≡ next + lineLength (drop next s) → Puts (lineOf (read (take (stop - next) (drop next s)))) out count after last
+      → last ≤ length out → Listing read s from before after last (stop + 1)
+  unfolding answered
+  list-next {out} {next = next} {stop} l h e p m =
+      let x = lineOf (read (take (stop - next) (drop next s))) in
+      let y = answered read (lines (drop (stop + 1) s)) in
+      let q : answered read (lines (drop next s)) ≡ x ++ y = rw (next-line s next h e) in
+      record {
+        kept = ap length (p .stores) ∙ length-sets out _ x ∙ l .kept;
+        puts = part-put (l .puts) q p m;
+        ahead = omega (arith, l .ahead);
+        some = λ _. omega (arith, l .ahead);
+      }

@@ -2,14 +2,15 @@
 -- Assumes nothing.
 use Prim.Native.Nat.{ℕ, suc, _+_, _-_, _≤_, _<_}
 use mathlib.Core.List.{List, _++_, append-assoc}
-use mathlib.Core.Path.{_≡_, refl, sym, _∙_}
+use mathlib.Core.Path.{_≡_, refl, sym, ap, _∙_}
 use native.Mathlib.Nat.{add-zero}
 use native.Mathlib.Numerals.{add-one}
 use native.Mathlib.Omega.{arith}
 use lib.ListN.{length, take, drop, set, getD, length-append, length-take, length-drop, length-set, drop-of-length-le}
-use lib.Seq.{sets, sets-eq, drop-drop, drop-cons}
+use lib.Seq.{sets, sets-eq, drop-drop, drop-cons, take-at, drop-at, length-sets, length-take-le}
 use Rattle.laws.proofs.Stores.{sets-append}
 use Rattle.laws.specs.Stores.{Puts}
+use Rattle.report.specs.Parts.{Part}
 use Rattle.text.specs.Digits.{filled}
 
 -- one text after the other
@@ -19,6 +20,35 @@ then {x} {y} {before} {at = at} p q =
     record {
       ends = omega (arith, p .ends, q .ends, length-append x y);
       stores = q .stores ∙ rw (p .stores, p .ends) (sym (sets-append before at x y));
+    }
+
+-- ---- a part: what is put stands at its end, and what is left to report begins after it
+
+pub part-start : (whole before : List ℕ) → Part whole before before 0 whole
+part-start whole before = record { split = refl; kept = refl; fits = omega arith }
+
+pub part-put : {whole before between after left x rest : List ℕ} {n end : ℕ} → Part whole before between n left → left ≡ x ++ rest
+    → Puts x between n after end → end ≤ length between → Part whole before after end rest
+part-put {before = before} {between} {x = x} {rest} {n} {end} p e q h =
+    let k = length x in
+    let front = take n between ++ x in
+    let l : n + k ≤ length between = omega (arith, q .ends) in
+    let s = q .stores ∙ sets-eq x between n l in
+    let t : length front ≡ end = omega (arith, q .ends, length-append (take n between) x, length-take-le n between (p .fits)) in
+    record {
+      split =
+          p .split
+          ∙ ap (λ (y : List ℕ). take n between ++ y) e
+          ∙ sym (append-assoc (take n between) x rest)
+          ∙ ap (λ (y : List ℕ). y ++ rest) (sym (ap (take end) s ∙ take-at front (drop (n + k) between) end t));
+      kept =
+          ap (drop end) s
+          ∙ drop-at front (drop (n + k) between) end t
+          ∙ sym (drop-drop k n between)
+          ∙ ap (drop k) (p .kept)
+          ∙ drop-drop k n before
+          ∙ ap (λ (i : ℕ). drop i before) (sym (q .ends));
+      fits = omega (arith, ap length (q .stores), length-sets between n x);
     }
 
 -- ---- bytes copied one at a time: the i first are put, and to put the others gives what is to be shown

@@ -2,4 +2,4 @@
 pub mod Lines
 pub mod Line
 pub mod Report
-pub mod Private
+pub mod Parts

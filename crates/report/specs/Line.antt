@@ -1,4 +1,4 @@
--- A line of the report (paper 01, "Program"): `number place date time`.
+-- A line of the report: `number place date time` (RULES 9).
 use Prim.Native.Nat.{ℕ, zero, suc, _/_, _%_}
 use mathlib.Core.Bool.{cond}
 use mathlib.Core.List.{List, [], _∷_, _++_}
@@ -25,12 +25,12 @@ plain n = digits (suc n) n
 unfoldable pub dateShown : Date → List ℕ
 dateShown d = filled 48 4 (d .year) ++ (bytes "-" ++ (filled 48 2 (d .month) ++ (bytes "-" ++ filled 48 2 (d .day))))
 
--- "An unsaid day is `-`"
+-- an unsaid day is `-`
 unfoldable pub dayShown : Day → List ℕ
 dayShown NoDate = bytes "-"
 dayShown (On d) = dateShown d
 
--- "an unsaid hour, minute or second `--`"
+-- an unsaid hour, minute or second is `--`
 unfoldable pub saidShown : Said → List ℕ
 saidShown Unsaid = bytes "--"
 saidShown (Is n) = filled 48 2 n

@@ -1,4 +1,4 @@
--- The lines of an input (paper 01, "Program"): "Lines end in newline; a last line without one counts if not empty".
+-- The lines of an input: a newline ends each, and bytes after the last newline are a line too (RULES 9).
 use Prim.Native.Nat.{ℕ, suc}
 use mathlib.Core.Bool.{cond}
 use mathlib.Core.List.{List, [], _∷_}

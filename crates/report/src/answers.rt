@@ -4,22 +4,33 @@ use format::Opened;
 use strptime::Answer;
 use strptime::read_elements;
 ghost use mathlib.Core.Path.{_≡_};
+ghost use Prim.Native.Nat.{min};
 ghost use Rattle.strptime.specs.Answers.{readingOf};
-ghost use Rattle.report.specs.Private.{readingBy, Usable};
+ghost use Rattle.report.specs.Parts.{readingBy};
+
+fn smaller(a: usize, b: usize) -> usize
+    ensures { λ r. ⌜ r ≡ min a b ⌝ }
+{
+    if a < b { a } else { b }
+}
 
 // The answer to a text.
 pub(crate) fn answer_to(opened: Opened, elements: &[u32], text: &[u8]) -> Answer
-    requires { ⌜ Usable opened (now elements) ⌝ }
     ensures { λ r. ⌜ readingOf r ≡ readingBy opened (now (elements .entry)) (now (text .entry)) ⌝ }
 {
     match opened {
-        Opened::Done { count } => read_elements(&elements[..count], text),
+        Opened::Done { count } => {
+            let count = smaller(count, elements.len());
+            read_elements(&elements[..count], text)
+        }
         Opened::TooLong => Answer::FormatTooLong,
         Opened::Bad { at } => {
             if LONGEST < text.len() {
                 return Answer::TextTooLong;
             }
-            Answer::BadConversion { at }
+            Answer::BadConversion {
+                at: smaller(at, LONGEST),
+            }
         }
     }
 }

@@ -1,0 +1,2 @@
+-- What the answers of reads and writes promise.
+pub mod Got
