@@ -17,7 +17,7 @@
  *
  * The functions are pure: they keep nothing, allocate nothing, read no locale, no time zone and no clock, and have no state of their own.
  * Any number of threads may call them at once, on arrays of their own. A call takes at most 32 KB of stack (2 KB by opened elements), and
- * it always returns; what takes longest, tens of milliseconds, is a reading that says weeks or weekdays and no year, month or day.
+ * it always returns; what takes longest, tens of milliseconds, is a reading that says ISO years or weeks and no year, month or day.
  *
  * The calendar is Gregorian from 0001-01-01 to 9999-12-31. The conversions of a format are
  *   %Y %C %y %m %b %h %B %d %e %j %u %w %a %A %U %W %G %g %V %H %k %I %l %p %P %M %S

@@ -1,9 +1,10 @@
 #!/usr/bin/env python3
-"""Checks that whatever the documents and comments cite exists: python3 tests/claims.py
+"""Checks the documents and comments against the tree: python3 tests/claims.py
 
 A citation in a document is a code span: `calendar/specs/Calendar.antt#leap` is the definition, theorem or function `leap` of that file
 under crates/, `calendar/must-fail/years_by_julian_rule` an edit, `tests/every_day.py` or any other path with a slash a file or folder of
-the repository. Anywhere, RULES and a number is a section of docs/RULES.md, and no paper is named.
+the repository. Anywhere, RULES and a number is a section of docs/RULES.md, and no paper is named. The architecture's table of crates says
+what crates.txt says. No line is longer than 140 characters, tables and must-fail edits aside.
 """
 import os
 import re
@@ -46,15 +47,20 @@ def names():
     return count, missing
 
 
+def texts():
+    """The files that people write and read, with what they hold."""
+    files = subprocess.run(["git", "-C", ROOT, "ls-files"], capture_output=True, text=True, check=True).stdout.split("\n")
+    read = re.compile(r"\.(rt|antt|rs|py|c|h|md|toml|[13])$|(^|/)(run|check|library|Makefile)$")
+    return {path: content(path) for path in files if read.search(path)}
+
+
 def sections():
     """How many sections of the rules are cited, and which of them are not there; and who names a paper."""
     there = set(re.findall(r"(?m)^#+ (\d+(?:\.\d+)*)\b", content("docs/RULES.md")))
-    files = subprocess.run(["git", "-C", ROOT, "ls-files"], capture_output=True, text=True, check=True).stdout.split("\n")
     count, missing = 0, []
-    for path in files:
-        if not re.search(r"\.(rt|antt|rs|py|c|h|md|toml|edit|[13])$", path) or path == "tests/claims.py":
+    for path, text in texts().items():
+        if path == "tests/claims.py":
             continue
-        text = content(path)
         cited = re.findall(r"\bRULES (\d+(?:\.\d+)*)", text)
         count += len(cited)
         missing += [f"{path} cites a section that is not there: RULES {section}" for section in sorted(set(cited) - there)]
@@ -63,12 +69,30 @@ def sections():
     return count, missing
 
 
+def crates():
+    """Where crates.txt and the architecture's table differ."""
+    listed = {name: set(rest.split()) for name, rest in re.findall(r"(?m)^(\w+):(.*)$", content("crates.txt"))}
+    rows = re.findall(r"(?m)^\| `(\w+)` \| [^|]* \|([^|]*)\|$", content("docs/ARCHITECTURE.md"))
+    table = {name: set(re.findall(r"`(\w+)`", rest)) for name, rest in rows}
+    names_of_both = sorted(listed.keys() | table.keys())
+    return [f"docs/ARCHITECTURE.md and crates.txt differ on {name}" for name in names_of_both if listed.get(name) != table.get(name)]
+
+
+def long_lines():
+    return [
+        f"{path}:{number} has {len(line)} characters"
+        for path, text in texts().items()
+        for number, line in enumerate(text.split("\n"), 1)
+        if len(line) > 140 and not line.startswith("|")
+    ]
+
+
 def main():
-    (cited, lost), (rules, wrong) = names(), sections()
-    for line in lost + wrong:
+    (cited, lost), (rules, wrong), others = names(), sections(), crates() + long_lines()
+    for line in lost + wrong + others:
         print(line)
     print(f"{cited} names cited in the documents, {len(lost)} missing; {rules} citations of the rules, {len(wrong)} wrong")
-    return 1 if lost or wrong or not cited or not rules else 0
+    return 1 if lost or wrong or others or not cited or not rules else 0
 
 
 if __name__ == "__main__":

@@ -2,7 +2,8 @@
 """Runs the examples of README: python3 tests/readme.py PROGRAM
 
 A block ```text FILE is examples/FILE. A block ```sh that a block ```text follows is run by bash in a copy of examples/, with PROGRAM as
-date_lines, and must write what that block says. The recipe for a long list is run on one made here, and its report looked at line by line.
+date_lines, and must write what that block says. A row of a text, a format and a date is read so. The recipe for a long list is run on one
+made here, and its report looked at line by line.
 """
 import datetime
 import os
@@ -16,10 +17,12 @@ ROOT = os.path.dirname(os.path.dirname(os.path.abspath(__file__)))
 EXAMPLES = os.path.join(ROOT, "examples")
 
 
-def blocks():
-    """The fenced blocks: the words after the fence, and the text."""
-    with open(os.path.join(ROOT, "README.md"), encoding="utf-8") as file:
-        return re.findall(r"(?ms)^```([^\n]*)\n(.*?)^```$", file.read())
+def blocks(readme):
+    """The fenced blocks: the words after the fence, and the text; and the rows of a text, a format and a date as such blocks."""
+    fenced = re.findall(r"(?ms)^```([^\n]*)\n(.*?)^```$", readme)
+    for text, form, date in re.findall(r"(?m)^\| `([^`]*)` \| `([^`]*)` \| (\d{4}-\d\d-\d\d) \|", readme):
+        fenced += [("sh", f"printf '%s\\n' '{form}' '{text}' | date_lines | cut -d ' ' -f 3\n"), ("text", f"date\n{date}\n")]
+    return fenced
 
 
 def long_list(folder):
@@ -33,13 +36,14 @@ def long_list(folder):
 
 def main(program):
     failed = count = 0
+    with open(os.path.join(ROOT, "README.md"), encoding="utf-8") as file:
+        found = blocks(file.read())
     with tempfile.TemporaryDirectory() as folder:
         shutil.copytree(EXAMPLES, folder, dirs_exist_ok=True)
         os.mkdir(os.path.join(folder, "bin"))
         os.symlink(os.path.abspath(program), os.path.join(folder, "bin", "date_lines"))
         expected_report = long_list(folder)
         env = dict(os.environ, PATH=os.path.join(folder, "bin") + ":" + os.environ["PATH"], LC_ALL="C")
-        found = blocks()
         for (kind, text), (next_kind, expected) in zip(found, found[1:] + [("", "")]):
             words = kind.split()
             if words[:1] == ["text"] and len(words) == 2:
@@ -62,7 +66,7 @@ def main(program):
             if file.read() != expected_report:
                 failed += 1
                 print("the report on the long list is not what it should be")
-    print(f"{count} blocks of README tried, {failed} not as they should be")
+    print(f"{count} examples of README tried, {failed} not as they should be")
     return 1 if failed or not count else 0
 
 

@@ -10,7 +10,7 @@ import subprocess
 import sys
 
 ROOT = os.path.dirname(os.path.dirname(os.path.abspath(__file__)))
-ROW = r"(?m)^\| (`[^|]*`|any text)(?: \*)? \| (`[^|]*`|empty) \| (\d+), place (\d+)([^|\n]*)"
+ROW = r"(?m)^\| (`[^|]*`|any text[^|`]*?)(?: \*)? \| (`[^|]*`|empty) \| (\d+), place (\d+)([^|\n]*)"
 
 
 def written(program, text):

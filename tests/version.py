@@ -1,7 +1,7 @@
 #!/usr/bin/env python3
 """Checks that the version is the same everywhere: python3 tests/version.py PROGRAM
 
-crates/version/src/lib.rt says it; the Rust crate's manifest, the newest entry of CHANGELOG.md and PROGRAM --version must agree. (The
+crates/version/src/lib.rt says it; the Rust manifests, the newest entry of CHANGELOG.md and PROGRAM --version must agree. (The
 library's own word for it is compared with the manifest by the Rust crate's tests; pkg-config file and manual pages take it from there.)
 """
 import os
@@ -23,7 +23,7 @@ def main(program):
     said = subprocess.run([program, "--version"], capture_output=True, text=True, check=True).stdout
     version = ".".join(found(source, rf"^pub const {part}: u32 = (\d+);$") for part in ["MAJOR", "MINOR", "PATCH"])
     others = {
-        "bindings/rust/Cargo.toml": found("bindings/rust/Cargo.toml", r'^version = "(.*)"$'),
+        **{path: found(path, r'^version = "(.*)"$') for path in ["bindings/rust/Cargo.toml", "compare/Cargo.toml"]},
         "CHANGELOG.md": found("CHANGELOG.md", r"^## (\S+)"),
         "--version": said.removeprefix("date_lines ").strip(),
     }
