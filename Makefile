@@ -6,11 +6,16 @@ LIBDIR = $(PREFIX)/lib
 MANDIR = $(PREFIX)/share/man
 
 version := $(shell sed -nE 's/^pub const (MAJOR|MINOR|PATCH): u32 = ([0-9]+);$$/\2/p' crates/version/src/lib.rt | paste -sd.)
-soname := liblarusqem.so.$(firstword $(subst ., ,$(version)))
+# a 0.x may change its structs with each x
+soname := liblarusqem.so.$(basename $(version))
 
 static = target/staticlib/liblarusqem.a
 shared = target/sharedlib/liblarusqem.so.$(version)
 program = target/bin/date_lines
+
+ifneq ($(words $(PREFIX)) $(filter-out /%,$(PREFIX) $(DESTDIR)),1 )
+$(error PREFIX is an absolute path without blanks, and so is DESTDIR if there is one)
+endif
 
 fill = sed -e 's|@prefix@|$(PREFIX)|' -e 's|@includedir@|$(INCLUDEDIR)|' -e 's|@libdir@|$(LIBDIR)|' -e 's|@version@|$(version)|'
 

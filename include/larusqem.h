@@ -188,13 +188,14 @@ uint64_t larusqem_read_words(const uint32_t *elements, size_t elements_length, c
 /* Each member is the word of its place, and nothing lies between or after them. All members are uint32_t, so the library reaches each of
    them by its own type, and a pointer to the struct serves as one to its words. */
 #if defined __cplusplus
-#define LARUSQEM_ASSERT(fact) static_assert(fact, #fact)
+#define LARUSQEM_ASSERT(name, fact) static_assert(fact, #name)
 #elif defined __STDC_VERSION__ && __STDC_VERSION__ >= 201112L
-#define LARUSQEM_ASSERT(fact) _Static_assert(fact, #fact)
+#define LARUSQEM_ASSERT(name, fact) _Static_assert(fact, #name)
 #else
-#define LARUSQEM_ASSERT(fact) extern char larusqem_asserted[(fact) ? 1 : -1]
+#define LARUSQEM_ASSERT(name, fact) typedef char name[(fact) ? 1 : -1]
 #endif
-#define LARUSQEM_WORD(name, index, member) LARUSQEM_ASSERT(offsetof(struct name, member) == (index) * sizeof(uint32_t))
+#define LARUSQEM_WORD(name, index, member) \
+    LARUSQEM_ASSERT(name##_##member##_is_word_##index, offsetof(struct name, member) == (index) * sizeof(uint32_t))
 
 LARUSQEM_WORD(larusqem_moment, 0, year);
 LARUSQEM_WORD(larusqem_moment, 1, month);
@@ -202,7 +203,7 @@ LARUSQEM_WORD(larusqem_moment, 2, day);
 LARUSQEM_WORD(larusqem_moment, 3, hour);
 LARUSQEM_WORD(larusqem_moment, 4, minute);
 LARUSQEM_WORD(larusqem_moment, 5, second);
-LARUSQEM_ASSERT(sizeof(struct larusqem_moment) == LARUSQEM_MOMENT_WORDS * sizeof(uint32_t));
+LARUSQEM_ASSERT(larusqem_moment_is_its_words, sizeof(struct larusqem_moment) == LARUSQEM_MOMENT_WORDS * sizeof(uint32_t));
 
 LARUSQEM_WORD(larusqem_reading, 0, number);
 LARUSQEM_WORD(larusqem_reading, 1, place);
@@ -219,7 +220,7 @@ LARUSQEM_WORD(larusqem_reading, 11, other_year);
 LARUSQEM_WORD(larusqem_reading, 12, other_month);
 LARUSQEM_WORD(larusqem_reading, 13, other_day);
 LARUSQEM_WORD(larusqem_reading, 14, other_hour);
-LARUSQEM_ASSERT(sizeof(struct larusqem_reading) == LARUSQEM_READING_WORDS * sizeof(uint32_t));
+LARUSQEM_ASSERT(larusqem_reading_is_its_words, sizeof(struct larusqem_reading) == LARUSQEM_READING_WORDS * sizeof(uint32_t));
 
 #undef LARUSQEM_WORD
 #undef LARUSQEM_ASSERT
@@ -234,10 +235,10 @@ static inline struct larusqem_answer larusqem_answer_of(uint64_t result)
     return answer;
 }
 
-/* the bytes of a text, also where it is NULL with length 0 */
-static inline const uint8_t *larusqem_bytes(const char *text)
+/* the bytes of a text, and some pointer where there are none */
+static inline const uint8_t *larusqem_bytes(const char *text, size_t length)
 {
-    return (const uint8_t *)(text ? text : "");
+    return (const uint8_t *)(length ? text : "");
 }
 
 /* ---- Writing and reading */
@@ -251,8 +252,8 @@ static inline struct larusqem_answer larusqem_strftime(const char *format, size_
 {
     uint8_t none = 0;
 
-    return larusqem_answer_of(larusqem_strftime_words(larusqem_bytes(format), format_length, (const uint32_t *)&moment,
-                                                      out ? (uint8_t *)out : &none, out_length));
+    return larusqem_answer_of(larusqem_strftime_words(larusqem_bytes(format, format_length), format_length, (const uint32_t *)&moment,
+                                                      out_length ? (uint8_t *)out : &none, out_length));
 }
 
 /* Reads a text by a format: the one day and hour that all that it says fits, or why there is none. Answers 0, 1, 3 or 5 to 10. */
@@ -260,7 +261,7 @@ static inline struct larusqem_reading larusqem_strptime(const char *format, size
 {
     struct larusqem_reading reading;
 
-    larusqem_strptime_words(larusqem_bytes(format), format_length, larusqem_bytes(text), text_length, (uint32_t *)&reading);
+    larusqem_strptime_words(larusqem_bytes(format, format_length), format_length, larusqem_bytes(text, text_length), text_length, (uint32_t *)&reading);
     return reading;
 }
 
@@ -284,7 +285,7 @@ static inline struct larusqem_answer larusqem_open(const char *format, size_t fo
     uint32_t none = 0;
 
     return larusqem_answer_of(
-        larusqem_open_words(larusqem_bytes(format), format_length, elements ? elements : &none, elements_length));
+        larusqem_open_words(larusqem_bytes(format, format_length), format_length, elements_length ? elements : &none, elements_length));
 }
 
 /*
@@ -297,8 +298,8 @@ static inline struct larusqem_answer larusqem_write(const uint32_t *elements, si
     uint32_t no_element = 0;
     uint8_t none = 0;
 
-    return larusqem_answer_of(larusqem_write_words(elements ? elements : &no_element, elements_length, (const uint32_t *)&moment,
-                                                   out ? (uint8_t *)out : &none, out_length));
+    return larusqem_answer_of(larusqem_write_words(elements_length ? elements : &no_element, elements_length, (const uint32_t *)&moment,
+                                                   out_length ? (uint8_t *)out : &none, out_length));
 }
 
 /* As larusqem_strptime, by elements that larusqem_open stored. Answers 0, 3 or 5 to 10: 5, then 3 as larusqem_write, then the others. */
@@ -307,7 +308,7 @@ static inline struct larusqem_reading larusqem_read(const uint32_t *elements, si
     struct larusqem_reading reading;
     uint32_t none = 0;
 
-    larusqem_read_words(elements ? elements : &none, elements_length, larusqem_bytes(text), text_length, (uint32_t *)&reading);
+    larusqem_read_words(elements_length ? elements : &none, elements_length, larusqem_bytes(text, text_length), text_length, (uint32_t *)&reading);
     return reading;
 }
 

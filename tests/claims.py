@@ -40,16 +40,20 @@ def names():
     """How many names the documents cite, and which of them are not there."""
     count, missing = 0, []
     for document in DOCUMENTS:
-        spans = re.findall(r"`([^`\n]+)`", content(document))
-        cited = sorted({span for span in spans if re.fullmatch(r"[\w.+-]+(/[\w.+-]+)+(#\S+)?", span)})
+        text = content(document)
+        cited = sorted({span for span in re.findall(r"`([^`\n]+)`", text) if re.fullmatch(r"(?!target/)[\w.+-]+(/[\w.+-]+)+(#\S+)?", span)})
         count += len(cited)
         missing += [f"{document} cites what is not there: {span}" for span in cited if not is_there(span)]
+        missing += [f"{document} has a gap: {gap}" for gap in re.findall(r"@[A-Z]+@", text)]
     return count, missing
 
 
 def texts():
     """The files that people write and read, with what they hold."""
-    files = subprocess.run(["git", "-C", ROOT, "ls-files"], capture_output=True, text=True, check=True).stdout.split("\n")
+    listing = subprocess.run(["git", "-C", ROOT, "ls-files"], capture_output=True, text=True, check=False)
+    if listing.returncode:
+        sys.exit("tests/claims.py: the files are listed by git, and this is no checkout: " + listing.stderr.strip())
+    files = listing.stdout.split("\n")
     read = re.compile(r"\.(rt|antt|rs|py|c|h|md|toml|[13])$|(^|/)(run|check|library|Makefile)$")
     return {path: content(path) for path in files if read.search(path)}
 

@@ -59,7 +59,7 @@ class Tests:
 def arguments(t):
     path = t.file("list", LIST)
     t.expect("a file", t.run(path, stdin=subprocess.DEVNULL), REPORT)
-    t.expect("no such file", t.run(path + "x"), b"", b"date_lines: " + path.encode() + b"x: No such file")
+    t.expect("no such file", t.run(path + "x"), b"", b"date_lines: the file could not be opened: No such file or directory")
     for words in [(path, path), ("-x",), ("--",), ("-",), ("",), ("--help", path), ("x" * 5000,)]:
         t.expect(f"arguments {words!r:.40}", t.run(*words), b"", USAGE)
     out, err = t.run("--help")
@@ -111,6 +111,7 @@ def outputs(t):
     t.expect("output closed", t.run(preexec_fn=lambda: os.close(1)), b"", NOT_WRITTEN + b"Bad file descriptor")
     for script in ["i", "1i1a1", "1" * 70, "a", ".ii"]:
         t.expect(f"writes by {script}", t.run(faults={"FAULTS_WRITE": script}), REPORT)
+    t.expect("writes by 10", t.run(faults={"FAULTS_WRITE": "10"}), HEADER[:1], NOT_WRITTEN)
     t.expect("writes by 11e", t.run(faults={"FAULTS_WRITE": "11e"}), HEADER[:2], NOT_WRITTEN + b"Input/output error")
 
     read, write = os.pipe()
@@ -173,6 +174,6 @@ def main(program):
 
 
 if __name__ == "__main__":
-    if len(sys.argv) != 2:
+    if len(sys.argv) != 2 or not os.access(sys.argv[1], os.X_OK):
         sys.exit("usage: python3 tests/faults.py PROGRAM")
     sys.exit(main(sys.argv[1]))

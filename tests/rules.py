@@ -29,10 +29,14 @@ def main(program):
     for text, expected in wrong:
         print(f"docs/RULES.md says of\n{text}that the report is\n{expected}and it is\n{written(program, text)}")
     print(f"{len(tried)} readings of docs/RULES.md tried, {len(wrong)} not as it says")
-    return 1 if wrong or len(tried) < 2 else 0
+    tables = re.findall(r"(?m)^\| text \| format \| answer .*\n\|[-|]*\n((?:\|.*\n)*)", rules)
+    if len(tried) != 1 + sum(table.count("\n") for table in tables):
+        print("docs/RULES.md has a row of a text, a format and an answer that was not understood")
+        return 1
+    return 1 if wrong else 0
 
 
 if __name__ == "__main__":
-    if len(sys.argv) != 2:
+    if len(sys.argv) != 2 or not os.access(sys.argv[1], os.X_OK):
         sys.exit("usage: python3 tests/rules.py PROGRAM")
     sys.exit(main(sys.argv[1]))

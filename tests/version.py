@@ -35,6 +35,6 @@ def main(program):
 
 
 if __name__ == "__main__":
-    if len(sys.argv) != 2:
+    if len(sys.argv) != 2 or not os.access(sys.argv[1], os.X_OK):
         sys.exit("usage: python3 tests/version.py PROGRAM")
     sys.exit(main(sys.argv[1]))

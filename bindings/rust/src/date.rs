@@ -1,6 +1,7 @@
 //! Dates and weekdays.
 use crate::error::{FieldError, ParseError};
 use crate::{ffi, shape};
+use alloc::format;
 use core::fmt;
 use core::str::FromStr;
 
@@ -14,6 +15,7 @@ use core::str::FromStr;
 /// assert_eq!((date.weekday(), date.day_of_year()), (Weekday::Friday, 1));
 /// assert_eq!((date.iso_year(), date.iso_week()), (2009, 53));
 /// assert_eq!(date.previous_day().unwrap().to_string(), "2009-12-31");
+/// assert_eq!(format!("{date:>12}"), "  2010-01-01");
 ///
 /// assert_eq!(Date::new(1900, 2, 29).unwrap_err().field(), Field::Day);
 /// ```
@@ -114,7 +116,7 @@ impl Date {
 /// As `YYYY-MM-DD`.
 impl fmt::Display for Date {
     fn fmt(&self, f: &mut fmt::Formatter) -> fmt::Result {
-        write!(f, "{:04}-{:02}-{:02}", self.year, self.month, self.day)
+        f.pad(&format!("{:04}-{:02}-{:02}", self.year, self.month, self.day))
     }
 }
 

@@ -2,6 +2,7 @@
 use crate::date::Date;
 use crate::error::{FieldError, ParseError};
 use crate::{ffi, shape};
+use alloc::format;
 use core::fmt;
 use core::str::FromStr;
 
@@ -64,7 +65,7 @@ impl Moment {
 /// As `YYYY-MM-DD HH:MM:SS`.
 impl fmt::Display for Moment {
     fn fmt(&self, f: &mut fmt::Formatter) -> fmt::Result {
-        write!(f, "{} {:02}:{:02}:{:02}", self.date, self.hour, self.minute, self.second)
+        f.pad(&format!("{} {:02}:{:02}:{:02}", self.date, self.hour, self.minute, self.second))
     }
 }
 

@@ -3,6 +3,8 @@ use crate::date::Date;
 use crate::error::{FormatError, ReadError};
 use crate::ffi;
 use crate::moment::Moment;
+use alloc::format;
+use alloc::string::ToString;
 use core::fmt;
 
 /// What a text says: the day and the hour are the only ones that all that it says fits. What it does not say is `None`, and never filled
@@ -85,16 +87,8 @@ impl Reading {
 /// As the program `date_lines` shows it: `1934-03-05 07:08:--`, an unsaid day `-` and an unsaid hour, minute or second `--`.
 impl fmt::Display for Reading {
     fn fmt(&self, f: &mut fmt::Formatter) -> fmt::Result {
-        match self.date {
-            Some(date) => write!(f, "{date}")?,
-            None => f.write_str("-")?,
-        }
-        for (before, said) in [(' ', self.hour), (':', self.minute), (':', self.second)] {
-            match said {
-                Some(number) => write!(f, "{before}{number:02}")?,
-                None => write!(f, "{before}--")?,
-            }
-        }
-        Ok(())
+        let day = self.date.map_or("-".to_string(), |date| date.to_string());
+        let two = |said: Option<u32>| said.map_or("--".to_string(), |number| format!("{number:02}"));
+        f.pad(&format!("{day} {}:{}:{}", two(self.hour), two(self.minute), two(self.second)))
     }
 }
