@@ -79,25 +79,15 @@ fn print_version() -> bool {
 
 fn print_help() -> bool {
     print(b"usage: date_lines [FILE] | --help | --version\n\n")
-        && print(
-            b"Reads dates from a list of texts, FILE or standard input, and writes a report on it.\n",
-        )
-        && print(
-            b"The list's first line is the format, such as %d %b %Y, and each other line a text.\n",
-        )
+        && print(b"Reads a list of texts, from FILE or standard input, and reports their dates.\n")
+        && print(b"The first line is the format, such as %d %b %Y, and each other one a text.\n")
         && print(b"The report has a header and a line for each text:\n\n")
         && print(b"  number place date time\n\n")
-        && print(
-            b"The number is 0 where the text was read; the place is then the offset after what was\n",
-        )
-        && print(
-            b"read, and what follows it was not looked at. Any other number tells why the text gave\n",
-        )
-        && print(b"no answer. A date that is not fixed is -, an hour, a minute or a second --.\n")
-        && print(b"A list of more than 32,768 bytes gets the line: too long\n\n")
-        && print(
-            b"README.md and the manual page date_lines(1) have the numbers and the conversions.\n",
-        )
+        && print(b"The number is 0 where the text was read; the place is then the offset after\n")
+        && print(b"what was read, and what follows was not looked at. Any other number tells\n")
+        && print(b"why there is no answer. A date that is not fixed is -, an hour, a minute or\n")
+        && print(b"a second --. A list of more than 32,768 bytes gets the line: too long\n\n")
+        && print(b"README.md and date_lines(1) have the numbers and the conversions.\n")
 }
 
 fn usage() {
