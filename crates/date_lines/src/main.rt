@@ -1,5 +1,5 @@
-// Reads a list, a format and texts, from standard input or from a file, and writes the report on it (RULES 9). An input that was not read to
-// its end gets no report; what could not be done is said on standard error.
+// Reads a list, a format and texts, from standard input or from a file, and writes the report on it (RULES 9). An input that was not read
+// to its end gets no report; what could not be done is said on standard error.
 use check::same;
 use format::MOST_ELEMENTS;
 use libc::STDERR_FILENO;
