@@ -1,5 +1,5 @@
-// Reads a list, a format and texts, from standard input or from a file, and writes the report on it (RULES 9). An input that was not read to
-// its end gets no report; what could not be done is said on standard error.
+// Reads a list, a format and texts, from standard input or from a file, and writes the report on it (RULES 9). An input that was not read
+// to its end gets no report; what could not be done is said on standard error.
 use check::same;
 use format::MOST_ELEMENTS;
 use libc::STDERR_FILENO;
@@ -79,24 +79,15 @@ fn print_version() -> bool {
 
 fn print_help() -> bool {
     print(b"usage: date_lines [FILE] | --help | --version\n\n")
-        && print(
-            b"Reads dates from texts: a list, from FILE or from standard input, whose first line is\n",
-        )
-        && print(
-            b"the format, such as %d %b %Y, and each other line a text. Writes a line for each text:\n\n",
-        )
+        && print(b"Reads a list of texts, from FILE or standard input, and reports their dates.\n")
+        && print(b"The first line is the format, such as %d %b %Y, and each other one a text.\n")
+        && print(b"The report has a header and a line for each text:\n\n")
         && print(b"  number place date time\n\n")
-        && print(
-            b"The number is 0 where the text was read, and else says why it was not; the place is the\n",
-        )
-        && print(
-            b"offset after what was read, or where the text or the format failed. What the text does\n",
-        )
-        && print(b"not fix is -, and -- for an hour, a minute or a second: no date is guessed.\n")
-        && print(b"A list of more than 32,768 bytes gets the line: too long\n\n")
-        && print(
-            b"README.md and the manual page date_lines(1) have the numbers and the conversions.\n",
-        )
+        && print(b"The number is 0 where the text was read; the place is then the offset after\n")
+        && print(b"what was read, and what follows was not looked at. Any other number tells\n")
+        && print(b"why there is no answer. A date that is not fixed is -, an hour, a minute or\n")
+        && print(b"a second --. A list of more than 32,768 bytes gets the line: too long\n\n")
+        && print(b"README.md and date_lines(1) have the numbers and the conversions.\n")
 }
 
 fn usage() {

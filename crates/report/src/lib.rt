@@ -1,5 +1,5 @@
-// The report on a list of texts: a header, and a line for each text as it is read by the list's first line, the format. It is made in parts,
-// so that a small buffer does for a list of any length: `first_part` once, then `next_part` while texts are left.
+// The report on a list of texts (RULES 9): a header, and a line for each text as it is read by the list's first line, the format. It is
+// made in parts, so that a small buffer does: `first_part` once, then `next_part` while texts are left.
 use answers::answer_to;
 use format::MOST_ELEMENTS;
 use format::Opened;
@@ -37,10 +37,11 @@ pub struct Next {
     pub next: usize,
 }
 
-// Opens the format of `input` into `elements`, and puts the header or the line `too long` at the front of `out`. Where no texts are left the
-// next place is at the input's end or past it.
+// Opens the format of `input` into `elements`, and puts the header or the line `too long` at the front of `out`. Where no text is to be
+// answered the next place is at the input's end or past it.
 pub fn first_part(input: &[u8], elements: &mut [u32; MOST_ELEMENTS], out: &mut [u8; PART]) -> First
-    ensures { λ r. ⌜ FirstPart (now (input .entry)) (now (elements .entry)) (now (elements .exit)) (now (out .entry)) (now (out .exit)) r ⌝ }
+    ensures { λ r. ⌜ FirstPart (now (input .entry)) (now (elements .entry)) (now (elements .exit))
+        (now (out .entry)) (now (out .exit)) r ⌝ }
 {
     let end = line_end(input, 0);
     let opened = open(&input[..end], elements);

@@ -2,6 +2,7 @@
 // would block waits and is tried again.
 use libc::EAGAIN;
 use libc::EINTR;
+use libc::types::timespec;
 ghost use lib.ListN.{length};
 ghost use Rattle.streams.specs.Got.{Within};
 
@@ -11,9 +12,17 @@ pub enum Got {
     Failed,
 }
 
-// Lets others go on for a while.
+// Waits for five milliseconds, or less where a signal comes.
 fn pause() {
-    libc::sched_yield();
+    let asked = timespec {
+        tv_sec: 0,
+        tv_nsec: 5000000,
+    };
+    let mut left = timespec {
+        tv_sec: 0,
+        tv_nsec: 0,
+    };
+    libc::nanosleep(&asked, &mut left);
 }
 
 // Whether the call that has just failed is to be tried again.
