@@ -21,13 +21,13 @@ fn write_report(input: &[u8]) -> bool {
     let opened = first.opened;
     let count = first.count;
     let mut next = first.next;
-    if !write_all(STDOUT_FILENO, &out[..count]) {
+    if write_all(STDOUT_FILENO, &out[..count]) < count {
         return false;
     }
     while next < input.len() {
         let part = next_part(opened, &elements, input, next, &mut out);
         let count = part.count;
-        if !write_all(STDOUT_FILENO, &out[..count]) {
+        if write_all(STDOUT_FILENO, &out[..count]) < count {
             return false;
         }
         next = part.next;
@@ -50,15 +50,14 @@ fn report_on(fd: i32) {
 fn report_on_file(name: &[u8]) {
     let fd = os::open_read(name);
     if fd < 0 {
-        write_all(STDERR_FILENO, b"date_lines: ");
-        os::fail(name);
+        os::fail(b"date_lines: the file could not be opened");
         return;
     }
     report_on(fd);
 }
 
 fn print(bytes: &[u8]) -> bool {
-    write_all(STDOUT_FILENO, bytes)
+    write_all(STDOUT_FILENO, bytes) == bytes.len()
 }
 
 fn print_number(n: u32) -> bool {
@@ -87,7 +86,7 @@ fn print_help() -> bool {
         && print(b"what was read, and what follows was not looked at. Any other number tells\n")
         && print(b"why there is no answer. A date that is not fixed is -, an hour, a minute or\n")
         && print(b"a second --. A list of more than 32,768 bytes gets the line: too long\n\n")
-        && print(b"README.md and date_lines(1) have the numbers and the conversions.\n")
+        && print(b"README.md, or date_lines(1) and larusqem(3), have numbers and conversions.\n")
 }
 
 fn usage() {

@@ -3,6 +3,7 @@
 use libc::EAGAIN;
 use libc::EINTR;
 use libc::types::timespec;
+ghost use Prim.Native.Nat.{_≤_};
 ghost use lib.ListN.{length};
 ghost use Rattle.streams.specs.Got.{Within};
 
@@ -94,17 +95,20 @@ pub fn read_all(fd: i32, buf: &mut [u8]) -> Got
     Got::All(done)
 }
 
-// Writes all of `buf`, and answers whether all was taken.
-pub fn write_all(fd: i32, buf: &[u8]) -> bool {
+// Writes all of `buf`, and answers how many of its first bytes were taken: fewer where a write failed, or took nothing, which errno does not
+// tell.
+pub fn write_all(fd: i32, buf: &[u8]) -> usize
+    ensures { λ r. ⌜ r ≤ length (now (buf .entry)) ⌝ }
+{
     let mut done = 0;
     while done < buf.len() {
         let Got::All(n) = write_some(fd, &buf[done..]) else {
-            return false;
+            return done;
         };
         if n == 0 {
-            return false;
+            return done;
         }
         done += n;
     }
-    true
+    done
 }

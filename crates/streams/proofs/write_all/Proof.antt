@@ -1,4 +1,4 @@
--- `streams::write_all` is safe and ends. The measure is the number of bytes that are left.
+-- `streams::write_all` meets its contract. The measure is the number of bytes that are left.
 use Prim.Native.Nat.{_+_, _-_, _≤_}
 use native.Mathlib.Omega.{arith}
 use borrow.Author.Needs.{needs}
@@ -36,10 +36,10 @@ enum-told : tie.Need-enum-told Inv-loop μ-loop
 enum-told c = search needs
 
 returns : tie.Need-returns Inv-loop μ-loop
-returns c = tt
+returns c = omega arith
 
 returns-2 : tie.Need-returns-2 Inv-loop μ-loop
-returns-2 c = tt
+returns-2 c = omega arith
 
 -- what was taken lies in the buffer
 taken : (c : tie.Else1 Inv-loop μ-loop) →
@@ -60,7 +60,7 @@ loop-again : tie.Need-loop-again Inv-loop μ-loop
 loop-again c = taken c
 
 returns-3 : tie.Need-returns-3 Inv-loop μ-loop
-returns-3 c = tt
+returns-3 c = omega arith
 
 pub write-all-spec : {M : Type 1} → statement M
 write-all-spec =
