@@ -261,7 +261,8 @@ static inline struct larusqem_reading larusqem_strptime(const char *format, size
 {
     struct larusqem_reading reading;
 
-    larusqem_strptime_words(larusqem_bytes(format, format_length), format_length, larusqem_bytes(text, text_length), text_length, (uint32_t *)&reading);
+    larusqem_strptime_words(larusqem_bytes(format, format_length), format_length, larusqem_bytes(text, text_length), text_length,
+                            (uint32_t *)&reading);
     return reading;
 }
 
@@ -308,7 +309,8 @@ static inline struct larusqem_reading larusqem_read(const uint32_t *elements, si
     struct larusqem_reading reading;
     uint32_t none = 0;
 
-    larusqem_read_words(elements_length ? elements : &none, elements_length, larusqem_bytes(text, text_length), text_length, (uint32_t *)&reading);
+    larusqem_read_words(elements_length ? elements : &none, elements_length, larusqem_bytes(text, text_length), text_length,
+                        (uint32_t *)&reading);
     return reading;
 }
 

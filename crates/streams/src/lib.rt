@@ -95,8 +95,8 @@ pub fn read_all(fd: i32, buf: &mut [u8]) -> Got
     Got::All(done)
 }
 
-// Writes all of `buf`, and answers how many of its first bytes were taken: fewer where a write failed, or took nothing, which errno does not
-// tell.
+// Writes all of `buf`, and answers how many of its first bytes were taken: fewer where a write failed, or took nothing (and then errno is
+// as it was before).
 pub fn write_all(fd: i32, buf: &[u8]) -> usize
     ensures { λ r. ⌜ r ≤ length (now (buf .entry)) ⌝ }
 {
