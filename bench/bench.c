@@ -16,9 +16,10 @@ static double now(void) {
 }
 
 static struct tm dates[DATES];
+static struct larusqem_moment moments[DATES];
 static volatile uint64_t sink;
 
-/* dates of the years 1000 to 9999, as the C library wants them: with their weekday and day of the year filled in */
+/* dates of the years 1000 to 9999, for both libraries; the C library's have their weekday and day of the year filled in */
 static void make_dates(void) {
     uint32_t state = 12345;
     for (int i = 0; i < DATES; i++) {
@@ -34,6 +35,8 @@ static void make_dates(void) {
         t.tm_sec = (int)((state >> 10) % 60);
         timegm(&t);
         dates[i] = t;
+        moments[i] = (struct larusqem_moment){(uint32_t)(t.tm_year + 1900), (uint32_t)(t.tm_mon + 1), (uint32_t)t.tm_mday,
+                                              (uint32_t)t.tm_hour, (uint32_t)t.tm_min, (uint32_t)t.tm_sec};
     }
 }
 
@@ -47,19 +50,8 @@ static void make_dates(void) {
         if (took < best) best = took;                             \
     }
 
-static const uint8_t *bytes(const char *text) { return (const uint8_t *)text; }
-
-static void moment_of(const struct tm *t, uint32_t moment[LARUSQEM_MOMENT_WORDS]) {
-    moment[0] = (uint32_t)(t->tm_year + 1900);
-    moment[1] = (uint32_t)(t->tm_mon + 1);
-    moment[2] = (uint32_t)t->tm_mday;
-    moment[3] = (uint32_t)t->tm_hour;
-    moment[4] = (uint32_t)t->tm_min;
-    moment[5] = (uint32_t)t->tm_sec;
-}
-
 static uint32_t open_all(const char *f, uint32_t elements[LARUSQEM_ELEMENTS]) {
-    return larusqem_answer_of(larusqem_open_words(bytes(f), strlen(f), elements, LARUSQEM_ELEMENTS)).place;
+    return larusqem_open(f, strlen(f), elements, LARUSQEM_ELEMENTS).place;
 }
 
 static void writing(void) {
@@ -70,17 +62,10 @@ static void writing(void) {
         const char *f = formats[k];
         size_t n = strlen(f);
         char out[256];
-        uint32_t moment[LARUSQEM_MOMENT_WORDS];
         BEST(libc, DATES, for (int i = 0; i < DATES; i++) sink += strftime(out, sizeof out, f, &dates[i]));
-        BEST(anew, DATES, for (int i = 0; i < DATES; i++) {
-            moment_of(&dates[i], moment);
-            sink += larusqem_strftime_words(bytes(f), n, moment, (uint8_t *)out, sizeof out);
-        });
+        BEST(anew, DATES, for (int i = 0; i < DATES; i++) sink += larusqem_strftime(f, n, moments[i], out, sizeof out).place);
         uint32_t count = open_all(f, elements);
-        BEST(once, DATES, for (int i = 0; i < DATES; i++) {
-            moment_of(&dates[i], moment);
-            sink += larusqem_write_words(elements, count, moment, (uint8_t *)out, sizeof out);
-        });
+        BEST(once, DATES, for (int i = 0; i < DATES; i++) sink += larusqem_write(elements, count, moments[i], out, sizeof out).place);
         printf("| `%s` | %.0f ns | %.0f ns | %.2f | %.0f ns | %.2f |\n", f, libc, anew, anew / libc, once, once / libc);
     }
     printf("\n");
@@ -95,13 +80,11 @@ static void reading(void) {
     printf("|---|---|---|---|---|---|\n");
     for (size_t k = 0; k < sizeof cases / sizeof *cases; k++) {
         const char *f = cases[k].format, *s = cases[k].text;
-        uint32_t words[LARUSQEM_READING_WORDS];
         struct tm t;
         BEST(libc, DATES, for (int i = 0; i < DATES; i++) { memset(&t, 0, sizeof t); sink += (uint64_t)(strptime(s, f, &t) - s); });
-        BEST(anew, DATES, for (int i = 0; i < DATES; i++)
-            sink += larusqem_strptime_words(bytes(f), strlen(f), bytes(s), strlen(s), words));
+        BEST(anew, DATES, for (int i = 0; i < DATES; i++) sink += larusqem_strptime(f, strlen(f), s, strlen(s)).place);
         uint32_t count = open_all(f, elements);
-        BEST(once, DATES, for (int i = 0; i < DATES; i++) sink += larusqem_read_words(elements, count, bytes(s), strlen(s), words));
+        BEST(once, DATES, for (int i = 0; i < DATES; i++) sink += larusqem_read(elements, count, s, strlen(s)).place);
         printf("| `%s` | %.0f ns | %.0f ns | %.2f | %.0f ns | %.2f |\n", f, libc, anew, anew / libc, once, once / libc);
     }
     printf("\n");
@@ -158,9 +141,9 @@ static void scanning(void) {
     printf("|---|---|---|---|---|\n");
     for (size_t k = 0; k < sizeof cases / sizeof *cases; k++) {
         const char *f = cases[k].format, *s = cases[k].text;
-        uint32_t words[LARUSQEM_READING_WORDS], hits[2];
+        uint32_t hits[2];
         BEST(c, 1, sink += search(cases[k].facts, hits));
-        BEST(us, 1, sink += larusqem_strptime_words(bytes(f), strlen(f), bytes(s), strlen(s), words));
+        BEST(us, 1, sink += larusqem_strptime(f, strlen(f), s, strlen(s)).place);
         printf("| %s (`%s`) | %.2f ms | %.2f ms | %.2f | %.2f |\n", cases[k].what, s, c / 1e6, us / 1e6, us / c, us / larusqem_days());
     }
     printf("\n");
