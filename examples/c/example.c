@@ -1,5 +1,6 @@
-/* Writes and reads dates with Larusqem. After `make install` (or `make install PREFIX=..`, with PKG_CONFIG_PATH=../lib/pkgconfig):
-   cc -std=c99 example.c $(pkg-config --cflags --libs larusqem) -o example && ./example */
+/* Writes and reads dates with Larusqem. After `make install` and `ldconfig`:
+   cc -std=c99 example.c $(pkg-config --cflags --libs larusqem) -o example && ./example
+   After `make install PREFIX=/p`, with PKG_CONFIG_PATH=/p/lib/pkgconfig in the environment and -Wl,-rpath,/p/lib on the line. */
 #include <inttypes.h>
 #include <stdio.h>
 #include <string.h>
