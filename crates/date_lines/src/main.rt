@@ -56,8 +56,18 @@ fn report_on_file(name: &[u8]) {
     report_on(fd);
 }
 
+// Each of these answers whether all was written.
+
+fn put(fd: i32, bytes: &[u8]) -> bool {
+    write_all(fd, bytes) == bytes.len()
+}
+
+fn put_usage(fd: i32) -> bool {
+    put(fd, b"usage: date_lines [FILE] | --help | --version\n")
+}
+
 fn print(bytes: &[u8]) -> bool {
-    write_all(STDOUT_FILENO, bytes) == bytes.len()
+    put(STDOUT_FILENO, bytes)
 }
 
 fn print_number(n: u32) -> bool {
@@ -77,7 +87,8 @@ fn print_version() -> bool {
 }
 
 fn print_help() -> bool {
-    print(b"usage: date_lines [FILE] | --help | --version\n\n")
+    put_usage(STDOUT_FILENO)
+        && print(b"\n")
         && print(b"Reads a list of texts, from FILE or standard input, and reports their dates.\n")
         && print(b"The first line is the format, such as %d %b %Y, and each other one a text.\n")
         && print(b"The report has a header and a line for each text:\n\n")
@@ -89,11 +100,8 @@ fn print_help() -> bool {
         && print(b"README.md, or date_lines(1) and larusqem(3), have numbers and conversions.\n")
 }
 
-fn usage() {
-    write_all(
-        STDERR_FILENO,
-        b"usage: date_lines [FILE] | --help | --version\n",
-    );
+fn refuse() {
+    put_usage(STDERR_FILENO);
 }
 
 // Says so where a text was not written whole.
@@ -113,11 +121,11 @@ fn obey(argument: &[u8]) {
         return;
     }
     if argument.len() == 0 {
-        usage();
+        refuse();
         return;
     }
     if argument[0] == b'-' {
-        usage();
+        refuse();
         return;
     }
     report_on_file(argument);
@@ -132,11 +140,11 @@ fn main() {
     let mut argument = io::buffer();
     let n = os::arg(1, &mut argument);
     if os::errno() != 0 {
-        usage();
+        refuse();
         return;
     }
     if 2 < count {
-        usage();
+        refuse();
         return;
     }
     obey(&argument[..n]);
