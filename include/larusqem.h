@@ -194,8 +194,9 @@ uint64_t larusqem_read_words(const uint32_t *elements, size_t elements_length, c
 #else
 #define LARUSQEM_ASSERT(name, fact) typedef char name[(fact) ? 1 : -1]
 #endif
-#define LARUSQEM_WORD(name, index, member) \
-    LARUSQEM_ASSERT(name##_##member##_is_word_##index, offsetof(struct name, member) == (index) * sizeof(uint32_t))
+#define LARUSQEM_WORD(name, index, member)                                                                                   \
+    LARUSQEM_ASSERT(name##_##member##_is_word_##index, offsetof(struct name, member) == (index) * sizeof(uint32_t) &&       \
+                                                           sizeof(((struct name *)0)->member) == sizeof(uint32_t))
 
 LARUSQEM_WORD(larusqem_moment, 0, year);
 LARUSQEM_WORD(larusqem_moment, 1, month);
