@@ -1,4 +1,4 @@
-//! The C library's strftime, in the C locale.
+//! The C library's strftime and isspace, in the C locale, which is POSIX's: a program is in it until it asks for another.
 use crate::rules::{Calendar, Moment};
 
 #[repr(C)]
@@ -19,6 +19,7 @@ struct Tm {
 mod c {
     extern "C" {
         pub(super) fn strftime(out: *mut u8, room: usize, format: *const u8, tm: *const super::Tm) -> usize;
+        pub(super) fn isspace(byte: i32) -> i32;
     }
 }
 
@@ -52,4 +53,9 @@ pub fn strftime(cal: &Calendar, format: &[u8], m: &Moment) -> Vec<u8> {
     let length = unsafe { c::strftime(out.as_mut_ptr(), ROOM, ended.as_ptr(), &tm) };
     out.truncate(length);
     out
+}
+
+/// Whether a byte is white space to the C library.
+pub fn isspace(b: u8) -> bool {
+    unsafe { c::isspace(b as i32) != 0 }
 }

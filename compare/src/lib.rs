@@ -1,4 +1,4 @@
-//! What the programs `compare` and `vectors` share: the rules once more, the C library's strftime, and random numbers.
+//! What the programs `compare` and `vectors` share: the rules once more, what the C library does, and random numbers.
 pub mod c_library;
 #[cfg(test)]
 mod margins;

@@ -1,5 +1,6 @@
 //! Cases worked by hand, on `rules.rs`: what is expected is typed, not computed.
-use crate::rules::{read, write, Calendar, Moment, Reading};
+use crate::c_library::isspace;
+use crate::rules::{read, white, write, Calendar, Moment, Reading};
 
 const MORNING: Moment = [1934, 3, 5, 7, 8, 9];
 
@@ -52,8 +53,20 @@ fn margins() {
     reads("%d %b %Y %H:%M", "5 Mar 1934 07:08", Reading { day: Some((1934, 3, 5)), hour: Some(7), minute: Some(8), ..answer(0, 16) });
     reads("%d %b %Y %H:%M", "29 Feb 1900 07:08", answer(9, 1));
 
+    // a line that a carriage return and a newline end
+    reads("%d %b %Y%n", "5 Mar 1934\r\n", Reading { day: Some((1934, 3, 5)), ..answer(0, 12) });
+    reads("%d %b %Y\r", "5 Mar 1934", Reading { day: Some((1934, 3, 5)), ..answer(0, 10) });
+    writes("%d\x0b%b\x0c%Y\r%n", MORNING, "05\x0bMar\x0c1934\r\n");
+
     // the calendar's ends
     let ends = [&cal.days[0], &cal.days[cal.days.len() - 1]];
     assert_eq!(cal.days.len(), 3_652_059);
     assert_eq!(ends.map(|d| (d.date(), d.weekday)), [((1, 1, 1), 1), ((9999, 12, 31), 5)]);
+}
+
+#[test]
+fn white_space() {
+    let all: Vec<u8> = (0..=255).filter(|b| white(*b)).collect();
+    assert_eq!(all, [9, 10, 11, 12, 13, 32]);
+    assert_eq!(all, (0..=255).filter(|b| isspace(*b)).collect::<Vec<u8>>());
 }

@@ -191,8 +191,9 @@ pub enum Item {
     Conversion(u8),
 }
 
-fn white(b: u8) -> bool {
-    b == 32 || b == 9 || b == 10
+/// The bytes that are white space (RULES 1).
+pub fn white(b: u8) -> bool {
+    (9..=13).contains(&b) || b == 32
 }
 
 /// A byte that stands for itself.
@@ -449,11 +450,11 @@ fn name_at(text: &[u8], names: &[&str]) -> Option<(u32, usize)> {
 fn read_items(cal: &Calendar, items: &[Item], text: &[u8]) -> Reading {
     let mut facts: Facts = [None; 18];
     let mut at = 0;
-    let blanks = |at: usize| text[at..].iter().take_while(|b| white(**b)).count();
+    let spaces = |at: usize| text[at..].iter().take_while(|b| white(**b)).count();
     for item in items {
         let letter = match *item {
             Item::Space(_) => {
-                at += blanks(at);
+                at += spaces(at);
                 continue;
             }
             Item::Byte(b) => {
@@ -466,7 +467,7 @@ fn read_items(cal: &Calendar, items: &[Item], text: &[u8]) -> Reading {
             Item::Conversion(l) => l,
         };
         let (kind, number, length) = if let Some((kind, width, least, greatest)) = numeric(letter) {
-            at += blanks(at);
+            at += spaces(at);
             let digits = text[at..].iter().take(width).take_while(|b| b.is_ascii_digit()).count();
             if digits == 0 {
                 return refused(6, at);

@@ -40,6 +40,18 @@
 //! assert_eq!(reading.date.unwrap().to_string(), "0034-03-19");
 //! ```
 //!
+//! # White space
+//!
+//! The bytes 9 to 13 and 32, carriage return included. One of them in a format, `%n` and `%t` take all the white space that stands in the
+//! text, also none; before a number it is skipped, before a name it is not. The writer copies it.
+//!
+//! ```
+//! use larusqem::strptime;
+//!
+//! let line = "5 Mar 1934\r\n";
+//! assert!(strptime("%d %b %Y%n", line).unwrap().is_whole(line));
+//! ```
+//!
 //! # What is proved
 //!
 //! The C functions of the repository's library. This crate gives them types, and is tested. A [`Date`] or a [`Moment`] that exists is

@@ -39,6 +39,7 @@ fn writing() {
     assert_eq!(write("%G %V", midnight(2017, 1, 1)), "2016 52");
     assert_eq!(write("%A", midnight(2000, 2, 29)), "Tuesday");
     assert_eq!(write("", midnight(1, 1, 1)), "");
+    assert_eq!(write("%d\x0b%b\x0c%Y\r%n", midnight(1934, 3, 5)), "05\x0bMar\x0c1934\r\n");
 }
 
 #[test]
@@ -119,6 +120,9 @@ fn whole_readings() {
     assert!(!whole("%d %b %Y", "5 Mar 19345"));
     assert!(!whole("%d %b %Y", "5 Mar 1934 "));
     assert!(whole("%d %b %Y%n", "5 Mar 1934 "));
+    assert!(whole("%d %b %Y%n", "5 Mar 1934\r\n"));
+    assert!(whole("%d %b %Y\r", "5 Mar 1934"));
+    assert!(whole("%d\x0b%b\x0c%Y", "\t5\r\nMar 1934"));
     assert!(whole("", ""));
 }
 

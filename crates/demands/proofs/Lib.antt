@@ -4,4 +4,5 @@ pub mod Rows
 pub mod Starred
 pub mod Verdicts
 pub mod Walk
+pub mod WhiteSpace
 pub mod Written

@@ -74,7 +74,7 @@ module _ (k : ℕ) (m : Moment) (v : IsMoment m) (o : opening (code "%" ∷ lett
 -- ---- the rows of the conversions for kinds 1 to 15, each by one computed test
 
 -- what holds of every kind of a list holds of each
-same-at : {A : Type 0} (f g : ℕ → A) (n from : ℕ) → map f (range from n) ≡ map g (range from n)
+pub same-at : {A : Type 0} (f g : ℕ → A) (n from : ℕ) → map f (range from n) ≡ map g (range from n)
     → (k : ℕ) → from ≤ k → k < from + n → f k ≡ g k
 unfolding range
 same-at f g zero from e k p q = absurd (omega arith)

@@ -6,13 +6,13 @@ ghost use Rattle.text.specs.Space.{isSpace, spaces};
 pub fn is_space(b: u8) -> bool
     ensures { λ r. ⌜ r ≡ isSpace b ⌝ }
 {
-    if b == 32 {
+    if b < 9 {
+        return false;
+    }
+    if b <= 13 {
         return true;
     }
-    if b == 9 {
-        return true;
-    }
-    b == 10
+    b == 32
 }
 
 // The offset after the white space that stands at `at`.

@@ -49,7 +49,7 @@ fn between(random: &mut Random, out: &mut Vec<u8>) {
     match random.below(10) {
         0..=5 => out.push(b' '),
         6 => out.push(*random.pick(b":/-,.")),
-        7 => out.push(*random.pick(b"\n\t %")),
+        7 => out.push(*random.pick(b"\t\n\x0b\x0c\r %")),
         8 => conversion(out, *random.pick(b"nt%")),
         _ => {}
     }
@@ -210,7 +210,7 @@ fn damage(random: &mut Random, text: &mut Vec<u8>) {
             text.remove(at);
         }
         4 => text.insert(at, random.next() as u8),
-        5 => text.insert(at, *random.pick(b" \t\n")),
+        5 => text.insert(at, *random.pick(b"\x08\t\n\x0b\x0c\r\x0e ")),
         6 => text.insert(at, b'0' + random.below(10) as u8),
         7 => text.truncate(at),
         8 => {
@@ -255,12 +255,12 @@ pub fn text(random: &mut Random, cal: &Calendar, items: &[Item]) -> Vec<u8> {
             }
         }
         70..=89 => {
-            // numbers of any length, with blanks before and without leading zeros
+            // numbers of any length, with white space before and without leading zeros
             for item in items {
                 match item {
                     Item::Conversion(l) if !b"aAbBhpP".contains(l) => {
                         for _ in 0..random.below(2) {
-                            out.push(*random.pick(b" \t\n"));
+                            out.push(*random.pick(b"\t\n\x0b\x0c\r "));
                         }
                         let digits = written(cal, &[*item], &m);
                         let mut n: u32 = digits.iter().filter(|b| b.is_ascii_digit()).fold(0, |n, b| n * 10 + (b - b'0') as u32);

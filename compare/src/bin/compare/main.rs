@@ -1,6 +1,7 @@
-//! Compares the proved library with an independent implementation of the rules (`rules.rs`) on random cases, and its writer with the
-//! C library's strftime on every day of the years 1000 to 9999. Usage: compare SECONDS [SEED]
+//! Compares the proved library with an independent implementation of the rules (`rules.rs`) on random cases, its writer with the C
+//! library's strftime on every day of the years 1000 to 9999, and its white space with isspace on every byte. Usage: compare SECONDS [SEED]
 mod c_days;
+mod c_spaces;
 mod cases;
 mod elements;
 mod library;
@@ -309,6 +310,9 @@ fn main() {
 
     let days = c_days::compare(&mut random, &cal, |case| tally.differs("larusqem_strftime_words against the C library", case));
     println!("{:6.1} s  the C library's strftime: {days} days of the years 1000 to 9999, every conversion", began.elapsed().as_secs_f64());
+
+    let bytes = c_spaces::compare(|case| tally.differs("white space against the C library", case));
+    println!("{:6.1} s  the C library's isspace: {bytes} bytes, in formats, in texts and before numbers", began.elapsed().as_secs_f64());
 
     let cases_began = Instant::now();
     let mut formats = 0u64;

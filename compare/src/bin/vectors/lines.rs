@@ -1,5 +1,5 @@
 //! Inputs for the program date_lines, and what it must write: each of its rules (RULES 9) at least once.
-//! For case `example` the output is typed, not computed.
+//! For cases `example` and `returns` the output is typed, not computed.
 use crate::{cat, Counts};
 use compare::rules::{read, Calendar};
 use std::fs;
@@ -14,6 +14,12 @@ const EXAMPLE_INPUT: &str = "%d %b %Y %H:%M
 ";
 const EXAMPLE_OUTPUT: &str = "number place date time
 0 16 1934-03-05 07:08:--
+9 1 - --:--:--
+";
+
+/// The same as a scanner saves it, a carriage return before each newline. The place of what was read counts its own.
+const RETURNS_OUTPUT: &str = "number place date time
+0 17 1934-03-05 07:08:--
 9 1 - --:--:--
 ";
 
@@ -48,6 +54,11 @@ fn report(cal: &Calendar, input: &[u8]) -> String {
 fn filled(lines: &[u8], size: usize) -> Vec<u8> {
     let texts = 1 + lines.iter().position(|b| *b == b'\n').unwrap();
     lines.iter().chain(lines[texts..].iter().cycle()).take(size).copied().collect()
+}
+
+/// With a carriage return before each newline.
+fn with_returns(lines: &[u8]) -> Vec<u8> {
+    lines.iter().flat_map(|b| if *b == b'\n' { vec![b'\r', b'\n'] } else { vec![*b] }).collect()
 }
 
 fn cases() -> Vec<(&'static str, Vec<u8>)> {
@@ -88,11 +99,23 @@ fn cases() -> Vec<(&'static str, Vec<u8>)> {
         ("bytes_in_texts", cat(&[b"%M", &any[..5], b"\n7", &any, b"\n", &any, b"7\n7\0\n\0\n\xff\n"])),
         ("bytes_in_format", cat(&[&any_ordinary, b"\n", &any, b"\n", &any[..40], b"\n"])),
         ("zero_bytes", b"\0%H\0\n\x007\0\n\n\0\0\n".to_vec()),
-        ("carriage_returns", b"%H:%M\r\n7:8\r\n7:8\n".to_vec()),
         ("tabs", b"%d\t%b%t%Y\n5 \t mar\t1934\n\t5mar1934\n5\tmar\t1934\t\n".to_vec()),
+        ("white_space", b"%d\x0b%b\x0c%Y\n5\x0c\x0bMar\r\t 1934\x0b\n\r5Mar1934\n5\x0emar 1934\n\x085 mar 1934\n".to_vec()),
+        // lines that a carriage return and a newline end
+        ("returns", with_returns(example)),
+        ("returns_no_last_newline", cat(&[&with_returns(example), b"5 Mar 1934 7:8\r"])),
+        ("returns_in_texts", b"%H:%M\n7:8\r\n7:8\n".to_vec()),
+        ("returns_in_format", b"%H:%M\r\n7:8\r\n7:8\n7:8".to_vec()),
+        ("returns_doubled", b"%I:%M %p\r\r\n7:8 pm\r\r\n7:8\r\r\n".to_vec()),
+        ("returns_empty_texts", b"%H:%M\r\n\r\n7:8\r\n\r\n\r".to_vec()),
+        ("returns_empty_format", b"\r\n5 Mar 1934\r\n\r\n\n".to_vec()),
+        ("returns_count_as_bytes", cat(&[b"%n\r\n", FULL, b"\r\n", &FULL[1..], b"\r\n", FULL, b"\n"])),
+        ("returns_in_a_long_format", cat(&[&b"%H".repeat(512), b"\r\n7\r\n"])),
+        ("returns_alone_end_no_line", b"%H:%M\r7:8\r7:8\r\n7:8\r7:8\r\n".to_vec()),
         // the input's length
         ("longest", filled(MARGINS, MOST)),
         ("longest_one_short", filled(MARGINS, MOST - 1)),
+        ("longest_with_returns", filled(&with_returns(MARGINS), MOST)),
         ("longest_with_newline", cat(&[&filled(MARGINS, MOST - 1), b"\n"])),
         ("longest_newlines", vec![b'\n'; MOST]),
         ("longest_format", vec![b'x'; MOST]),
@@ -106,6 +129,7 @@ fn cases() -> Vec<(&'static str, Vec<u8>)> {
 
 pub fn make(cal: &Calendar, directory: &Path) -> std::io::Result<()> {
     assert_eq!(report(cal, EXAMPLE_INPUT.as_bytes()), EXAMPLE_OUTPUT);
+    assert_eq!(report(cal, &with_returns(EXAMPLE_INPUT.as_bytes())), RETURNS_OUTPUT);
     let cases = cases();
     let mut counts = Counts::default();
     fs::create_dir_all(directory)?;

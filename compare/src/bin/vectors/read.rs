@@ -200,7 +200,7 @@ impl Cases<'_> {
             for at in 0..text.len() {
                 let (before, after) = (&text[..at], &text[at + 1..]);
                 let drawn = *self.random.pick(b"123456789:/-MaApP");
-                for byte in [0, 9, 32, 48, 57, 120, 255, text[at] ^ 32, drawn] {
+                for byte in [0, 9, 13, 32, 48, 57, 120, 255, text[at] ^ 32, drawn] {
                     self.add(format, cat(&[before, &[byte], after]));
                 }
                 self.add(format, cat(&[before, after]));
@@ -314,7 +314,7 @@ impl Cases<'_> {
         self.add("%I:%M", "07:08");
     }
 
-    /// Runs of blanks and tabs, %n and %t, where they are taken and where not.
+    /// Runs of white space, %n and %t, where they are taken and where not.
     fn white_space(&mut self) {
         for format in [
             "%H %M",
@@ -330,9 +330,13 @@ impl Cases<'_> {
             "%p%t%I",
             "%I%p",
             "%b%n%d%t%Y",
+            "%H:%M\r",
+            "\r%H\x0b%M\x0c",
+            "%H\r%%%M",
             "%n",
             "%t ",
             " ",
+            "\r",
         ] {
             for text in [
                 "7 8",
@@ -352,17 +356,24 @@ impl Cases<'_> {
                 "7 AM",
                 "mar5 1934",
                 "mar 51934",
+                "07:08\r",
+                "\r7\x0b\t \x0c\r8\r\r",
+                "7\r%8",
+                "\x0cAM",
                 "",
                 " ",
                 " \t ",
+                "\t\x0b\x0c\r ",
             ] {
                 self.add(format, text);
             }
         }
-        for byte in [0, 11, 12, 13, 28, 31, 33, 127, 133, 160, 255] {
+        for byte in [0, 8, 9, 11, 12, 13, 14, 28, 31, 32, 33, 127, 133, 160, 255] {
             let around = cat(&[b"%H", &[byte], b"%M"]);
             self.add("%H %M", [b'7', byte, b'8']);
             self.add("%H", [byte, b'7']);
+            self.add("%p", [byte, b'A', b'M']);
+            self.add([b'%', b'H', byte], "7");
             self.add(&around, [b'7', byte, b'8']);
             self.add(&around, [b'7', b' ', byte, b' ', b'8']);
         }

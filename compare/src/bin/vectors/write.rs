@@ -98,7 +98,7 @@ impl Cases<'_> {
             self.add(MORNING, 0, format);
         }
         // texts that fit just, or just not
-        for format in ["", "x", "%%", "margin", "%A, %e %B %Y", "%c", "%c %c", "%r%n%t%x", "at %H:%M%% of %F"] {
+        for format in ["", "x", "%%", "margin", "%A, %e %B %Y", "%c", "%c %c", "%r%n%t%x", "%F\x0b%R\x0c\r", "at %H:%M%% of %F"] {
             for m in [MORNING, [1, 1, 1, 0, 0, 0], [2022, 9, 28, 12, 0, 60], [9999, 12, 31, 23, 59, 60]] {
                 let just = self.needed(&m, format.as_bytes());
                 let mut rooms = vec![0, just.saturating_sub(1), just, just + 1, MOST];
