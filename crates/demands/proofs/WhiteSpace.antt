@@ -3,7 +3,7 @@
 use Prim.Native.Char.{code}
 use Prim.Native.Nat.{ℕ, _<_}
 use mathlib.Core.Bool.{Bool}
-use mathlib.Core.List.{List, [], _∷_, map}
+use mathlib.Core.List.{[], _∷_, map}
 use mathlib.Core.Path.{_≡_, refl, ap}
 use native.Mathlib.Omega.{arith}
 use borrow.Author.Tests.{le-leb, lt-ltb, ne-eqb}
@@ -16,18 +16,13 @@ use Rattle.format.specs.Conversions as conversions
 use Rattle.format.specs.Conversions.{among}
 use Rattle.format.specs.Opening as opening
 use Rattle.format.specs.Opening.{Whole, opening}
-use Rattle.values.specs.Moments.{momentOf}
-use Rattle.values.specs.declared.Moment.{Moment}
-use Rattle.values.specs.declared.MomentFields.the-variants.{Valid}
-use Rattle.strftime.specs.Writing.{numbered, element, text, put, byFormat, forMoment, forFields, writing}
-use Rattle.strftime.specs.declared.Fields.{Fields}
+use Rattle.strftime.specs.Writing.{element, text, put, byFormat, forMoment, forFields, writing}
 use Rattle.judge.specs.Agreement as agreement
-use Rattle.judge.specs.Search as search
 use Rattle.judge.specs.Verdicts as verdicts
 use Rattle.strptime.specs.Elements as elements
 use Rattle.strptime.specs.Reading as reading
 use Rattle.strptime.specs.Answers as answers
-use Rattle.demands.specs.WhiteSpace.{WhiteSpace, six, answers}
+use Rattle.demands.specs.WhiteSpace.{WhiteSpace, Copied, six, answers}
 use Rattle.demands.proofs.Written.{same-at}
 
 -- ---- the reader
@@ -43,8 +38,8 @@ abbrev listed : ℕ → Tests
 listed b = (among b six, among b six, among b six)
 
 computed : map met (range 0 256) ≡ map listed (range 0 256)
-unfolding six answers range bytes isSpace spaces isDigit digitRun decimal conversions.computes opening.computes
-    agreement.computes search.computes verdicts.computes elements.computes reading.computes answers.computes
+unfolding six answers range isSpace spaces isDigit digitRun decimal conversions.computes opening.computes
+    agreement.computes verdicts.computes elements.computes reading.computes answers.computes
 computed = refl
 
 met-is : (b : ℕ) → b < 256 → met b ≡ listed b
@@ -57,9 +52,7 @@ alone : (b : ℕ) → (b ≡ code "%" → ⊥) → opening (b ∷ []) ≡ record
 unfolding opening.computes
 alone b n = rw (ne-eqb b (code "%") n)
 
-writes : (b : ℕ) → b < 256 → (b ≡ code "%" → ⊥)
-    → (t : Fields) (m : Moment) → momentOf (t .year) (t .month) (t .day) (t .hour) (t .minute) (t .second) ≡ Valid m
-    → (c : ℕ) (rest : List ℕ) → writing (b ∷ []) t (c ∷ rest) ≡ record { answer = numbered 0 1; buffer = b ∷ rest }
+writes : (b : ℕ) → b < 256 → (b ≡ code "%" → ⊥) → Copied b
 unfolding writing forFields forMoment byFormat put text element
 writes b l n t m v c rest = rw (v, alone b n, alone b n, lt-ltb b 256 l, le-leb 1 (length (c ∷ rest)) (omega arith))
 

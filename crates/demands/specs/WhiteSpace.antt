@@ -23,6 +23,12 @@ six = 9 ∷ 10 ∷ 11 ∷ 12 ∷ 13 ∷ 32 ∷ []
 unfoldable pub answers : List ℕ → List ℕ → ℕ → ℕ → Bool
 answers f s n p = let r = reading f s in eqb (r .number) n && eqb (r .place) p
 
+-- a format of that byte alone writes it, for every moment, over a buffer's first byte
+abbrev pub Copied : ℕ → Type 0
+Copied b =
+    (t : Fields) (m : Moment) → momentOf (t .year) (t .month) (t .day) (t .hour) (t .minute) (t .second) ≡ Valid m
+    → (c : ℕ) (rest : List ℕ) → writing (b ∷ []) t (c ∷ rest) ≡ record { answer = numbered 0 1; buffer = b ∷ rest }
+
 pub record WhiteSpace : Type 0 where
   -- as a format by itself it matches the empty text, as no other byte does
   pub in-formats : (b : ℕ) → b < 256 → answers (b ∷ []) [] 0 0 ≡ among b six
@@ -30,7 +36,5 @@ pub record WhiteSpace : Type 0 where
   pub in-texts : (b : ℕ) → b < 256 → answers (bytes " ") (b ∷ []) 0 1 ≡ among b six
   -- before a number it is skipped: the number is missed at the offset after it
   pub before-numbers : (b : ℕ) → b < 256 → answers (bytes "%M") (b ∷ []) 6 1 ≡ among b six
-  -- every byte but % is written as itself, for every moment
-  pub copied : (b : ℕ) → b < 256 → (b ≡ code "%" → ⊥)
-      → (t : Fields) (m : Moment) → momentOf (t .year) (t .month) (t .day) (t .hour) (t .minute) (t .second) ≡ Valid m
-      → (c : ℕ) (rest : List ℕ) → writing (b ∷ []) t (c ∷ rest) ≡ record { answer = numbered 0 1; buffer = b ∷ rest }
+  -- the writer copies it, as every byte but %
+  pub copied : (b : ℕ) → b < 256 → (b ≡ code "%" → ⊥) → Copied b
