@@ -7,15 +7,21 @@ use Rattle.text.proofs.space.is_space.Tie as tie
 
 returns : tie.Need-returns
 unfolding isSpace
-returns c = simp (lt-leb _ _ (c .if1 .taken), ne-eqb (c .before .args .b) 32 (λ e. omega (arith, e)))
+returns c =
+    let b = c .before .args .b in
+    simp (lt-leb 9 b (omega arith), ne-eqb b 32 (λ e. omega (arith, e)))
 
 returns-2 : tie.Need-returns-2
 unfolding isSpace
-returns-2 c = simp (le-leb _ _ (c .before .if1 .left), le-leb _ _ (c .if2 .taken))
+returns-2 c =
+    let b = c .before .before .args .b in
+    simp (le-leb 9 b (omega arith), le-leb b 13 (omega arith))
 
 returns-3 : tie.Need-returns-3
 unfolding isSpace
-returns-3 c = simp (le-leb _ _ (c .before .if1 .left), lt-leb _ _ (c .if2 .left))
+returns-3 c =
+    let b = c .before .before .args .b in
+    simp (le-leb 9 b (omega arith), lt-leb b 13 (omega arith))
 
 pub is-space-spec : {M : Type 1} → statement M
 is-space-spec = tie.close (tie.spec returns returns-2 returns-3)
