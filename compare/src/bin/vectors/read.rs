@@ -200,7 +200,7 @@ impl Cases<'_> {
             for at in 0..text.len() {
                 let (before, after) = (&text[..at], &text[at + 1..]);
                 let drawn = *self.random.pick(b"123456789:/-MaApP");
-                for byte in [0, 9, 13, 32, 48, 57, 120, 255, text[at] ^ 32, drawn] {
+                for byte in [0, 13, 32, 48, 57, 120, 255, text[at] ^ 32, drawn] {
                     self.add(format, cat(&[before, &[byte], after]));
                 }
                 self.add(format, cat(&[before, after]));
