@@ -25,9 +25,9 @@
  *   %c %x %X %D %F %R %T %r, composites of the others
  *   %Ec %EC %Ex %EX %Ey %EY %Od %Oe %OH %OI %Om %OM %OS %Ou %OU %OV %Ow %OW %Oy, which mean the plain conversion.
  *
- * White space is the bytes 9 to 13 and 32, as for isspace() in the POSIX locale. To the reader each such byte of a format, %n and %t take
- * all the white space that stands in the text, also none, and before a number (not before a name) it is skipped; any other byte of a format
- * must be the next of the text. The writer copies every byte of a format but the conversions.
+ * White space is the bytes 9 to 13 and 32, as for isspace() in the POSIX locale. To the reader each such byte of a format, and so %n and
+ * %t, takes all the white space that stands at its place in the text, or none. A number skips white space before it; a name does not. Any
+ * other byte of a format must be the next byte of the text. The writer copies every byte but the conversions.
  */
 #ifndef LARUSQEM_H
 #define LARUSQEM_H

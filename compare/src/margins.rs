@@ -53,7 +53,7 @@ fn margins() {
     reads("%d %b %Y %H:%M", "5 Mar 1934 07:08", Reading { day: Some((1934, 3, 5)), hour: Some(7), minute: Some(8), ..answer(0, 16) });
     reads("%d %b %Y %H:%M", "29 Feb 1900 07:08", answer(9, 1));
 
-    // a line that a carriage return and a newline end
+    // white space is six bytes
     reads("%d %b %Y%n", "5 Mar 1934\r\n", Reading { day: Some((1934, 3, 5)), ..answer(0, 12) });
     reads("%d %b %Y\r", "5 Mar 1934", Reading { day: Some((1934, 3, 5)), ..answer(0, 10) });
     writes("%d\x0b%b\x0c%Y\r%n", MORNING, "05\x0bMar\x0c1934\r\n");

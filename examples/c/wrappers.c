@@ -144,17 +144,17 @@ static void reading(void)
 {
     static const struct larusqem_reading whole = {0, 24, 1934, 3, 5, 1, 7, 1, 8, 1, 9, 0, 0, 0, 0};
     static const struct larusqem_reading minute = {0, 2, 0, 0, 0, 0, 0, 1, 8, 0, 0, 0, 0, 0, 0};
-    static const struct larusqem_reading left_over = {0, 10, 1934, 3, 5, 0, 0, 0, 0, 0, 0, 0, 0, 0, 0};
-    static const struct larusqem_reading with_line_end = {0, 12, 1934, 3, 5, 0, 0, 0, 0, 0, 0, 0, 0, 0, 0};
+    static const struct larusqem_reading ten_bytes = {0, 10, 1934, 3, 5, 0, 0, 0, 0, 0, 0, 0, 0, 0, 0};
+    static const struct larusqem_reading twelve_bytes = {0, 12, 1934, 3, 5, 0, 0, 0, 0, 0, 0, 0, 0, 0, 0};
     static const struct larusqem_reading two_days = {10, 1, 1, 3, 5, 0, 0, 0, 0, 0, 0, 2, 3, 5, 0};
     static const struct larusqem_reading two_hours = {10, 2, 0, 0, 0, 0, 7, 0, 0, 0, 0, 0, 0, 0, 19};
     struct larusqem_reading r;
 
     reads("%c", "Mon Mar  5 07:08:09 1934", whole, __LINE__);
     reads("%M", "08", minute, __LINE__);
-    reads("%d %b %Y", "5 Mar 19345", left_over, __LINE__);
-    reads("%d %b %Y%n", "5 Mar 1934\r\n", with_line_end, __LINE__);
-    reads("%d\v%b\f%Y\r", "5 Mar 1934", left_over, __LINE__);
+    reads("%d %b %Y", "5 Mar 19345", ten_bytes, __LINE__);
+    reads("%d %b %Y%n", "5 Mar 1934\r\n", twelve_bytes, __LINE__);
+    reads("%d\v%b\f%Y\r", "5 Mar 1934", ten_bytes, __LINE__);
     reads("%d %Q", "5", refusal(LARUSQEM_BAD_CONVERSION, 3), __LINE__);
     reads("%d %b", "5 Mai", refusal(LARUSQEM_NO_MATCH, 2), __LINE__);
     reads("%H%M", "930", refusal(LARUSQEM_OUT_OF_RANGE, 0), __LINE__);

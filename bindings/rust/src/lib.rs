@@ -1,7 +1,7 @@
 //! Larusqem for Rust: a strftime and a strptime that are proved to follow their rules, for every format, text and moment. The rules are
 //! docs/RULES.md of the repository; `RULES 5` is its section 5.
 //!
-//! Blanks, letter case and missing zeros are forgiven when a text is read; a day is handed out only where all that was read fits exactly
+//! White space, letter case and missing zeros are forgiven when a text is read; a day is handed out only where all that was read fits exactly
 //! one day from 0001-01-01 to 9999-12-31.
 //!
 //! ```
@@ -42,8 +42,8 @@
 //!
 //! # White space
 //!
-//! The bytes 9 to 13 and 32, carriage return included. One of them in a format, `%n` and `%t` take all the white space that stands in the
-//! text, also none; before a number it is skipped, before a name it is not. The writer copies it.
+//! The bytes 9 to 13 and 32, carriage return included. One of them in a format, and so `%n` and `%t`, takes all the white space that
+//! stands at its place in the text, or none. A number skips white space before it; a name does not. The writer copies it.
 //!
 //! ```
 //! use larusqem::strptime;

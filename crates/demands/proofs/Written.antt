@@ -73,7 +73,7 @@ module _ (k : ℕ) (m : Moment) (v : IsMoment m) (o : opening (code "%" ∷ lett
 
 -- ---- the rows of the conversions for kinds 1 to 15, each by one computed test
 
--- what holds of every kind of a list holds of each
+-- two functions that agree over a range agree at each number of it
 pub same-at : {A : Type 0} (f g : ℕ → A) (n from : ℕ) → map f (range from n) ≡ map g (range from n)
     → (k : ℕ) → from ≤ k → k < from + n → f k ≡ g k
 unfolding range

@@ -1,8 +1,8 @@
 -- The three demands as statements about the writer and the reader, and the starred cases. The theorems are in proofs/.
 --   1  every answer is a row of the table of RULES 3: `WritingRow` and `ReadingRow` of Rows (`writing-rows`, `reading-rows` in proofs/Rows)
 --   2  writing and reading as RULES 5 and RULES 6 fix them: the promises of `strftime` and `strptime` are `writing` and `reading`; the
---      starred cases are in one table, Starred (`all-hold` in proofs/Starred); white space where it is met is in WhiteSpace (`white-space`
---      in proofs/WhiteSpace)
+--      starred cases are in one table, Starred (`all-hold` in proofs/Starred); which bytes are white space, and where, is in WhiteSpace
+--      (`white-space` in proofs/WhiteSpace)
 --   3  the conclusions of RULES 8: the facts that a text says, and when it is matched, in Facts (`matched`, `handed` in proofs/Matched);
 --      what the writer would write, in Writes (`day-would`, `hour-would` in proofs/Written);
 --      how a matched text is answered, `Answered` of Demand (`answered` in proofs/Demand)

@@ -24,8 +24,8 @@ spaceBytes = 9 ∷ 10 ∷ 11 ∷ 12 ∷ 13 ∷ 32 ∷ []
 unfoldable pub isAnswered : List ℕ → List ℕ → ℕ → ℕ → Bool
 isAnswered f s n p = let r = reading f s in eqb (r .number) n && eqb (r .place) p
 
--- the ways in which the reader meets white space, tried with a byte: as a format it takes a run of all six, and may take none; a blank of the
--- format takes it; it is skipped before numbers, those filled with zeros and those filled with blanks
+-- the ways in which the reader meets white space, tried with a byte: as a format it takes a run of all six, and may take none; a blank of
+-- the format takes it; it is skipped before numbers, those filled with zeros and those filled with blanks
 unfoldable pub met : ℕ → List Bool
 met b =
     isAnswered (b ∷ []) spaceBytes 0 6

@@ -2,15 +2,17 @@
 use crate::library;
 use compare::c_library::isspace;
 
-/// Returns how many bytes were compared.
-pub fn compare(mut differs: impl FnMut(&dyn std::fmt::Debug)) -> usize {
+pub fn compare(mut differs: impl FnMut(&dyn std::fmt::Debug)) {
     let reads = |format: &[u8], text: &[u8]| library::strptime(format, text, &mut [0; library::WORDS]);
     for b in 0..=255 {
-        // a format of white space matches the empty text, a blank takes white space, and a number that is not there is missed after it
-        let found = [reads(&[b], b"") == (0, 0), reads(b" ", &[b]) == (0, 1), reads(b"%M", &[b]) == (6, 1)];
-        if found != [isspace(b); 3] {
+        let found = [
+            reads(&[b], b"") == (0, 0),
+            reads(&[b], b"\t\n\x0b\x0c\r ") == (0, 6),
+            reads(b" ", &[b]) == (0, 1),
+            reads(b"%M", &[b, b'0', b'7']) == (0, 3),
+        ];
+        if found != [isspace(b); 4] {
             differs(&(b, found, isspace(b)));
         }
     }
-    256
 }

@@ -311,8 +311,8 @@ fn main() {
     let days = c_days::compare(&mut random, &cal, |case| tally.differs("larusqem_strftime_words against the C library", case));
     println!("{:6.1} s  the C library's strftime: {days} days of the years 1000 to 9999, every conversion", began.elapsed().as_secs_f64());
 
-    let bytes = c_spaces::compare(|case| tally.differs("white space against the C library", case));
-    println!("{:6.1} s  the C library's isspace: {bytes} bytes, in formats, in texts and before numbers", began.elapsed().as_secs_f64());
+    c_spaces::compare(|case| tally.differs("white space against the C library", case));
+    println!("{:6.1} s  the C library's isspace: 256 bytes, in formats, in texts and before numbers", began.elapsed().as_secs_f64());
 
     let cases_began = Instant::now();
     let mut formats = 0u64;

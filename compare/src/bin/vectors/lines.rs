@@ -17,9 +17,11 @@ const EXAMPLE_OUTPUT: &str = "number place date time
 9 1 - --:--:--
 ";
 
-/// The same as a scanner saves it, a carriage return before each newline. The place of what was read counts its own.
+/// Much the same with carriage returns: where the text has white space before its return, or no return, it is read all the same.
+const RETURNS_INPUT: &str = "%d %b %Y %H:%M\r\n5 Mar 1934 07:08\r\n5 Mar 1934 07:08 \t\r\n29 Feb 1900 07:08";
 const RETURNS_OUTPUT: &str = "number place date time
 0 17 1934-03-05 07:08:--
+0 19 1934-03-05 07:08:--
 9 1 - --:--:--
 ";
 
@@ -102,15 +104,18 @@ fn cases() -> Vec<(&'static str, Vec<u8>)> {
         ("tabs", b"%d\t%b%t%Y\n5 \t mar\t1934\n\t5mar1934\n5\tmar\t1934\t\n".to_vec()),
         ("white_space", b"%d\x0b%b\x0c%Y\n5\x0c\x0bMar\r\t 1934\x0b\n\r5Mar1934\n5\x0emar 1934\n\x085 mar 1934\n".to_vec()),
         // lines that a carriage return and a newline end
-        ("returns", with_returns(example)),
-        ("returns_no_last_newline", cat(&[&with_returns(example), b"5 Mar 1934 7:8\r"])),
+        ("returns", RETURNS_INPUT.into()),
+        ("returns_throughout", with_returns(MARGINS)),
+        ("returns_no_last_newline", b"%d %b %Y\r\n5 Mar 1934\r".to_vec()),
+        ("returns_taken_by_n", b"%d %b %Y%n\n5 Mar 1934\r\n5 Mar 1934\n5 Mar 1934 \r\n".to_vec()),
         ("returns_in_texts", b"%H:%M\n7:8\r\n7:8\n".to_vec()),
         ("returns_in_format", b"%H:%M\r\n7:8\r\n7:8\n7:8".to_vec()),
         ("returns_doubled", b"%I:%M %p\r\r\n7:8 pm\r\r\n7:8\r\r\n".to_vec()),
         ("returns_empty_texts", b"%H:%M\r\n\r\n7:8\r\n\r\n\r".to_vec()),
         ("returns_empty_format", b"\r\n5 Mar 1934\r\n\r\n\n".to_vec()),
         ("returns_count_as_bytes", cat(&[b"%n\r\n", FULL, b"\r\n", &FULL[1..], b"\r\n", FULL, b"\n"])),
-        ("returns_in_a_long_format", cat(&[&b"%H".repeat(512), b"\r\n7\r\n"])),
+        ("format_of_1024_with_its_return", cat(&[&b"%H".repeat(511), b"x\r\n", &b"07".repeat(511), b"x\r\n"])),
+        ("format_too_long_by_its_return", cat(&[&b"%H".repeat(512), b"\r\n", &b"07".repeat(511), b"\r\n"])),
         ("returns_alone_end_no_line", b"%H:%M\r7:8\r7:8\r\n7:8\r7:8\r\n".to_vec()),
         // the input's length
         ("longest", filled(MARGINS, MOST)),
@@ -129,7 +134,7 @@ fn cases() -> Vec<(&'static str, Vec<u8>)> {
 
 pub fn make(cal: &Calendar, directory: &Path) -> std::io::Result<()> {
     assert_eq!(report(cal, EXAMPLE_INPUT.as_bytes()), EXAMPLE_OUTPUT);
-    assert_eq!(report(cal, &with_returns(EXAMPLE_INPUT.as_bytes())), RETURNS_OUTPUT);
+    assert_eq!(report(cal, RETURNS_INPUT.as_bytes()), RETURNS_OUTPUT);
     let cases = cases();
     let mut counts = Counts::default();
     fs::create_dir_all(directory)?;

@@ -12,6 +12,9 @@ use compare::rules::{numeric, read, write, Calendar, Moment, Reading, HALVES, MO
 use std::fs;
 use std::path::Path;
 
+/// The bytes of the input that read_cases takes.
+const MOST: usize = 131_072;
+
 /// Formats by which a text names one day, one hour, or both.
 const DAY_FORMATS: [&str; 22] = [
     "%Y-%m-%d",
@@ -487,6 +490,7 @@ pub fn make(cal: &Calendar, input_path: &Path, output_path: &Path) -> std::io::R
         input.extend(cat(&[format, b"\n", text, b"\n"]));
         output += &line_of(&reading);
     }
+    assert!(input.len() <= MOST, "{} bytes are more than read_cases takes", input.len());
     fs::write(input_path, &input)?;
     fs::write(output_path, &output)?;
     println!("read_cases: {} cases, {} and {} bytes", cases.all.len(), input.len(), output.len());

@@ -1,4 +1,4 @@
--- `text::space::is_space` meets its contract: each test that held or failed settles one part of the definition's.
+-- `text::space::is_space` meets its contract: what the tests leave of the byte settles each part of the definition.
 use native.Mathlib.Omega.{arith}
 use borrow.Author.Tests.{le-leb, lt-leb, ne-eqb}
 use Rattle.text.specs.Space.{isSpace}
