@@ -1,8 +1,8 @@
 //! Larusqem for Rust: a strftime and a strptime that are proved to follow their rules, for every format, text and moment. The rules are
 //! docs/RULES.md of the repository; `RULES 5` is its section 5.
 //!
-//! White space, letter case and missing zeros are forgiven when a text is read; a day is handed out only where all that was read fits exactly
-//! one day from 0001-01-01 to 9999-12-31.
+//! White space, letter case and missing zeros are forgiven when a text is read; a day is handed out only where all that was read fits
+//! exactly one day from 0001-01-01 to 9999-12-31.
 //!
 //! ```
 //! use larusqem::{Date, Format, Moment, ReadError};
