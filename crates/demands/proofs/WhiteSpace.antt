@@ -9,6 +9,7 @@ use borrow.Author.Tests.{le-leb, lt-ltb, ne-eqb}
 use lib.ListN.{length, replicate}
 use Rattle.laws.specs.Bytes.{bytes}
 use Rattle.laws.specs.Lists.{range}
+use Rattle.laws.proofs.Table.{same-at}
 use Rattle.text.specs.Digits.{isDigit, digitRun, decimal}
 use Rattle.text.specs.Space.{isSpace, spaces}
 use Rattle.format.specs.Conversions as conversions
@@ -24,7 +25,6 @@ use Rattle.strptime.specs.Elements as elements
 use Rattle.strptime.specs.Reading as reading
 use Rattle.strptime.specs.Answers as answers
 use Rattle.demands.specs.WhiteSpace.{WhiteSpace, Copied, spaceBytes, isAnswered, met}
-use Rattle.demands.proofs.Written.{same-at}
 
 -- ---- the reader
 

@@ -1,7 +1,7 @@
 -- A fact would be written for a day or an hour exactly where the value of its kind is its number: what is written reads back.
 -- Assumes nothing.
 use Prim.Native.Char.{code}
-use Prim.Native.Nat.{ℕ, zero, suc, _+_, _-_, _^_, _≤_, _<_}
+use Prim.Native.Nat.{ℕ, zero, suc, _^_, _≤_, _<_}
 use mathlib.Core.Bool.{Bool, true, _&&_, and-eq-true-iff}
 use mathlib.Core.List.{List, [], _∷_, map, append-nil}
 use mathlib.Core.Logic.{_⊎_, _↔_, inl, inr, ⊎-elim}
@@ -23,6 +23,7 @@ use Rattle.format.specs.declared.conversions.Conversion.{Conversion}
 use Rattle.format.specs.declared.conversions.Form.the-variants.{Zeros}
 use Rattle.text.specs.declared.names.Names.the-variants.{Halves}
 use Rattle.laws.specs.Lists.{range}
+use Rattle.laws.proofs.Table.{same-at}
 use Rattle.text.specs.Case.{fold}
 use Rattle.text.specs.Digits.{filled, decimal}
 use Rattle.text.specs.Names as names
@@ -72,19 +73,6 @@ module _ (k : ℕ) (m : Moment) (v : IsMoment m) (o : opening (code "%" ∷ lett
   written-is = rw (wrote-is, sets-eq x (replicate 9 0) 0 (omega arith)) (take-append-seam x _)
 
 -- ---- the rows of the conversions for kinds 1 to 15, each by one computed test
-
--- two functions that agree over a range agree at each number of it
-pub same-at : {A : Type 0} (f g : ℕ → A) (n from : ℕ) → map f (range from n) ≡ map g (range from n)
-    → (k : ℕ) → from ≤ k → k < from + n → f k ≡ g k
-unfolding range
-same-at f g zero from e k p q = absurd (omega arith)
-same-at f g (suc n) from e k p q =
-    let here : f from ≡ g from = cc in
-    let more : map f (range (suc from) n) ≡ map g (range (suc from) n) = cc in
-    ⊎-elim
-    (λ (s : from ≡ k). rw s at here)
-    (λ (l : from < k). same-at f g n (suc from) more k l (omega arith))
-    (eq-or-lt-of-le p)
 
 -- each is a conversion of its own
 opens : (k : ℕ) → 1 ≤ k → k ≤ 15 → opening (code "%" ∷ letterFor k ∷ []) ≡ alone (elementFor k)

@@ -3,16 +3,16 @@ ghost use Prim.Native.Nat.{_+_};
 ghost use lib.ListN.{drop};
 ghost use Rattle.text.specs.Space.{isSpace, spaces};
 
+// The bits at 9 to 13 and at 32.
+const SPACES: u64 = 0x1_0000_3e00;
+
 pub fn is_space(b: u8) -> bool
     ensures { λ r. ⌜ r ≡ isSpace b ⌝ }
 {
-    if b < 9 {
+    if 32 < b {
         return false;
     }
-    if b <= 13 {
-        return true;
-    }
-    b == 32
+    (SPACES >> b) % 2 == 1
 }
 
 // The offset after the white space that stands at `at`.
