@@ -48,7 +48,8 @@ fn read_byte(b: u8, s: &[u8], at: usize) -> Item
     if s[at] != b {
         return Item::NoMatch { at };
     }
-    Item::Skip { next: at + 1 }
+    let next = at + 1;
+    Item::Skip { next }
 }
 
 fn read_number(c: Conversion, s: &[u8], at: usize) -> Item

@@ -25,8 +25,8 @@ returns-3 c =
     let d = c .before .before .before in
     byte-other _ _ _ (d .before .is-space .ensures) (d .if1 .left) (omega arith) (c .if3 .taken)
 
-add-t6 : tie.Need-add-t6
-add-t6 c = search needs
+add-next : tie.Need-add-next
+add-next c = search needs
 
 returns-4 : tie.Need-returns-4
 returns-4 c =
@@ -43,5 +43,5 @@ read-byte-spec =
     returns-2
     shared-slice-read-if3
     returns-3
-    add-t6
+    add-next
     returns-4)
