@@ -5,15 +5,17 @@ use Prim.Native.Nat.{ℕ, zero, suc, _+_, _-_, _*_, _≤_}
 use mathlib.Core.List.{List, [], _∷_}
 use native.Mathlib.Nat.{sub-zero}
 use native.Mathlib.Omega.{arith}
-use lib.Dec.{leb, leb→le}
+use lib.Dec.{T, leb, leb→le}
 use lib.ListN.{length, length-append}
 use Rattle.laws.specs.Lists.{every}
-use Rattle.format.specs.Conversions.{ownFormat, computes as rows-compute}
+use Rattle.format.specs.Conversions.{Composite, composites, ownFormat, computes as rows-compute}
 use Rattle.format.specs.Opening.{Ended, Opening, pieceOf, nothing, before, composed, acted, signAt, openFrom, compositeTo}
 use Rattle.format.specs.Opening.{openTo, opening, computes}
 use Rattle.format.specs.Opening.Ended.{Whole, BadAt}
 use Rattle.format.specs.declared.opening.Act.{Act}
 use Rattle.format.specs.declared.opening.Act.the-variants.{Byte, Convert, Open, Refuse}
+use Rattle.format.specs.declared.opening.Side.{Side}
+use Rattle.format.specs.declared.opening.Side.the-variants.{Writer, Reader}
 use Rattle.format.specs.declared.opening.Sign.{Sign}
 use Rattle.format.specs.declared.opening.Sign.the-variants.{Own, Of}
 use Rattle.format.proofs.Pieces.{Follows, follows}
@@ -25,38 +27,41 @@ unfolding composed before
 composed-length e Whole rest = omega (arith, length-append e (rest .elements))
 composed-length e (BadAt p) rest = omega arith
 
-module _ (inner : ℕ → ℕ → Opening) (few : (sign c : ℕ) → length (inner sign c .elements) ≤ 13) (g : Sign) where
+module _ (side : Side) (inner : ℕ → ℕ → Opening) (few : (sign c : ℕ) → length (inner sign c .elements) ≤ 13) (g : Sign) where
   -- what stands first takes k bytes, and n bytes follow its first
   acted-bound : (n k sign : ℕ) (rest : Opening) → 2 * length (rest .elements) ≤ 13 * (n - (k - 1)) → (a : Act) → Follows n k a
       → 2 * length (acted inner sign rest a .elements) ≤ 13 * suc n
   unfolding acted before nothing
   acted-bound n k sign rest h (Byte b) f = omega arith
-  acted-bound n k sign rest h (Convert c) f = omega arith
+  acted-bound n k sign rest h (Convert c y) f = omega arith
   acted-bound n k sign rest h (Open c) f =
       let o = inner sign c in
       omega (arith, few sign c, composed-length (o .elements) (o .ended) rest)
   acted-bound n k sign rest h Refuse f = omega arith
 
-  open-bound : (s : List ℕ) (i past : ℕ) → 2 * length (openFrom inner g i past s .elements) ≤ 13 * (length s - past)
+  open-bound : (s : List ℕ) (i past : ℕ) → 2 * length (openFrom side inner g i past s .elements) ≤ 13 * (length s - past)
   unfolding openFrom nothing
   open-bound [] i past = omega arith
   open-bound (b ∷ s) i (suc past) = omega (arith, open-bound s (i + 1) past)
   open-bound (b ∷ s) i zero =
-      let p = pieceOf b s in
+      let p = pieceOf side b s in
       rw sub-zero
-      (acted-bound (length s) (p .length) (signAt g i) (openFrom inner g (i + 1) (p .length - 1) s)
+      (acted-bound (length s) (p .length) (signAt g i) (openFrom side inner g (i + 1) (p .length - 1) s)
       (open-bound s (i + 1) (p .length - 1))
       (p .act)
-      (follows b s))
+      (follows side b s))
 
-at-most-13 : (sign c : ℕ) → length (compositeTo 2 sign c .elements) ≤ 13
+at-most-13 : (side : Side) (sign c : ℕ) → length (compositeTo side 2 sign c .elements) ≤ 13
 unfolding compositeTo
-at-most-13 sign c =
-    leb→le (length (openFrom (compositeTo 1) (Of sign) 0 0 (ownFormat c) .elements)) 13
-    (own-passes (λ s. leb (length (openFrom (compositeTo 1) (Of sign) 0 0 s .elements)) 13) c
-    (unfold computes rows-compute every in tt)
-    (unfold computes in tt))
+at-most-13 side sign c =
+    leb→le (length (openFrom side (compositeTo side 1) (Of sign) 0 0 (ownFormat c) .elements)) 13
+    (own-passes (λ s. leb (length (openFrom side (compositeTo side 1) (Of sign) 0 0 s .elements)) 13) c (each side) (unfold computes in tt))
+  where
+    each : (side : Side) → T (every (λ (x : Composite). leb (length (openFrom side (compositeTo side 1) (Of sign) 0 0 (x .format) .elements)) 13) composites)
+    unfolding computes rows-compute every
+    each Writer = tt
+    each Reader = tt
 
-pub bound : (s : List ℕ) → 2 * length (opening s .elements) ≤ 13 * length s
+pub bound : (side : Side) (s : List ℕ) → 2 * length (opening side s .elements) ≤ 13 * length s
 unfolding opening openTo
-bound s = rw sub-zero at (open-bound (compositeTo 2) at-most-13 Own s 0 0)
+bound side s = rw sub-zero at (open-bound side (compositeTo side 2) (at-most-13 side) Own s 0 0)

@@ -10,4 +10,5 @@ pub mod Pieces
 pub mod Refused
 pub mod Rows
 pub mod Small
+pub mod Styles
 pub mod Turns

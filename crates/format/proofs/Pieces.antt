@@ -1,7 +1,7 @@
 -- What stands first in a format: by its first bytes, and how many bytes it takes.
 -- Assumes nothing.
 use Prim.Native.Char.{code}
-use Prim.Native.Nat.{ℕ, suc, _-_, _≤_}
+use Prim.Native.Nat.{ℕ, suc, _+_, _-_, _≤_}
 use mathlib.Core.Bool.{cond}
 use mathlib.Core.List.{List, [], _∷_}
 use mathlib.Core.Path.{_≡_, refl}
@@ -10,11 +10,16 @@ use lib.Dec.{eqb, lit≤}
 use lib.ListN.{length, getD, take, drop, length-drop}
 use lib.Seq.{take-all}
 use Rattle.laws.proofs.Cases.{picked}
-use Rattle.format.specs.Conversions.{among}
-use Rattle.format.specs.Opening.{after-E, after-O, letter, piece, paired, conversion, pieceOf}
+use Rattle.format.specs.Conversions.{among, conversionOf}
+use Rattle.format.specs.Opening.{after-E, after-O, letter, piece, paired, conversion, flagRun, widthRun, styleFrom, takesFlag}
+use Rattle.format.specs.Opening.{isUnstyled, withStyle, styled, signed, pieceOf}
 use Rattle.format.specs.declared.opening.Act.{Act}
 use Rattle.format.specs.declared.opening.Act.the-variants.{Byte, Convert, Open, Refuse}
 use Rattle.format.specs.declared.opening.Piece.{Piece}
+use Rattle.format.specs.declared.opening.Side.{Side}
+use Rattle.format.specs.declared.opening.Side.the-variants.{Writer, Reader}
+use Rattle.format.specs.declared.opening.Style.{Style}
+use Rattle.format.proofs.Styles.{flag-run, width-run}
 
 -- a slice from some place on, as the code lends it
 pub rest : (s : List ℕ) (k : ℕ) → take (length s - k) (drop k s) ≡ drop k s
@@ -47,39 +52,51 @@ unfolding conversion
 conversion-some [] h = absurd (h refl)
 conversion-some (b ∷ s) h = refl
 
--- ---- how many bytes it takes
+-- ---- how many bytes it takes: a conversion alone one to three, with a flag and a width at most six
 
-abbrev Few : Piece → Type 0
-Few p = (1 ≤ p .length) × (p .length ≤ 3)
+abbrev Few : ℕ → Piece → Type 0
+Few n p = (1 ≤ p .length) × (p .length ≤ n)
 
-paired-takes : (letters s : List ℕ) → Few (paired letters s)
+paired-takes : (letters s : List ℕ) → Few 3 (paired letters s)
 unfolding paired
 paired-takes letters [] = (lit≤ tt, lit≤ tt)
 paired-takes letters (b ∷ s) = (lit≤ tt, lit≤ tt)
 
-conversion-takes : (s : List ℕ) → Few (conversion s)
+conversion-takes : (s : List ℕ) → Few 3 (conversion s)
 unfolding conversion
 conversion-takes [] = (lit≤ tt, lit≤ tt)
 conversion-takes (b ∷ s) =
-    picked Few (eqb b (code "E")) (paired-takes after-E s)
-    (picked Few (eqb b (code "O")) (paired-takes after-O s) (lit≤ tt, lit≤ tt))
+    picked (Few 3) (eqb b (code "E")) (paired-takes after-E s)
+    (picked (Few 3) (eqb b (code "O")) (paired-takes after-O s) (lit≤ tt, lit≤ tt))
 
-pub takes : (b : ℕ) (s : List ℕ) → Few (pieceOf b s)
+signed-takes : (side : Side) (s : List ℕ) → Few 6 (signed side s)
+unfolding signed styled
+signed-takes Writer s =
+    let f = flagRun s in
+    let w = widthRun (drop (length f) s) in
+    let c = conversion-takes (drop (length f + length w) s) in
+    (omega (arith, c), omega (arith, c, flag-run s .few, width-run (drop (length f) s) .few))
+signed-takes Reader s = omega-takes (conversion-takes s)
+  where
+    omega-takes : Few 3 (conversion s) → Few 6 (conversion s)
+    omega-takes h = (h .0, omega (arith, h .1))
+
+pub takes : (side : Side) (b : ℕ) (s : List ℕ) → Few 6 (pieceOf side b s)
 unfolding pieceOf
-takes b s = picked Few (eqb b (code "%")) (conversion-takes s) (lit≤ tt, lit≤ tt)
+takes side b s = picked (Few 6) (eqb b (code "%")) (signed-takes side s) (lit≤ tt, lit≤ tt)
 
 -- ---- what follows its first byte
 
 -- n bytes follow the first, and k are taken in all: a conversion has a byte after its %
 abbrev pub Follows : ℕ → ℕ → Act → Type 0
 Follows n k (Byte b) = Unit {0}
-Follows n k (Convert c) = (1 ≤ n) × (2 ≤ k)
+Follows n k (Convert c y) = (1 ≤ n) × (2 ≤ k)
 Follows n k (Open c) = (1 ≤ n) × (2 ≤ k)
 Follows n k Refuse = Unit {0}
 
 has-two : (n k : ℕ) → 1 ≤ n → 2 ≤ k → (a : Act) → Follows n k a
 has-two n k h l (Byte b) = tt
-has-two n k h l (Convert c) = (h, l)
+has-two n k h l (Convert c y) = (h, l)
 has-two n k h l (Open c) = (h, l)
 has-two n k h l Refuse = tt
 
@@ -97,7 +114,28 @@ conversion-follows (b ∷ s) =
     (picked P (eqb b (code "E")) (paired-two after-E s) (picked P (eqb b (code "O")) (paired-two after-O s) (lit≤ tt)))
     (conversion (b ∷ s) .act)
 
-pub follows : (b : ℕ) (s : List ℕ) → let p = pieceOf b s in Follows (length s) (p .length) (p .act)
+with-style-follows : (n k m l : ℕ) (y : Style) (a : Act) → n ≤ m → k ≤ l → Follows n k a → Follows m l (withStyle y a)
+unfolding withStyle
+with-style-follows n k m l y (Byte b) h g f = picked (Follows m l) (isUnstyled y) tt tt
+with-style-follows n k m l y (Convert c x) h g f =
+    picked (Follows m l) (takesFlag (y .flag) (conversionOf c .form)) (omega (arith, f .0), omega (arith, f .1)) tt
+with-style-follows n k m l y (Open c) h g f = picked (Follows m l) (isUnstyled y) (omega (arith, f .0), omega (arith, f .1)) tt
+with-style-follows n k m l y Refuse h g f = tt
+
+signed-follows : (side : Side) (s : List ℕ) → let p = signed side s in Follows (length s) (p .length) (p .act)
+unfolding signed styled
+signed-follows Writer s =
+    let f = flagRun s in
+    let w = widthRun (drop (length f) s) in
+    let rest = drop (length f + length w) s in
+    let p = conversion rest in
+    with-style-follows (length rest) (p .length) (length s) (length f + length w + p .length) (styleFrom f w) (p .act)
+    (rw length-drop (omega arith))
+    (omega arith)
+    (conversion-follows rest)
+signed-follows Reader s = conversion-follows s
+
+pub follows : (side : Side) (b : ℕ) (s : List ℕ) → let p = pieceOf side b s in Follows (length s) (p .length) (p .act)
 unfolding pieceOf
-follows b s =
-    picked (λ (p : Piece). Follows (length s) (p .length) (p .act)) (eqb b (code "%")) (conversion-follows s) tt
+follows side b s =
+    picked (λ (p : Piece). Follows (length s) (p .length) (p .act)) (eqb b (code "%")) (signed-follows side s) tt

@@ -20,15 +20,17 @@ use Rattle.format.specs.declared.opening.Act.the-variants.{Byte, Convert
 use Rattle.format.specs.declared.opening.Opened.{Opened}
 use Rattle.format.specs.declared.opening.Opened.the-variants.{Done, Bad}
 use Rattle.format.specs.declared.opening.Piece.{Piece}
+use Rattle.format.specs.declared.opening.Side.{Side}
 use Rattle.format.specs.declared.opening.Sign.{Sign}
 use Rattle.format.specs.declared.opening.Sign.the-variants.{Own, Of}
+use Rattle.format.specs.declared.opening.Style.{Style}
 use Rattle.format.proofs.Pieces.{takes}
 
 -- ---- one turn of the definition
 
-module _ (inner : ℕ → ℕ → Opening) (g : Sign) where
+module _ (side : Side) (inner : ℕ → ℕ → Opening) (g : Sign) where
   -- the bytes of the element before are passed
-  passed : (s : List ℕ) (k i : ℕ) → openFrom inner g i k s ≡ openFrom inner g (i + k) 0 (drop k s)
+  passed : (s : List ℕ) (k i : ℕ) → openFrom side inner g i k s ≡ openFrom side inner g (i + k) 0 (drop k s)
   unfolding openFrom
   passed [] zero i = refl
   passed [] (suc k) i = refl
@@ -36,31 +38,31 @@ module _ (inner : ℕ → ℕ → Opening) (g : Sign) where
   passed (b ∷ s) (suc k) i = let e : i + 1 + k ≡ i + suc k = omega arith in rw e at (passed s k (i + 1))
 
   module _ (s : List ℕ) (i : ℕ) where
-    ended : length s ≤ i → openFrom inner g i 0 (drop i s) ≡ nothing Whole
+    ended : length s ≤ i → openFrom side inner g i 0 (drop i s) ≡ nothing Whole
     unfolding openFrom
     ended h = rw (drop-of-length-le s h)
 
     turned : i < length s
-        → let p = pieceOf (getD s i 0) (drop (i + 1) s) in
-        openFrom inner g i 0 (drop i s)
-        ≡ acted inner (signAt g i) (openFrom inner g (i + p .length) 0 (drop (i + p .length) s)) (p .act)
+        → let p = pieceOf side (getD s i 0) (drop (i + 1) s) in
+        openFrom side inner g i 0 (drop i s)
+        ≡ acted inner (signAt g i) (openFrom side inner g (i + p .length) 0 (drop (i + p .length) s)) (p .act)
     unfolding openFrom
     turned h =
-        let p = pieceOf (getD s i 0) (drop (i + 1) s) in
-        let e : i + 1 + (p .length - 1) ≡ i + p .length = omega (arith, takes (getD s i 0) (drop (i + 1) s)) in
+        let p = pieceOf side (getD s i 0) (drop (i + 1) s) in
+        let e : i + 1 + (p .length - 1) ≡ i + p .length = omega (arith, takes side (getD s i 0) (drop (i + 1) s)) in
         let q = rw (drop-drop (p .length - 1) (i + 1) s, e) at (passed (drop (i + 1) s) (p .length - 1) (i + 1)) in
         rw (← q, drop-cons s i 0 h, add-one i)
 
 -- no composite is opened 0 deep
-deepest : (depth sign c : ℕ) → depth ≡ 0 → compositeTo depth sign c ≡ nothing (BadAt sign)
+deepest : (side : Side) (depth sign c : ℕ) → depth ≡ 0 → compositeTo side depth sign c ≡ nothing (BadAt sign)
 unfolding compositeTo
-deepest depth sign c e = rw e
+deepest side depth sign c e = rw e
 
 -- otherwise its own format is opened one less deep
-deeper : (depth sign c : ℕ) → (depth ≡ 0 → ⊥) → openTo (depth - 1) (Of sign) (ownFormat c) ≡ compositeTo depth sign c
+deeper : (side : Side) (depth sign c : ℕ) → (depth ≡ 0 → ⊥) → openTo side (depth - 1) (Of sign) (ownFormat c) ≡ compositeTo side depth sign c
 unfolding openTo compositeTo
-deeper zero sign c h = absurd (h refl)
-deeper (suc d) sign c h = let e : suc d - 1 ≡ d = omega arith in rw e
+deeper side zero sign c h = absurd (h refl)
+deeper side (suc d) sign c h = let e : suc d - 1 ≡ d = omega arith in rw e
 
 -- ---- a composite before the rest, by how its own format ended
 
@@ -134,13 +136,13 @@ module _ {xs : List ℕ} {n : ℕ} {ys : List ℕ} {m : ℕ} {t : Opening} where
 
 -- The invariant: n elements are counted, those that fit stand in xs, and the format s is read up to i. To store the rest of s from n on
 -- in xs comes to the same as to store all of s from m on in ys.
-pub record Going (depth : ℕ) (g : Sign) (s : List ℕ) (i : ℕ) (xs : List ℕ) (n : ℕ) (ys : List ℕ) (m : ℕ) : Type 0 where
+pub record Going (side : Side) (depth : ℕ) (g : Sign) (s : List ℕ) (i : ℕ) (xs : List ℕ) (n : ℕ) (ys : List ℕ) (m : ℕ) : Type 0 where
   pub kept : length xs ≡ length ys
-  pub same : Same xs n (openFrom (compositeTo depth) g i 0 (drop i s)) ys m (openTo depth g s)
+  pub same : Same xs n (openFrom side (compositeTo side depth) g i 0 (drop i s)) ys m (openTo side depth g s)
 
-pub begins : (depth : ℕ) (g : Sign) (s ys : List ℕ) (m : ℕ) → Going depth g s 0 ys m ys m
+pub begins : (side : Side) (depth : ℕ) (g : Sign) (s ys : List ℕ) (m : ℕ) → Going side depth g s 0 ys m ys m
 unfolding openTo
-begins depth g s ys m = record { kept = refl; same = record { counts = refl; ends = refl; contents = refl } }
+begins side depth g s ys m = record { kept = refl; same = record { counts = refl; ends = refl; contents = refl } }
 
 -- the offset that a % counts as lies in a format that is not too long
 pub sign-within : (g : Sign) (i : ℕ) → i < longest → signAt g 0 < longest → signAt g i < longest
@@ -148,76 +150,76 @@ unfolding signAt
 sign-within Own i h l = h
 sign-within (Of p) i h l = l
 
-module _ {depth : ℕ} {g : Sign} {s : List ℕ} {i : ℕ} {xs : List ℕ} {n : ℕ} {ys : List ℕ} {m : ℕ}
-    (going : Going depth g s i xs n ys m) where
-  pub finished : length s ≤ i → Gives (Done n) xs ys m (openTo depth g s)
+module _ {side : Side} {depth : ℕ} {g : Sign} {s : List ℕ} {i : ℕ} {xs : List ℕ} {n : ℕ} {ys : List ℕ} {m : ℕ}
+    (going : Going side depth g s i xs n ys m) where
+  pub finished : length s ≤ i → Gives (Done n) xs ys m (openTo side depth g s)
   unfolding closed
-  finished h = stops Whole (rw (ended (compositeTo depth) g s i h) at (going .same))
+  finished h = stops Whole (rw (ended side (compositeTo side depth) g s i h) at (going .same))
 
   -- what stands at i
-  module _ (h : i < length s) {p : Piece} (f : p ≡ pieceOf (getD s i 0) (drop (i + 1) s)) where
-    pub passes : (1 ≤ p .length) × (p .length ≤ 3)
-    passes = rw f (takes (getD s i 0) (drop (i + 1) s))
+  module _ (h : i < length s) {p : Piece} (f : p ≡ pieceOf side (getD s i 0) (drop (i + 1) s)) where
+    pub passes : (1 ≤ p .length) × (p .length ≤ 6)
+    passes = rw f (takes side (getD s i 0) (drop (i + 1) s))
 
     abbrev rest : Opening
-    rest = openFrom (compositeTo depth) g (i + p .length) 0 (drop (i + p .length) s)
+    rest = openFrom side (compositeTo side depth) g (i + p .length) 0 (drop (i + p .length) s)
 
-    turn : {a : Act} → p .act ≡ a → Same xs n (acted (compositeTo depth) (signAt g i) rest a) ys m (openTo depth g s)
-    turn q = rw (← q, f, ← turned (compositeTo depth) g s i h) (going .same)
+    turn : {a : Act} → p .act ≡ a → Same xs n (acted (compositeTo side depth) (signAt g i) rest a) ys m (openTo side depth g s)
+    turn q = rw (← q, f, ← turned side (compositeTo side depth) g s i h) (going .same)
 
-    pub stores-byte : {b : ℕ} {zs : List ℕ} → p .act ≡ Byte b → zs ≡ set xs n b → Going depth g s (i + p .length) zs (n + 1) ys m
+    pub stores-byte : {b : ℕ} {zs : List ℕ} → p .act ≡ Byte b → zs ≡ set xs n b → Going side depth g s (i + p .length) zs (n + 1) ys m
     unfolding acted
     stores-byte {b} q e = rw e (record { kept = length-set xs n b ∙ going .kept; same = stored-one b rest (turn q) })
 
     -- a conversion whose % counts as sign
     module _ {sign : ℕ} (at : sign ≡ signAt g i) where
-      pub stores-conversion : {c e : ℕ} {zs : List ℕ} → p .act ≡ Convert c → e ≡ conversionAt sign c → zs ≡ set xs n e
-          → Going depth g s (i + p .length) zs (n + 1) ys m
+      pub stores-conversion : {c : ℕ} {y : Style} {e : ℕ} {zs : List ℕ} → p .act ≡ Convert c y → e ≡ conversionAt sign y c → zs ≡ set xs n e
+          → Going side depth g s (i + p .length) zs (n + 1) ys m
       unfolding acted
-      stores-conversion {c} {e} q k z =
-          let v = conversionAt (signAt g i) c in
+      stores-conversion {c} {y} {e} q k z =
+          let v = conversionAt (signAt g i) y c in
           rw (z, k, at) (record { kept = length-set xs n v ∙ going .kept; same = stored-one v rest (turn q) })
 
-      pub refuses : p .act ≡ Refuse → Gives (Bad sign) xs ys m (openTo depth g s)
+      pub refuses : p .act ≡ Refuse → Gives (Bad sign) xs ys m (openTo side depth g s)
       unfolding acted closed
       refuses q = rw at (stops (BadAt (signAt g i)) (turn q))
 
       -- a composite
       module _ {c : ℕ} (q : p .act ≡ Open c) where
-        composite-turn : Same xs n (composed (compositeTo depth sign c) rest) ys m (openTo depth g s)
+        composite-turn : Same xs n (composed (compositeTo side depth sign c) rest) ys m (openTo side depth g s)
         unfolding acted
         composite-turn = rw at (turn q)
 
-        pub too-deep : depth ≡ 0 → Gives (Bad sign) xs ys m (openTo depth g s)
+        pub too-deep : depth ≡ 0 → Gives (Bad sign) xs ys m (openTo side depth g s)
         unfolding composed nothing closed
         too-deep e =
-            let w : Same xs n (nothing (BadAt sign)) ys m (openTo depth g s) = rw (deepest depth sign c e) at composite-turn in
+            let w : Same xs n (nothing (BadAt sign)) ys m (openTo side depth g s) = rw (deepest side depth sign c e) at composite-turn in
             stops (BadAt sign) w
 
         -- its own format is opened one less deep
         module _ (d : depth ≡ 0 → ⊥) {own : List ℕ} (holds : own ≡ ownFormat c) where
-          pub asks : CanOpen depth g s m → length own ≤ 14 → CanOpen (depth - 1) (Of sign) own n
+          pub asks : CanOpen side depth g s m → length own ≤ 14 → CanOpen side (depth - 1) (Of sign) own n
           unfolding signAt
           asks a l =
-              let o = compositeTo depth sign c in
+              let o = compositeTo side depth sign c in
               record {
                 short = omega arith;
                 sign = rw at (sign-within g i (omega (arith, a .short)) (a .sign));
-                few = rw (holds, deeper depth sign c d)
+                few = rw (holds, deeper side depth sign c d)
                     (omega (arith, a .few, composite-turn .counts, no-longer (o .elements) (o .ended) rest));
               }
 
-          module _ {r : Opened} {zs : List ℕ} (opened : Gives r zs xs n (openTo (depth - 1) (Of sign) own)) where
-            inside : Gives r zs xs n (compositeTo depth sign c)
-            inside = rw (holds, deeper depth sign c d) at opened
+          module _ {r : Opened} {zs : List ℕ} (opened : Gives r zs xs n (openTo side (depth - 1) (Of sign) own)) where
+            inside : Gives r zs xs n (compositeTo side depth sign c)
+            inside = rw (holds, deeper side depth sign c d) at opened
 
-            pub opens : {k : ℕ} → r ≡ Done k → Going depth g s (i + p .length) zs k ys m
+            pub opens : {k : ℕ} → r ≡ Done k → Going side depth g s (i + p .length) zs k ys m
             opens {k} e =
-                let l = ap length (inside .1) ∙ length-sets xs n (compositeTo depth sign c .elements) in
-                record { kept = l ∙ going .kept; same = inner-done (compositeTo depth sign c) inside rest composite-turn k e }
+                let l = ap length (inside .1) ∙ length-sets xs n (compositeTo side depth sign c .elements) in
+                record { kept = l ∙ going .kept; same = inner-done (compositeTo side depth sign c) inside rest composite-turn k e }
 
-            pub opens-bad : ((k : ℕ) → r ≡ Done k → ⊥) → Gives r zs ys m (openTo depth g s)
+            pub opens-bad : ((k : ℕ) → r ≡ Done k → ⊥) → Gives r zs ys m (openTo side depth g s)
             unfolding closed
             opens-bad e =
-                let o = compositeTo depth sign c in
+                let o = compositeTo side depth sign c in
                 inner-bad o inside rest composite-turn (λ z. e (n + length (o .elements)) (inside .0 ∙ rw z))

@@ -77,6 +77,16 @@ conversionOf c = find c rows
 unfoldable pub isConversion : ℕ → Bool
 isConversion b = among b (map (λ (r : Row). r .letter) rows)
 
+-- a form of digits; the others, but Unknown, are of letters
+unfoldable pub isNumber : Form → Bool
+isNumber Zeros = true
+isNumber Blanks = true
+isNumber FromSunday = true
+isNumber (Short t) = false
+isNumber (Full t) = false
+isNumber (Lower t) = false
+isNumber Unknown = false
+
 -- ---- composites
 
 -- a letter and its own format
@@ -114,5 +124,5 @@ isComposite b = among b (map (λ (x : Composite). x .letter) composites)
 
 -- everything here, for proofs that compute
 unfoldable pub computes : Unit {0}
-unfolding bytes among rows find conversionOf isConversion composites formatOf ownFormat isComposite
+unfolding bytes among rows find conversionOf isConversion isNumber composites formatOf ownFormat isComposite
 computes = tt

@@ -1,20 +1,25 @@
 -- Opening a format into elements (RULES 4), and which entries of a list are elements (RULES 10).
 use Prim.Native.Char.{code}
 use Prim.Native.Nat.{ℕ, zero, suc, _+_, _-_, _*_, _/_, _%_}
-use mathlib.Core.Bool.{Bool, cond, _||_, _&&_}
+use mathlib.Core.Bool.{Bool, true, false, cond, not, _||_, _&&_}
 use mathlib.Core.List.{List, [], _∷_, _++_}
 use lib.Dec.{eqb, leb, ltb}
-use lib.ListN.{length}
+use lib.ListN.{length, getD, drop}
 use lib.Seq.{sets}
 use Rattle.laws.specs.Bytes.{bytes}
-use Rattle.format.specs.Conversions.{among, isConversion, isComposite, ownFormat}
+use Rattle.text.specs.Digits.{digitRun, decimal}
+use Rattle.format.specs.Conversions.{among, isConversion, conversionOf, isNumber, isComposite, ownFormat}
+use Rattle.format.specs.declared.conversions.Form.{Form}
 use Rattle.format.specs.declared.opening.Act.{Act}
 use Rattle.format.specs.declared.opening.Act.the-variants.{Byte, Convert, Open, Refuse}
 use Rattle.format.specs.declared.opening.Opened.{Opened}
 use Rattle.format.specs.declared.opening.Opened.the-variants.{Done, TooLong, Bad}
 use Rattle.format.specs.declared.opening.Piece.{Piece}
+use Rattle.format.specs.declared.opening.Side.{Side}
+use Rattle.format.specs.declared.opening.Side.the-variants.{Writer, Reader}
 use Rattle.format.specs.declared.opening.Sign.{Sign}
 use Rattle.format.specs.declared.opening.Sign.the-variants.{Own, Of}
+use Rattle.format.specs.declared.opening.Style.{Style}
 
 -- the most bytes of a format, and of a text (RULES 1)
 abbrev pub longest : ℕ
@@ -22,15 +27,31 @@ longest = 1024
 
 -- ---- elements
 
--- An element is a number: a byte stands for itself, and a conversion is its letter and 256 times one more than the offset of its %.
-abbrev pub conversionAt : ℕ → ℕ → ℕ
-conversionAt sign letter = 256 * (sign + 1) + letter
+-- no flag and no width
+abbrev pub unstyled : Style
+unstyled = record { flag = 0; width = 0 }
+
+-- An element is a number. A byte stands for itself. A conversion is its letter, 256 times one more than the offset of its %, 2^18 times its
+-- width and 2^25 times its flag; a width or a flag that is not there counts as 0.
+abbrev pub conversionAt : ℕ → Style → ℕ → ℕ
+conversionAt sign y letter = 33554432 * y .flag + (262144 * y .width + (256 * (sign + 1) + letter))
 
 abbrev pub isByte : ℕ → Bool
 isByte e = ltb e 256
 
 abbrev pub letterOf : ℕ → ℕ
 letterOf e = e % 256
+
+-- the offset of its %, and one more
+abbrev pub afterSign : ℕ → ℕ
+afterSign e = e / 256 % 1024
+
+abbrev pub styleOf : ℕ → Style
+styleOf e = record { flag = e / 33554432; width = e / 262144 % 128 }
+
+-- an element with neither flag nor width
+abbrev pub isPlain : ℕ → Bool
+isPlain e = ltb e 262144
 
 -- ---- what a format begins with
 
@@ -48,7 +69,7 @@ letter b =
     (cond (eqb b (code "t")) (Byte 9)
     (cond (eqb b (code "%")) (Byte (code "%"))
     (cond (isComposite b) (Open b)
-    (cond (isConversion b) (Convert b)
+    (cond (isConversion b) (Convert b unstyled)
     Refuse))))
 
 -- what stands first, and how many bytes it takes
@@ -60,7 +81,7 @@ unfoldable pub paired : List ℕ → List ℕ → Piece
 paired letters [] = piece Refuse 2
 paired letters (b ∷ s) = piece (cond (among b letters) (letter b) Refuse) 3
 
--- what follows a %: E or O or neither, and a letter; refused where that is unknown or not finished
+-- E or O or neither, and a letter; refused where that is unknown or not finished. The length counts the % before it.
 unfoldable pub conversion : List ℕ → Piece
 conversion [] = piece Refuse 1
 conversion (b ∷ s) =
@@ -68,9 +89,57 @@ conversion (b ∷ s) =
     (cond (eqb b (code "O")) (paired after-O s)
     (piece (letter b) 2))
 
+-- ---- flags and widths
+
+-- blanks, no filling, zeros, capitals
+unfoldable pub flags : List ℕ
+flags = bytes "_-0^"
+
+-- the flag that stands first, at most one
+unfoldable pub flagRun : List ℕ → List ℕ
+flagRun [] = []
+flagRun (b ∷ s) = cond (among b flags) (b ∷ []) []
+
+-- the digits of the width that stands first, 1 to 99: at most two, and no zero in front
+unfoldable pub widthRun : List ℕ → List ℕ
+widthRun [] = []
+widthRun (b ∷ s) = cond (eqb b (code "0")) [] (digitRun 2 (b ∷ s))
+
+-- a flag and the digits of a width; 0 where there is none
+unfoldable pub styleFrom : List ℕ → List ℕ → Style
+styleFrom flag width = record { flag = getD flag 0 0; width = decimal 0 width }
+
+-- ^ belongs to names (with %p and %P), the other flags to numbers, and no flag to either
+unfoldable pub takesFlag : ℕ → Form → Bool
+takesFlag flag f = cond (eqb flag 0) true (cond (eqb flag (code "^")) (not (isNumber f)) (isNumber f))
+
+unfoldable pub isUnstyled : Style → Bool
+isUnstyled y = eqb (y .flag) 0 && eqb (y .width) 0
+
+-- what stands after a flag and a width: a conversion that takes them, else nothing may stand before it
+unfoldable pub withStyle : Style → Act → Act
+withStyle y (Byte b) = cond (isUnstyled y) (Byte b) Refuse
+withStyle y (Convert c x) = cond (takesFlag (y .flag) (conversionOf c .form)) (Convert c y) Refuse
+withStyle y (Open c) = cond (isUnstyled y) (Open c) Refuse
+withStyle y Refuse = Refuse
+
+-- a flag, a width and what follows them
+unfoldable pub styled : List ℕ → Piece
+styled s =
+    let flag = flagRun s in
+    let width = widthRun (drop (length flag) s) in
+    let n = length flag + length width in
+    let p = conversion (drop n s) in
+    piece (withStyle (styleFrom flag width) (p .act)) (n + p .length)
+
+-- what follows a %: the writer takes a flag and a width before the conversion, the reader takes none
+unfoldable pub signed : Side → List ℕ → Piece
+signed Writer s = styled s
+signed Reader s = conversion s
+
 -- a byte, and what follows it
-unfoldable pub pieceOf : ℕ → List ℕ → Piece
-pieceOf b s = cond (eqb b (code "%")) (conversion s) (piece (Byte b) 1)
+unfoldable pub pieceOf : Side → ℕ → List ℕ → Piece
+pieceOf d b s = cond (eqb b (code "%")) (signed d s) (piece (Byte b) 1)
 
 -- ---- opening
 
@@ -103,7 +172,7 @@ composed o rest = go (o .ended)
 -- what stands first, whose % is at `sign`, makes of the rest of a format; `inner` opens composites
 unfoldable pub acted : (ℕ → ℕ → Opening) → ℕ → Opening → Act → Opening
 acted inner sign rest (Byte b) = before (b ∷ []) rest
-acted inner sign rest (Convert c) = before (conversionAt sign c ∷ []) rest
+acted inner sign rest (Convert c y) = before (conversionAt sign y c ∷ []) rest
 acted inner sign rest (Open c) = composed (inner sign c) rest
 acted inner sign rest Refuse = nothing (BadAt sign)
 
@@ -112,42 +181,44 @@ unfoldable pub signAt : Sign → ℕ → ℕ
 signAt Own i = i
 signAt (Of p) i = p
 
--- what a format opens to from offset i on; the next `past` bytes belong to the element before
-unfoldable pub openFrom : (ℕ → ℕ → Opening) → Sign → ℕ → ℕ → List ℕ → Opening
-openFrom inner g i past [] = nothing Whole
-openFrom inner g i (suc past) (b ∷ s) = openFrom inner g (i + 1) past s
-openFrom inner g i zero (b ∷ s) =
-    let p = pieceOf b s in
-    let rest = openFrom inner g (i + 1) (p .length - 1) s in
-    acted inner (signAt g i) rest (p .act)
+-- a format opened for a side
+module _ (d : Side) where
+  -- what it opens to from offset i on; the next `past` bytes belong to the element before
+  unfoldable pub openFrom : (ℕ → ℕ → Opening) → Sign → ℕ → ℕ → List ℕ → Opening
+  openFrom inner g i past [] = nothing Whole
+  openFrom inner g i (suc past) (b ∷ s) = openFrom inner g (i + 1) past s
+  openFrom inner g i zero (b ∷ s) =
+      let p = pieceOf d b s in
+      let rest = openFrom inner g (i + 1) (p .length - 1) s in
+      acted inner (signAt g i) rest (p .act)
 
--- a composite whose % is at `sign`, opened at most `depth` deep: its own format's composites open one less deep, and none opens 0 deep
-unfoldable pub compositeTo : ℕ → ℕ → ℕ → Opening
-compositeTo zero sign c = nothing (BadAt sign)
-compositeTo (suc depth) sign c = openFrom (compositeTo depth) (Of sign) 0 0 (ownFormat c)
+  -- a composite whose % is at `sign`, opened at most `depth` deep: its own format's composites open one less deep, and none opens 0 deep
+  unfoldable pub compositeTo : ℕ → ℕ → ℕ → Opening
+  compositeTo zero sign c = nothing (BadAt sign)
+  compositeTo (suc depth) sign c = openFrom (compositeTo depth) (Of sign) 0 0 (ownFormat c)
 
--- a format opened, its composites at most `depth` deep
-unfoldable pub openTo : ℕ → Sign → List ℕ → Opening
-openTo depth g s = openFrom (compositeTo depth) g 0 0 s
+  -- a format, its composites at most `depth` deep
+  unfoldable pub openTo : ℕ → Sign → List ℕ → Opening
+  openTo depth g s = openFrom (compositeTo depth) g 0 0 s
 
--- composites are opened at most two deep
-unfoldable pub opening : List ℕ → Opening
-opening s = openTo 2 Own s
+  -- composites are opened at most two deep
+  unfoldable pub opening : List ℕ → Opening
+  opening s = openTo 2 Own s
 
 -- what opening a format answers: how many elements it has, 1, or 3 with the offset of its first bad %
 unfoldable pub closed : ℕ → Ended → Opened
 closed n Whole = Done n
 closed n (BadAt p) = Bad p
 
-unfoldable pub opened : List ℕ → Opened
-opened s =
-    let o = opening s in
+unfoldable pub opened : Side → List ℕ → Opened
+opened d s =
+    let o = opening d s in
     cond (leb (length s) longest) (closed (length (o .elements)) (o .ended)) TooLong
 
 -- what a slice holds after a format was opened into it: the elements from its start on, as many as fit; as it came where that is too long
-unfoldable pub openedInto : List ℕ → List ℕ → List ℕ
-openedInto s out =
-    let stored = sets out 0 (opening s .elements) in
+unfoldable pub openedInto : Side → List ℕ → List ℕ → List ℕ
+openedInto d s out =
+    let stored = sets out 0 (opening d s .elements) in
     cond (leb (length s) longest) stored out
 
 -- ---- entries of an opened format
@@ -156,18 +227,30 @@ openedInto s out =
 abbrev pub mostElements : ℕ
 mostElements = 6656
 
+-- a flag and a width that opening a format can store with a letter: for the reader none
+unfoldable pub hasStyle : Side → ℕ → Bool
+hasStyle Writer e =
+    let y = styleOf e in
+    leb (y .width) 99 && (among (y .flag) (0 ∷ flags) && takesFlag (y .flag) (conversionOf (letterOf e) .form))
+hasStyle Reader e = isPlain e
+
 -- what opening a format can store: a byte, or a conversion whose % has a letter after it in the longest format
-unfoldable pub isElement : ℕ → Bool
-isElement e = isByte e || (isConversion (letterOf e) && leb (e / 256) (longest - 1))
+unfoldable pub isElement : Side → ℕ → Bool
+isElement d e = isByte e || (isConversion (letterOf e) && (leb 1 (afterSign e) && hasStyle d e))
 
 -- how many entries, from the first on and at most n, opening a format can store
-unfoldable pub elementsIn : ℕ → List ℕ → ℕ
-elementsIn zero es = 0
-elementsIn (suc n) [] = 0
-elementsIn (suc n) (e ∷ es) = let more = suc (elementsIn n es) in cond (isElement e) more 0
+unfoldable pub elementsIn : Side → ℕ → List ℕ → ℕ
+elementsIn d zero es = 0
+elementsIn d (suc n) [] = 0
+elementsIn d (suc n) (e ∷ es) = let more = suc (elementsIn d n es) in cond (isElement d e) more 0
+
+-- the place of the entry k, at which reading is refused: the offset of its % where it has a flag or a width, as only the writer takes;
+-- otherwise k itself
+unfoldable pub entryPlace : List ℕ → ℕ → ℕ
+entryPlace es k = let e = getD es k 0 in cond (isElement Writer e && not (isElement Reader e)) (afterSign e - 1) k
 
 -- everything here, for proofs that compute
 unfoldable pub computes : Unit {0}
-unfolding after-E after-O letter paired conversion pieceOf nothing before composed acted signAt openFrom
-    compositeTo openTo opening closed opened openedInto isElement elementsIn
+unfolding after-E after-O letter paired conversion flags flagRun widthRun styleFrom takesFlag isUnstyled withStyle styled signed pieceOf
+    nothing before composed acted signAt openFrom compositeTo openTo opening closed opened openedInto hasStyle isElement elementsIn entryPlace
 computes = tt

@@ -8,6 +8,7 @@ use lib.ListN.{length}
 use Rattle.format.specs.Conversions.{among}
 use Rattle.format.specs.Opening.{Opening, longest, mostElements, signAt, openTo, closed}
 use Rattle.format.specs.declared.opening.Opened.{Opened}
+use Rattle.format.specs.declared.opening.Side.{Side}
 use Rattle.format.specs.declared.opening.Sign.{Sign}
 
 -- a set of letters is a number whose bit at 64 less than its byte says whether a letter is in
@@ -20,10 +21,10 @@ SetOf set letters = (b : ℕ) → holds set b ≡ among b letters
 
 -- a format can be opened where n elements stand already: it is not too long, nor is the one that holds the composite's %, and the
 -- elements can be counted
-pub record CanOpen (depth : ℕ) (g : Sign) (s : List ℕ) (n : ℕ) : Type 0 where
+pub record CanOpen (d : Side) (depth : ℕ) (g : Sign) (s : List ℕ) (n : ℕ) : Type 0 where
   pub short : length s ≤ longest
   pub sign : signAt g 0 < longest
-  pub few : n + length (openTo depth g s .elements) ≤ mostElements
+  pub few : n + length (openTo d depth g s .elements) ≤ mostElements
 
 -- the answer to an opening where n elements stand already
 abbrev pub answered : ℕ → Opening → Opened

@@ -8,8 +8,13 @@ pub use conversions::conversion_of;
 pub use opening::LONGEST;
 pub use opening::MOST_ELEMENTS;
 pub use opening::Opened;
+pub use opening::PLAIN;
+pub use opening::Side;
+pub use opening::Style;
 pub use opening::elements_in;
+pub use opening::entry_place;
 pub use opening::open;
+pub use opening::style_of;
 
 // The room that a short format and a middling one need: to clear room for the longest takes longer than to write or read by a short one.
 pub const SHORT_BYTES: usize = 16;

@@ -1,11 +1,19 @@
+use crate::conversions::Form;
+use crate::conversions::conversion_of;
+use text::Digits;
+use text::read_digits;
 ghost use mathlib.Core.Path.{_≡_};
-ghost use mathlib.Core.List.{List};
+ghost use mathlib.Core.Bool.{cond};
+ghost use mathlib.Core.List.{List, _∷_};
 ghost use Prim.Native.Nat.{ℕ, min, _+_, _≤_, _<_};
+ghost use lib.Dec.{eqb};
 ghost use lib.ListN.{length, getD, take, drop, set};
 ghost use lib.Seq.{sets};
-ghost use Rattle.format.specs.Conversions.{ownFormat};
-ghost use Rattle.format.specs.Opening.{longest, conversionAt, letter, paired, conversion, pieceOf};
-ghost use Rattle.format.specs.Opening.{signAt, openTo, opened, openedInto, mostElements, isElement, elementsIn};
+ghost use Rattle.text.specs.Digits.{decimal};
+ghost use Rattle.format.specs.Conversions.{among, isNumber, ownFormat};
+ghost use Rattle.format.specs.Opening.{longest, conversionAt, letter, paired, conversion, flags, flagRun, widthRun, takesFlag};
+ghost use Rattle.format.specs.Opening.{withStyle, styled, signed, pieceOf, signAt, openTo, opened, openedInto, mostElements};
+ghost use Rattle.format.specs.Opening.{styleOf, hasStyle, isElement, elementsIn, entryPlace};
 ghost use Rattle.format.specs.Private.{holds, SetOf, CanOpen, answered};
 
 // The most bytes of a format, and of a text.
@@ -14,10 +22,25 @@ pub const LONGEST: usize = 1024;
 // The most elements that a format opens to, 13 to two bytes.
 pub const MOST_ELEMENTS: usize = 6656;
 
+// An element below this has neither flag nor width.
+pub const PLAIN: u32 = 262144;
+
+// The side that a format is opened for: the writer takes flags and widths, the reader none.
+pub enum Side {
+    Writer,
+    Reader,
+}
+
+// A flag, one of the bytes `_`, `-`, `0` and `^`, and a width; 0 where there is none.
+pub struct Style {
+    pub flag: u8,
+    pub width: u8,
+}
+
 // What a piece of a format does: a byte or a conversion is stored, a composite is opened, or the conversion is bad.
 pub enum Act {
     Byte(u8),
-    Convert(u8),
+    Convert { letter: u8, style: Style },
     Open(u8),
     Refuse,
 }
@@ -83,7 +106,10 @@ fn letter(b: u8) -> Act
                 return Act::Open(b);
             }
             if holds(CONVERSIONS, b) {
-                return Act::Convert(b);
+                return Act::Convert {
+                    letter: b,
+                    style: Style { flag: 0, width: 0 },
+                };
             }
             Act::Refuse
         }
@@ -113,7 +139,7 @@ fn paired(set: u64, s: &[u8]) -> Piece
     }
 }
 
-// What stands after %.
+// What stands after % where no flag and no width do: E, O or neither, and a letter.
 fn conversion(s: &[u8]) -> Piece
     ensures { λ r. ⌜ r ≡ conversion (now (s .entry)) ⌝ }
 {
@@ -134,10 +160,148 @@ fn conversion(s: &[u8]) -> Piece
     }
 }
 
+// Whether a byte is a flag, or 0.
+fn is_flag(b: u8) -> bool
+    ensures { λ r. ⌜ r ≡ among b (0 ∷ flags) ⌝ }
+{
+    match b {
+        0 => true,
+        b'_' => true,
+        b'-' => true,
+        b'0' => true,
+        b'^' => true,
+        _ => false,
+    }
+}
+
+// The flag that stands first, or 0.
+fn flag_at(s: &[u8]) -> u8
+    ensures { λ r. ⌜ r ≡ getD (flagRun (now (s .entry))) 0 0 ⌝ }
+{
+    if s.len() == 0 {
+        return 0;
+    }
+    let b = s[0];
+    if is_flag(b) {
+        return b;
+    }
+    0
+}
+
+// The width at `at`, and how many digits it has.
+fn width_at(s: &[u8], at: usize) -> Digits
+    ensures { λ r. ⌜ (r .value ≡ decimal 0 (widthRun (drop at (now (s .entry)))))
+        × (r .count ≡ length (widthRun (drop at (now (s .entry))))) ⌝ }
+{
+    if at < s.len() {
+        if s[at] == b'0' {
+            return Digits { value: 0, count: 0 };
+        }
+    }
+    read_digits(s, at, 2)
+}
+
+fn is_number(form: Form) -> bool
+    ensures { λ r. ⌜ r ≡ isNumber form ⌝ }
+{
+    match form {
+        Form::Zeros => true,
+        Form::Blanks => true,
+        Form::FromSunday => true,
+        Form::Short(_) => false,
+        Form::Full(_) => false,
+        Form::Lower(_) => false,
+        Form::Unknown => false,
+    }
+}
+
+// Whether a flag belongs to a form.
+fn takes_flag(flag: u8, form: Form) -> bool
+    ensures { λ r. ⌜ r ≡ takesFlag flag form ⌝ }
+{
+    match flag {
+        0 => true,
+        b'^' => !is_number(form),
+        _ => is_number(form),
+    }
+}
+
+// What stands after a flag and a width.
+fn with_style(style: Style, act: Act) -> Act
+    ensures { λ r. ⌜ r ≡ withStyle style act ⌝ }
+{
+    match act {
+        Act::Convert { letter, style: _ } => {
+            let conversion = conversion_of(letter);
+            let form = conversion.form;
+            if takes_flag(style.flag, form) {
+                return Act::Convert { letter, style };
+            }
+            Act::Refuse
+        }
+        Act::Byte(b) => {
+            if style.flag != 0 {
+                return Act::Refuse;
+            }
+            if style.width != 0 {
+                return Act::Refuse;
+            }
+            Act::Byte(b)
+        }
+        Act::Open(c) => {
+            if style.flag != 0 {
+                return Act::Refuse;
+            }
+            if style.width != 0 {
+                return Act::Refuse;
+            }
+            Act::Open(c)
+        }
+        Act::Refuse => Act::Refuse,
+    }
+}
+
+// How many bytes a flag has.
+fn flag_length(flag: u8) -> usize
+    ensures { λ r. ⌜ r ≡ cond (eqb flag 0) 0 1 ⌝ }
+{
+    if flag == 0 { 0 } else { 1 }
+}
+
+// A flag, a width and what follows them.
+fn styled(s: &[u8]) -> Piece
+    ensures { λ r. ⌜ r ≡ styled (now (s .entry)) ⌝ }
+{
+    let flag = flag_at(s);
+    let from = flag_length(flag);
+    let width = width_at(s, from);
+    let n = from + width.count;
+    let piece = conversion(&s[n..]);
+    let act = piece.act;
+    let style = Style {
+        flag,
+        width: width.value as u8,
+    };
+    Piece {
+        act: with_style(style, act),
+        length: n + piece.length,
+    }
+}
+
+// What stands after %.
+fn signed(side: Side, s: &[u8]) -> Piece
+    ensures { λ r. ⌜ r ≡ signed side (now (s .entry)) ⌝ }
+{
+    match side {
+        Side::Writer => styled(s),
+        Side::Reader => conversion(s),
+    }
+}
+
 // What stands at `at`.
-fn piece_at(format: &[u8], at: usize) -> Piece
+fn piece_at(side: Side, format: &[u8], at: usize) -> Piece
     requires { ⌜ at < length (now format) ⌝ }
-    ensures { λ r. ⌜ r ≡ pieceOf (getD (now (format .entry)) at 0) (drop (at + 1) (now (format .entry))) ⌝ }
+    ensures { λ r. ⌜ r ≡ pieceOf side (getD (now (format .entry)) at 0) (drop (at + 1) (now (format .entry))) ⌝ }
 {
     let b = format[at];
     if b != b'%' {
@@ -146,7 +310,7 @@ fn piece_at(format: &[u8], at: usize) -> Piece
             length: 1,
         };
     }
-    conversion(&format[at + 1..])
+    signed(side, &format[at + 1..])
 }
 
 // The own format of a composite; of no other letter.
@@ -177,11 +341,12 @@ fn sign_at(sign: Sign, i: usize) -> usize
 }
 
 // The element of a conversion whose % is at `sign`.
-fn conversion_at(sign: usize, letter: u8) -> u32
-    requires { ⌜ sign < longest ⌝ }
-    ensures { λ r. ⌜ r ≡ conversionAt sign letter ⌝ }
+fn conversion_at(sign: usize, style: Style, letter: u8) -> u32
+    requires { ⌜ (sign < longest) × (style .flag < 127) × (style .width < 128) ⌝ }
+    ensures { λ r. ⌜ r ≡ conversionAt sign style letter ⌝ }
 {
-    256 * (sign as u32 + 1) + letter as u32
+    33554432 * style.flag as u32
+        + (262144 * style.width as u32 + (256 * (sign as u32 + 1) + letter as u32))
 }
 
 // Stores an element, where there is room.
@@ -194,15 +359,15 @@ fn store(out: &mut [u32], n: usize, e: u32)
 }
 
 // Opens a format, its composites at most `depth` deep: counts its elements from `from` on, and stores those that fit.
-fn open_to(depth: u32, sign: Sign, format: &[u8], out: &mut [u32], from: usize) -> Opened
-    requires { ⌜ CanOpen depth sign (now format) from ⌝ }
-    ensures { λ r. ⌜ r ≡ answered from (openTo depth sign (now (format .entry))) ⌝ }
-    ensures { λ _. ⌜ now (out .exit) ≡ sets (now (out .entry)) from (openTo depth sign (now (format .entry)) .elements) ⌝ }
+fn open_to(side: Side, depth: u32, sign: Sign, format: &[u8], out: &mut [u32], from: usize) -> Opened
+    requires { ⌜ CanOpen side depth sign (now format) from ⌝ }
+    ensures { λ r. ⌜ r ≡ answered from (openTo side depth sign (now (format .entry))) ⌝ }
+    ensures { λ _. ⌜ now (out .exit) ≡ sets (now (out .entry)) from (openTo side depth sign (now (format .entry)) .elements) ⌝ }
 {
     let mut n = from;
     let mut i = 0;
     while i < format.len() {
-        let piece = piece_at(format, i);
+        let piece = piece_at(side, format, i);
         let next = i + piece.length;
         let act = piece.act;
         match act {
@@ -210,8 +375,8 @@ fn open_to(depth: u32, sign: Sign, format: &[u8], out: &mut [u32], from: usize) 
                 store(out, n, b as u32);
                 n += 1;
             }
-            Act::Convert(c) => {
-                store(out, n, conversion_at(sign_at(sign, i), c));
+            Act::Convert { letter, style } => {
+                store(out, n, conversion_at(sign_at(sign, i), style, letter));
                 n += 1;
             }
             Act::Open(c) => {
@@ -222,7 +387,7 @@ fn open_to(depth: u32, sign: Sign, format: &[u8], out: &mut [u32], from: usize) 
                 let own = own_format(c);
                 let bytes = own.0;
                 let len = own.1;
-                let inner = open_to(depth - 1, Sign::Of { at }, &bytes[..len], out, n);
+                let inner = open_to(side, depth - 1, Sign::Of { at }, &bytes[..len], out, n);
                 let Opened::Done { count } = inner else {
                     return inner;
                 };
@@ -240,27 +405,61 @@ fn open_to(depth: u32, sign: Sign, format: &[u8], out: &mut [u32], from: usize) 
 }
 
 // Opens a format: counts its elements, those before its first bad % or all, and stores as many of them as fit at the front of `out`.
-pub fn open(format: &[u8], out: &mut [u32]) -> Opened
-    ensures { λ r. ⌜ r ≡ opened (now (format .entry)) ⌝ }
-    ensures { λ _. ⌜ now (out .exit) ≡ openedInto (now (format .entry)) (now (out .entry)) ⌝ }
+pub fn open(side: Side, format: &[u8], out: &mut [u32]) -> Opened
+    ensures { λ r. ⌜ r ≡ opened side (now (format .entry)) ⌝ }
+    ensures { λ _. ⌜ now (out .exit) ≡ openedInto side (now (format .entry)) (now (out .entry)) ⌝ }
 {
     if LONGEST < format.len() {
         return Opened::TooLong;
     }
-    open_to(2, Sign::Own, format, out, 0)
+    open_to(side, 2, Sign::Own, format, out, 0)
 }
 
-// Whether opening a format can store an entry.
-fn is_element(e: u32) -> bool
-    ensures { λ r. ⌜ r ≡ isElement e ⌝ }
+pub fn style_of(e: u32) -> Style
+    ensures { λ r. ⌜ r ≡ styleOf e ⌝ }
+{
+    Style {
+        flag: (e / 33554432) as u8,
+        width: (e / 262144 % 128) as u8,
+    }
+}
+
+// Whether opening a format can store a flag and a width with a letter.
+fn has_style(e: u32) -> bool
+    ensures { λ r. ⌜ r ≡ hasStyle Side.Writer e ⌝ }
+{
+    let style = style_of(e);
+    if 99 < style.width {
+        return false;
+    }
+    if !is_flag(style.flag) {
+        return false;
+    }
+    let conversion = conversion_of((e % 256) as u8);
+    let form = conversion.form;
+    takes_flag(style.flag, form)
+}
+
+// Whether opening a format can store an entry. One without flag and width is judged first, and alike for both sides.
+fn is_element(side: Side, e: u32) -> bool
+    ensures { λ r. ⌜ r ≡ isElement side e ⌝ }
 {
     if e < 256 {
         return true;
     }
-    if LONGEST <= (e / 256) as usize {
+    if !holds(CONVERSIONS, (e % 256) as u8) {
         return false;
     }
-    holds(CONVERSIONS, (e % 256) as u8)
+    if e < PLAIN {
+        return true;
+    }
+    if e / 256 % 1024 == 0 {
+        return false;
+    }
+    match side {
+        Side::Writer => has_style(e),
+        Side::Reader => false,
+    }
 }
 
 fn smaller(a: usize, b: usize) -> usize
@@ -270,16 +469,33 @@ fn smaller(a: usize, b: usize) -> usize
 }
 
 // How many entries, from the first on, opening a format can store.
-pub fn elements_in(elements: &[u32]) -> usize
-    ensures { λ r. ⌜ r ≡ elementsIn mostElements (now (elements .entry)) ⌝ }
+pub fn elements_in(side: Side, elements: &[u32]) -> usize
+    ensures { λ r. ⌜ r ≡ elementsIn side mostElements (now (elements .entry)) ⌝ }
 {
     let most = smaller(elements.len(), MOST_ELEMENTS);
     let mut k = 0;
     while k < most {
-        if !is_element(elements[k]) {
+        if !is_element(side, elements[k]) {
             return k;
         }
         k += 1;
     }
     k
+}
+
+// The place of an entry that the reader refuses: the offset of its %, where it has a flag or a width, or its index.
+pub fn entry_place(elements: &[u32], k: usize) -> usize
+    ensures { λ r. ⌜ r ≡ entryPlace (now (elements .entry)) k ⌝ }
+{
+    if elements.len() <= k {
+        return k;
+    }
+    let e = elements[k];
+    if !is_element(Side::Writer, e) {
+        return k;
+    }
+    if is_element(Side::Reader, e) {
+        return k;
+    }
+    (e / 256 % 1024 - 1) as usize
 }

@@ -1,0 +1,130 @@
+-- The flag and the width that stand first after a %: how long they are, and what they can be.
+-- Assumes nothing.
+use Prim.Native.Char.{code}
+use Prim.Native.Nat.{ℕ, suc, _+_, _-_, _*_, _≤_, _<_}
+use mathlib.Core.Bool.{Bool, true, false, cond, and-eq-true-iff}
+use mathlib.Core.List.{List, [], _∷_}
+use mathlib.Core.Path.{_≡_, refl}
+use native.Mathlib.Decide.{decLe}
+use native.Mathlib.Nat.{lt-of-not-le}
+use native.Mathlib.Omega.{arith}
+use borrow.Author.Tests.{leb-true, eqb-false}
+use lib.Dec.{eqb, leb, lit≤, lit<}
+use lib.ListN.{length, getD}
+use Rattle.laws.proofs.Cases.{either, clash}
+use Rattle.text.specs.Digits.{isDigit, digitRun, decimal}
+use Rattle.format.specs.Conversions.{among, computes as rows-compute}
+use Rattle.format.specs.Opening.{flags, flagRun, widthRun}
+use Rattle.format.proofs.Letters.{among-past}
+
+-- ---- a flag
+
+-- the flag of a format that goes on with s, or none
+pub record IsFlag (s fs : List ℕ) : Type 0 where
+  pub few : length fs ≤ 1
+  pub within : length fs ≤ length s
+  pub known : among (getD fs 0 0) (0 ∷ flags) ≡ true
+  pub small : getD fs 0 0 < 127
+  pub none : getD fs 0 0 ≡ 0 → length fs ≡ 0
+  pub some : (getD fs 0 0 ≡ 0 → ⊥) → length fs ≡ 1
+
+no-flag : (s : List ℕ) → IsFlag s []
+unfolding flags among
+no-flag s =
+    record {
+      few = omega arith;
+      within = omega arith;
+      known = refl;
+      small = lit< tt;
+      none = λ e. refl;
+      some = λ f. absurd (f refl);
+    }
+
+a-flag : (b : ℕ) (s : List ℕ) → among b flags ≡ true → IsFlag (b ∷ s) (b ∷ [])
+unfolding among
+a-flag b s e =
+    let not-zero : b ≡ 0 → ⊥ = λ z. zero-is-none (rw z at e) in
+    record {
+      few = omega arith;
+      within = omega arith;
+      known = either (λ (t : Bool). t ≡ true) (eqb b 0) (λ z. refl) (λ z. e);
+      small = below;
+      none = λ z. absurd (not-zero z);
+      some = λ f. refl;
+    }
+  where
+    zero-is-none : among 0 flags ≡ true → ⊥
+    zero-is-none z = unfold rows-compute flags in clash (cc)
+
+    below : b < 127
+    below =
+        elim (decLe 127 b) [
+          | yes h ↦ let f = among-past 127 flags (unfold rows-compute flags in tt) b h in clash (cc)
+          | no h ↦ lt-of-not-le h
+        ]
+
+pub flag-run : (s : List ℕ) → IsFlag s (flagRun s)
+unfolding flagRun
+flag-run [] = no-flag []
+flag-run (b ∷ s) = either (IsFlag (b ∷ s)) (among b flags) (λ e. a-flag b s e) (λ e. no-flag (b ∷ s))
+
+-- ---- a width
+
+-- the digits of the width of a format that goes on with s, or none
+pub record IsWidth (s ds : List ℕ) : Type 0 where
+  pub few : length ds ≤ 2
+  pub within : length ds ≤ length s
+  pub most : decimal 0 ds ≤ 99
+  pub none : decimal 0 ds ≡ 0 → length ds ≡ 0
+  pub two : 10 ≤ decimal 0 ds → length ds ≡ 2
+
+digit-range : (b : ℕ) → isDigit b ≡ true → (48 ≤ b) × (b ≤ 57)
+unfolding isDigit
+digit-range b e =
+    let p = and-eq-true-iff (leb 48 b) (leb b 57) .0 e in
+    (leb-true 48 b (p .0), leb-true b 57 (p .1))
+
+no-width : (s : List ℕ) → IsWidth s []
+unfolding decimal
+no-width s =
+    record { few = omega arith; within = omega arith; most = omega arith; none = λ e. refl; two = λ h. absurd (omega arith) }
+
+-- one digit, or two, of which the first is no zero
+module _ (b : ℕ) (d : isDigit b ≡ true) (z : b ≡ 48 → ⊥) where
+  one-digit : (s : List ℕ) → IsWidth (b ∷ s) (b ∷ [])
+  unfolding decimal
+  one-digit s =
+      let r = digit-range b d in
+      record {
+        few = omega arith;
+        within = omega arith;
+        most = omega (arith, r);
+        none = λ e. absurd (z (omega (arith, r)));
+        two = λ h. absurd (omega (arith, r));
+      }
+
+  two-digits : (c : ℕ) (s : List ℕ) → isDigit c ≡ true → IsWidth (b ∷ c ∷ s) (b ∷ c ∷ [])
+  unfolding decimal
+  two-digits c s f =
+      let r = digit-range b d in
+      let q = digit-range c f in
+      record {
+        few = omega arith;
+        within = omega arith;
+        most = omega (arith, r, q);
+        none = λ e. absurd (z (omega (arith, r, q)));
+        two = λ h. refl;
+      }
+
+  second-digit : (s : List ℕ) → IsWidth (b ∷ s) (b ∷ digitRun 1 s)
+  unfolding digitRun
+  second-digit [] = one-digit []
+  second-digit (c ∷ s) =
+      either (λ (ds : List ℕ). IsWidth (b ∷ c ∷ s) (b ∷ ds)) (isDigit c) (λ e. two-digits c s e) (λ e. one-digit (c ∷ s))
+
+pub width-run : (s : List ℕ) → IsWidth s (widthRun s)
+unfolding widthRun digitRun
+width-run [] = no-width []
+width-run (b ∷ s) =
+    either (IsWidth (b ∷ s)) (eqb b (code "0")) (λ e. no-width (b ∷ s))
+    (λ e. either (IsWidth (b ∷ s)) (isDigit b) (λ d. second-digit b d (eqb-false b 48 e) s) (λ d. no-width (b ∷ s)))
