@@ -51,16 +51,20 @@ module _ (side : Side) (inner : ℕ → ℕ → Opening) (few : (sign c : ℕ) �
       (p .act)
       (follows side b s))
 
+-- each composite's own format, opened for either side
+few : (side : Side) (sign : ℕ)
+    → T (every (λ (x : Composite). leb (length (openFrom side (compositeTo side 1) (Of sign) 0 0 (x .format) .elements)) 13) composites)
+unfolding computes rows-compute every
+few Writer sign = tt
+few Reader sign = tt
+
 at-most-13 : (side : Side) (sign c : ℕ) → length (compositeTo side 2 sign c .elements) ≤ 13
 unfolding compositeTo
 at-most-13 side sign c =
     leb→le (length (openFrom side (compositeTo side 1) (Of sign) 0 0 (ownFormat c) .elements)) 13
-    (own-passes (λ s. leb (length (openFrom side (compositeTo side 1) (Of sign) 0 0 s .elements)) 13) c (each side) (unfold computes in tt))
-  where
-    each : (side : Side) → T (every (λ (x : Composite). leb (length (openFrom side (compositeTo side 1) (Of sign) 0 0 (x .format) .elements)) 13) composites)
-    unfolding computes rows-compute every
-    each Writer = tt
-    each Reader = tt
+    (own-passes (λ s. leb (length (openFrom side (compositeTo side 1) (Of sign) 0 0 s .elements)) 13) c
+    (few side sign)
+    (unfold computes in tt))
 
 pub bound : (side : Side) (s : List ℕ) → 2 * length (opening side s .elements) ≤ 13 * length s
 unfolding opening openTo

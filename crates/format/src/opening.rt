@@ -11,7 +11,7 @@ ghost use lib.ListN.{length, getD, take, drop, set};
 ghost use lib.Seq.{sets};
 ghost use Rattle.text.specs.Digits.{decimal};
 ghost use Rattle.format.specs.Conversions.{among, isNumber, ownFormat};
-ghost use Rattle.format.specs.Opening.{longest, conversionAt, letter, paired, conversion, flags, flagRun, widthRun, takesFlag};
+ghost use Rattle.format.specs.Opening.{longest, conversionAt, letter, paired, conversion, flags, flagRun, widthRun, takesFlag, isUnstyled};
 ghost use Rattle.format.specs.Opening.{withStyle, styled, signed, pieceOf, signAt, openTo, opened, openedInto, mostElements};
 ghost use Rattle.format.specs.Opening.{styleOf, hasStyle, isElement, elementsIn, entryPlace};
 ghost use Rattle.format.specs.Private.{holds, SetOf, CanOpen, answered};
@@ -188,17 +188,17 @@ fn flag_at(s: &[u8]) -> u8
     0
 }
 
-// The width at `at`, and how many digits it has.
-fn width_at(s: &[u8], at: usize) -> Digits
-    ensures { λ r. ⌜ (r .value ≡ decimal 0 (widthRun (drop at (now (s .entry)))))
-        × (r .count ≡ length (widthRun (drop at (now (s .entry))))) ⌝ }
+// The width that stands first, and how many digits it has; 0 where there is none.
+fn width_at(s: &[u8]) -> Digits
+    ensures { λ r. ⌜ (r .value ≡ decimal 0 (widthRun (now (s .entry)))) × (r .count ≡ length (widthRun (now (s .entry)))) ⌝ }
 {
-    if at < s.len() {
-        if s[at] == b'0' {
-            return Digits { value: 0, count: 0 };
-        }
+    if s.len() == 0 {
+        return Digits { value: 0, count: 0 };
     }
-    read_digits(s, at, 2)
+    if s[0] == b'0' {
+        return Digits { value: 0, count: 0 };
+    }
+    read_digits(s, 0, 2)
 }
 
 fn is_number(form: Form) -> bool
@@ -226,11 +226,23 @@ fn takes_flag(flag: u8, form: Form) -> bool
     }
 }
 
+fn is_unstyled(style: Style) -> bool
+    ensures { λ r. ⌜ r ≡ isUnstyled style ⌝ }
+{
+    style.flag == 0 && style.width == 0
+}
+
 // What stands after a flag and a width.
 fn with_style(style: Style, act: Act) -> Act
     ensures { λ r. ⌜ r ≡ withStyle style act ⌝ }
 {
     match act {
+        Act::Byte(b) => {
+            if is_unstyled(style) {
+                return Act::Byte(b);
+            }
+            Act::Refuse
+        }
         Act::Convert { letter, style: _ } => {
             let conversion = conversion_of(letter);
             let form = conversion.form;
@@ -239,23 +251,11 @@ fn with_style(style: Style, act: Act) -> Act
             }
             Act::Refuse
         }
-        Act::Byte(b) => {
-            if style.flag != 0 {
-                return Act::Refuse;
-            }
-            if style.width != 0 {
-                return Act::Refuse;
-            }
-            Act::Byte(b)
-        }
         Act::Open(c) => {
-            if style.flag != 0 {
-                return Act::Refuse;
+            if is_unstyled(style) {
+                return Act::Open(c);
             }
-            if style.width != 0 {
-                return Act::Refuse;
-            }
-            Act::Open(c)
+            Act::Refuse
         }
         Act::Refuse => Act::Refuse,
     }
@@ -274,7 +274,7 @@ fn styled(s: &[u8]) -> Piece
 {
     let flag = flag_at(s);
     let from = flag_length(flag);
-    let width = width_at(s, from);
+    let width = width_at(&s[from..]);
     let n = from + width.count;
     let piece = conversion(&s[n..]);
     let act = piece.act;

@@ -17,6 +17,18 @@ flag-at-requires c κs = search needs
 flag-length-requires : tie.Need-flag-length-requires
 flag-length-requires c κs = search needs
 
+-- src/opening.rt:277:26
+sub-width-at : tie.Need-sub-width-at
+sub-width-at c = ?
+
+-- src/opening.rt:277:26
+part-width-at-start : tie.Need-part-width-at-start
+part-width-at-start c = ?
+
+-- src/opening.rt:277:26
+part-width-at-end : tie.Need-part-width-at-end
+part-width-at-end c = search needs
+
 -- src/opening.rt:277:9
 width-at-requires : tie.Need-width-at-requires
 width-at-requires c κs = search needs
@@ -42,8 +54,8 @@ conversion-requires : tie.Need-conversion-requires
 conversion-requires c κs = search needs
 
 -- src/opening.rt:283:16
-cast-t13 : tie.Need-cast-t13
-cast-t13 c = ?
+cast-t16 : tie.Need-cast-t16
+cast-t16 c = ?
 
 -- src/opening.rt:286:14
 with-style-requires : tie.Need-with-style-requires
@@ -63,13 +75,16 @@ styled-spec =
     (tie.spec
     flag-at-requires
     flag-length-requires
+    sub-width-at
+    part-width-at-start
+    part-width-at-end
     width-at-requires
     add-n
     sub-conversion
     part-conversion-start
     part-conversion-end
     conversion-requires
-    cast-t13
+    cast-t16
     with-style-requires
     add-t10
     returns)
