@@ -1,5 +1,4 @@
 -- Laws that the proofs of several functions cite.
-pub mod Decimal
 pub mod Figures
 pub mod Formats
 pub mod Listing

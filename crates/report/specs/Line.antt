@@ -1,8 +1,6 @@
 -- A line of the report: `number place date time` (RULES 9).
-use Prim.Native.Nat.{ℕ, zero, suc, _/_, _%_}
-use mathlib.Core.Bool.{cond}
-use mathlib.Core.List.{List, [], _∷_, _++_}
-use lib.Dec.{ltb}
+use Prim.Native.Nat.{ℕ}
+use mathlib.Core.List.{List, _++_}
 use Rattle.calendar.specs.declared.Date.{Date}
 use Rattle.laws.specs.Bytes.{bytes}
 use Rattle.strptime.specs.declared.Day.{Day}
@@ -10,16 +8,7 @@ use Rattle.strptime.specs.declared.Day.the-variants.{NoDate, On}
 use Rattle.strptime.specs.declared.Reading.{Reading}
 use Rattle.strptime.specs.declared.Said.{Said}
 use Rattle.strptime.specs.declared.Said.the-variants.{Unsaid, Is}
-use Rattle.text.specs.Digits.{digit, filled}
-
--- the digits of n, from the first that counts on; the first argument bounds how many
-unfoldable pub digits : ℕ → ℕ → List ℕ
-digits zero n = []
-digits (suc w) n = let before = digits w (n / 10) in cond (ltb n 10) [] before ++ (digit (n % 10) ∷ [])
-
--- n in decimal, with no zeros before it
-unfoldable pub plain : ℕ → List ℕ
-plain n = digits (suc n) n
+use Rattle.text.specs.Digits.{filled, plain}
 
 -- a date, as YYYY-MM-DD
 unfoldable pub dateShown : Date → List ℕ

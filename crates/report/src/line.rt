@@ -3,14 +3,15 @@ use calendar::Date;
 use strptime::Day;
 use strptime::Reading;
 use strptime::Said;
+use text::digit_count;
 use text::write_number;
 ghost use mathlib.Core.Path.{_≡_};
 ghost use mathlib.Core.List.{[], _∷_};
 ghost use Prim.Native.Nat.{_+_, _≤_, _<_};
 ghost use lib.ListN.{length};
 ghost use Rattle.laws.specs.Stores.{Puts};
-ghost use Rattle.text.specs.Digits.{filled};
-ghost use Rattle.report.specs.Line.{plain, dateShown, dayShown, saidShown, momentShown, lineOf};
+ghost use Rattle.text.specs.Digits.{filled, plain};
+ghost use Rattle.report.specs.Line.{dateShown, dayShown, saidShown, momentShown, lineOf};
 
 // Each function here puts some bytes into `out` from `at` on, and answers the place after them.
 
@@ -45,23 +46,6 @@ fn put_number(out: &mut [u8], at: usize, width: usize, n: u32) -> usize
     let end = at + width;
     write_number(&mut out[at..end], b'0', n);
     end
-}
-
-// How many digits a number has.
-fn digit_count(n: u32) -> usize
-    requires { ⌜ n < 10000 ⌝ }
-    ensures { λ r. ⌜ (r ≤ 4) × (filled 48 r n ≡ plain n) ⌝ }
-{
-    if n < 10 {
-        return 1;
-    }
-    if n < 100 {
-        return 2;
-    }
-    if n < 1000 {
-        return 3;
-    }
-    4
 }
 
 // A number with no zeros before it.

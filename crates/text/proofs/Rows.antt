@@ -1,23 +1,25 @@
 -- A name held in its row; a text copied over a buffer; a name compared with a text.
 use Prim.Native.Nat.{ℕ, suc, _+_, _≤_, _<_}
 use mathlib.Core.Path.{_≡_, refl, sym}
-use mathlib.Core.Bool.{Bool, true, false, not, cond}
+use mathlib.Core.Bool.{Bool, true, false, not}
 use mathlib.Core.List.{List, [], _∷_, _++_, map}
 use native.Mathlib.Numerals.{add-one}
 use native.Mathlib.Omega.{arith}
 use borrow.Author.Tests.{leb-true, not-true, not-false}
 use lib.Dec.{eqb, leb}
 use lib.ListN.{length, getD, take, drop, set, replicate, length-append, length-take, length-map, length-replicate}
-use lib.ListN.{drop-of-length-le, List·getD-map}
+use lib.ListN.{drop-of-length-le}
 use lib.Seq.{sets, drop-cons, take-take, take-append-seam}
 use Rattle.laws.specs.Lists.{every}
 use Rattle.laws.proofs.Lists.{each}
 use Rattle.laws.proofs.Stores.{sets-past}
-use Rattle.text.specs.Case.{fold, lowered}
+use Rattle.text.specs.Case.{fold, cased}
 use Rattle.text.specs.Names.{namesOf, nameAt, computes}
 use Rattle.text.specs.Rows.{padded, agreeing}
+use Rattle.text.specs.declared.names.Case.{Case}
 use Rattle.text.specs.declared.names.Names.{Names}
 use Rattle.text.specs.declared.names.Names.the-variants.{Weekdays, Months, Halves}
+use Rattle.text.proofs.Case.{cased-length, cased-at}
 use Rattle.text.proofs.Table.{entry}
 
 -- ---- a name in its row
@@ -69,31 +71,21 @@ module _ (t : Names) {rows : List (List ℕ)} {lengths : List ℕ} (p : rows ≡
 
 -- ---- copying
 
-lowered-length : (lower : Bool) (x : List ℕ) → length (lowered lower x) ≡ length x
-unfolding lowered
-lowered-length true x = length-map x fold
-lowered-length false x = refl
-
-lowered-at : (lower : Bool) (x : List ℕ) (j : ℕ) → cond lower (fold (getD x j 0)) (getD x j 0) ≡ getD (lowered lower x) j 0
-unfolding lowered fold
-lowered-at true x j = sym (List·getD-map fold x j 0)
-lowered-at false x j = refl
-
-module _ (lower : Bool) (x buf : List ℕ) (j : ℕ) where
+module _ (k : Case) (x buf : List ℕ) (j : ℕ) where
   -- the next byte is stored
-  pub stored : {b : ℕ} → j < length x → b ≡ cond lower (fold (getD x j 0)) (getD x j 0)
-      → sets (set buf j b) (j + 1) (drop (j + 1) (lowered lower x)) ≡ sets buf j (drop j (lowered lower x))
+  pub stored : {b : ℕ} → j < length x → b ∷ [] ≡ cased k (getD x j 0 ∷ [])
+      → sets (set buf j b) (j + 1) (drop (j + 1) (cased k x)) ≡ sets buf j (drop j (cased k x))
   stored h e =
-      let m : j < length (lowered lower x) = rw (lowered-length lower x) h in
-      rw (e, lowered-at lower x j, add-one j, drop-cons (lowered lower x) j 0 m)
+      let m : j < length (cased k x) = rw (cased-length k x) h in
+      rw (cased-at k x j e, add-one j, drop-cons (cased k x) j 0 m)
 
   -- the buffer is full
-  pub full : length buf ≤ j → buf ≡ sets buf j (drop j (lowered lower x))
-  full h = sym (sets-past buf (drop j (lowered lower x)) j h)
+  pub full : length buf ≤ j → buf ≡ sets buf j (drop j (cased k x))
+  full h = sym (sets-past buf (drop j (cased k x)) j h)
 
   -- the text has ended
-  pub ended : length x ≤ j → buf ≡ sets buf j (drop j (lowered lower x))
-  ended h = rw (drop-of-length-le (lowered lower x) {i = j} (rw (lowered-length lower x) h))
+  pub ended : length x ≤ j → buf ≡ sets buf j (drop j (cased k x))
+  ended h = rw (drop-of-length-le (cased k x) {i = j} (rw (cased-length k x) h))
 
 -- ---- comparing
 

@@ -1,13 +1,21 @@
 -- Letter case in the POSIX locale: the capitals A to Z and their small letters.
-use Prim.Native.Nat.{ℕ, _+_}
-use mathlib.Core.Bool.{Bool, cond, _&&_}
+use Prim.Native.Nat.{ℕ, _+_, _-_}
+use mathlib.Core.Bool.{cond, _&&_}
 use mathlib.Core.List.{List, map}
 use lib.Dec.{leb}
+use Rattle.text.specs.declared.names.Case.{Case}
+use Rattle.text.specs.declared.names.Case.the-variants.{AsIs, Small, Capital}
 
--- a byte as a small letter, any other byte as it is
+-- a capital as its small letter, any other byte as it is
 unfoldable pub fold : ℕ → ℕ
 fold b = cond (leb 65 b && leb b 90) (b + 32) b
 
--- a text in small letters, or as it stands
-unfoldable pub lowered : Bool → List ℕ → List ℕ
-lowered lower s = cond lower (map fold s) s
+-- a small letter as its capital, any other byte as it is
+unfoldable pub capital : ℕ → ℕ
+capital b = cond (leb 97 b && leb b 122) (b - 32) b
+
+-- a text as it stands, in small letters or in capitals
+unfoldable pub cased : Case → List ℕ → List ℕ
+cased AsIs s = s
+cased Small s = map fold s
+cased Capital s = map capital s

@@ -2,7 +2,7 @@
 use Prim.Native.Nat.{ℕ, zero, suc, _+_, _-_, _*_, _/_, _%_}
 use mathlib.Core.Bool.{Bool, cond, _&&_}
 use mathlib.Core.List.{List, [], _∷_, _++_}
-use lib.Dec.{eqb, leb}
+use lib.Dec.{eqb, leb, ltb}
 use lib.ListN.{length}
 use Rattle.text.specs.declared.digits.Digits.{Digits}
 
@@ -15,10 +15,19 @@ unfoldable pub leading : ℕ → ℕ → ℕ → List ℕ
 leading f zero n = []
 leading f (suc w) n = leading f w (n / 10) ++ (cond (eqb n 0) f (digit (n % 10)) ∷ [])
 
--- n written on w places, filled on the left with f, a zero or a blank (RULES 5): its last digit stands even where n is 0
+-- n on exactly w places, filled on the left with f: its last digit stands even where n is 0
 unfoldable pub filled : ℕ → ℕ → ℕ → List ℕ
 filled f zero n = []
 filled f (suc w) n = leading f w (n / 10) ++ (digit (n % 10) ∷ [])
+
+-- the digits of n, from the first that counts on; the first argument bounds how many
+unfoldable pub digits : ℕ → ℕ → List ℕ
+digits zero n = []
+digits (suc w) n = let before = digits w (n / 10) in cond (ltb n 10) [] before ++ (digit (n % 10) ∷ [])
+
+-- n in decimal, with no zeros before it
+unfoldable pub plain : ℕ → List ℕ
+plain n = digits (suc n) n
 
 unfoldable pub isDigit : ℕ → Bool
 isDigit b = leb 48 b && leb b 57

@@ -1,7 +1,8 @@
--- What the text layer means: digits, white space, letter case, names.
+-- What the text layer means: digits, filling, white space, letter case, names.
 pub mod Case
 pub mod Digits
 pub mod Distinct
+pub mod Fill
 pub mod Names
 pub mod Naming
 pub mod Rows

@@ -4,7 +4,7 @@ ghost use mathlib.Core.Bool.{cond};
 ghost use mathlib.Core.List.{_++_};
 ghost use lib.Dec.{eqb};
 ghost use lib.ListN.{length, drop};
-ghost use Rattle.text.specs.Digits.{digit, leading, filled, isDigit, readDigits};
+ghost use Rattle.text.specs.Digits.{digit, leading, filled, plain, isDigit, readDigits};
 
 pub fn is_digit(b: u8) -> bool
     ensures { λ r. ⌜ r ≡ isDigit b ⌝ }
@@ -50,6 +50,19 @@ pub fn write_number(out: &mut [u8], fill: u8, n: u32)
     let last = out.len() - 1;
     out[last] = last_digit(n);
     write_leading(out, last, fill, n / 10);
+}
+
+// How many digits a number has, with no zeros before it.
+pub fn digit_count(n: u32) -> usize
+    ensures { λ r. ⌜ r ≡ length (plain n) ⌝ }
+{
+    let mut rest = n;
+    let mut count = 1;
+    while 10 <= rest {
+        rest /= 10;
+        count += 1;
+    }
+    count
 }
 
 // What was read: the number that some digits spell, and how many they are.

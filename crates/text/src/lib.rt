@@ -4,9 +4,11 @@ mod names;
 mod space;
 
 pub use digits::Digits;
+pub use digits::digit_count;
 pub use digits::is_digit;
 pub use digits::read_digits;
 pub use digits::write_number;
+pub use names::Case;
 pub use names::NameRead;
 pub use names::Names;
 pub use names::fold;
@@ -15,6 +17,5 @@ pub use names::place_for;
 pub use names::read_name;
 pub use names::value_at;
 pub use names::write_name;
-pub use names::write_name_lower;
 pub use space::is_space;
 pub use space::skip_space;

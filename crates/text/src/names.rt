@@ -1,11 +1,10 @@
 ghost use mathlib.Core.Path.{_≡_};
 ghost use Prim.Native.Nat.{_≤_, _<_};
-ghost use mathlib.Core.Bool.{cond};
-ghost use mathlib.Core.List.{map};
+ghost use mathlib.Core.List.{[], _∷_, map};
 ghost use lib.Dec.{eqb};
 ghost use lib.ListN.{length, drop};
 ghost use lib.Seq.{sets};
-ghost use Rattle.text.specs.Case.{fold, lowered};
+ghost use Rattle.text.specs.Case.{fold, capital, cased};
 ghost use Rattle.text.specs.Names.{namesOf, nameAt, readName};
 ghost use Rattle.text.specs.Naming.{firstValue, placeFor, valueAt};
 ghost use Rattle.text.specs.Rows.{padded, agreeing};
@@ -15,6 +14,13 @@ pub enum Names {
     Weekdays,
     Months,
     Halves,
+}
+
+// How a name is written: as it stands, in small letters, in capitals.
+pub enum Case {
+    AsIs,
+    Small,
+    Capital,
 }
 
 // What reading a name finds: its place in the table, counted from 0, and how many bytes of the text it takes.
@@ -56,7 +62,7 @@ const HALVES: [[u8; 9]; 2] = [*b"AM       ", *b"PM       "];
 
 const HALF_LENGTHS: [usize; 2] = [2, 2];
 
-// A byte as a small letter.
+// A capital as its small letter.
 pub fn fold(b: u8) -> u8
     ensures { λ r. ⌜ r ≡ fold b ⌝ }
 {
@@ -67,6 +73,19 @@ pub fn fold(b: u8) -> u8
         return b;
     }
     b + 32
+}
+
+// A small letter as its capital.
+fn capital(b: u8) -> u8
+    ensures { λ r. ⌜ r ≡ capital b ⌝ }
+{
+    if b < 97 {
+        return b;
+    }
+    if 122 < b {
+        return b;
+    }
+    b - 32
 }
 
 fn first_value(t: Names) -> u32
@@ -135,52 +154,40 @@ fn row(t: Names, i: usize) -> [u8; 9]
     }
 }
 
-fn cased(lower: bool, b: u8) -> u8
-    ensures { λ r. ⌜ r ≡ cond lower (fold b) b ⌝ }
+fn cased(case: Case, b: u8) -> u8
+    ensures { λ r. ⌜ r ∷ [] ≡ cased case (b ∷ []) ⌝ }
 {
-    if lower { fold(b) } else { b }
+    match case {
+        Case::AsIs => b,
+        Case::Small => fold(b),
+        Case::Capital => capital(b),
+    }
 }
 
-// Copies the first bytes of `name` over `out`, as many as both have, in small letters where `lower` says so.
-fn overlay(out: &mut [u8], name: &[u8], lower: bool)
-    ensures { λ _. ⌜ now (out .exit) ≡ sets (now (out .entry)) 0 (lowered lower (now (name .entry))) ⌝ }
+// Copies the first bytes of `name` over `out`, as many as both have.
+fn overlay(out: &mut [u8], name: &[u8], case: Case)
+    ensures { λ _. ⌜ now (out .exit) ≡ sets (now (out .entry)) 0 (cased case (now (name .entry))) ⌝ }
 {
     let mut j = 0;
     while j < name.len() {
         if out.len() <= j {
             return;
         }
-        out[j] = cased(lower, name[j]);
+        out[j] = cased(case, name[j]);
         j += 1;
     }
 }
 
-// A name, or as much of it as there is room for, over the start of `out`; how long the name is.
-fn put_name(out: &mut [u8], t: Names, i: usize, lower: bool) -> usize
+// Copies a name's first bytes over `out`, as many as both have: a slice of three bytes takes the short form.
+// Says how long the name is.
+pub fn write_name(out: &mut [u8], t: Names, i: usize, case: Case) -> usize
     ensures { λ r. ⌜ r ≡ length (nameAt t i) ⌝ }
-    ensures { λ _. ⌜ now (out .exit) ≡ sets (now (out .entry)) 0 (lowered lower (nameAt t i)) ⌝ }
+    ensures { λ _. ⌜ now (out .exit) ≡ sets (now (out .entry)) 0 (cased case (nameAt t i)) ⌝ }
 {
     let n = name_length(t, i);
     let name = row(t, i);
-    overlay(out, &name[..n], lower);
+    overlay(out, &name[..n], case);
     n
-}
-
-// Copies a name's first bytes over `out`, as many as both have: a slice of three bytes takes the short form.
-// Says how long the name is.
-pub fn write_name(out: &mut [u8], t: Names, i: usize) -> usize
-    ensures { λ r. ⌜ r ≡ length (nameAt t i) ⌝ }
-    ensures { λ _. ⌜ now (out .exit) ≡ sets (now (out .entry)) 0 (nameAt t i) ⌝ }
-{
-    put_name(out, t, i, false)
-}
-
-// The same in small letters.
-pub fn write_name_lower(out: &mut [u8], t: Names, i: usize) -> usize
-    ensures { λ r. ⌜ r ≡ length (nameAt t i) ⌝ }
-    ensures { λ _. ⌜ now (out .exit) ≡ sets (now (out .entry)) 0 (map fold (nameAt t i)) ⌝ }
-{
-    put_name(out, t, i, true)
 }
 
 fn same_letter(a: u8, b: u8) -> bool

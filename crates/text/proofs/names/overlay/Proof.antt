@@ -4,17 +4,17 @@ use mathlib.Core.Path.{_≡_, refl, _∙_}
 use native.Mathlib.Omega.{arith}
 use lib.ListN.{length, drop, length-set}
 use lib.Seq.{sets}
-use Rattle.text.specs.Case.{lowered}
+use Rattle.text.specs.Case.{cased}
 use Rattle.text.proofs.Rows.{stored, full, ended}
 use Rattle.text.proofs.names.overlay.Statement.{statement}
 use Rattle.text.proofs.names.overlay.Tie as tie
 
 abbrev Inv-loop : tie.InvT-loop
-Inv-loop out₀ name lower j₀ out j =
-    (length out ≡ length out₀) × (sets out j (drop j (lowered lower name)) ≡ sets out₀ 0 (lowered lower name))
+Inv-loop out₀ name case j₀ out j =
+    (length out ≡ length out₀) × (sets out j (drop j (cased case name)) ≡ sets out₀ 0 (cased case name))
 
 abbrev μ-loop : tie.MeasureT-loop
-μ-loop out₀ name lower j₀ out j = length name - j
+μ-loop out₀ name case j₀ out j = length name - j
 
 loop-holds : tie.Need-loop-holds Inv-loop μ-loop
 loop-holds c = (refl, refl)
@@ -26,7 +26,7 @@ returns : tie.Need-returns Inv-loop μ-loop
 returns c =
     let l = c .before .before in
     let a = l .before .before .before .args in
-    full (a .lower) (a .name .now) (l .loop .out) (l .loop .j) (omega arith) ∙ l .loop .inv .1
+    full (a .case) (a .name .now) (l .loop .out) (l .loop .j) (omega arith) ∙ l .loop .inv .1
 
 shared-slice-read-cased : tie.Need-shared-slice-read-cased Inv-loop μ-loop
 shared-slice-read-cased c = omega arith
@@ -48,7 +48,7 @@ loop-again c =
     let l = c .before .before .before .before in
     let a = l .before .before .before .args in (
       simp length-set (omega arith),
-      stored (a .lower) (a .name .now) (l .loop .out) (l .loop .j) (omega arith) (c .cased .ensures) ∙ l .loop .inv .1,
+      stored (a .case) (a .name .now) (l .loop .out) (l .loop .j) (omega arith) (c .cased .ensures) ∙ l .loop .inv .1,
     )
 
 same-length-2 : tie.Need-same-length-2 Inv-loop μ-loop
@@ -58,7 +58,7 @@ returns-2 : tie.Need-returns-2 Inv-loop μ-loop
 returns-2 c =
     let l = c .before in
     let a = l .before .before .before .args in
-    ended (a .lower) (a .name .now) (l .loop .out) (l .loop .j) (omega arith) ∙ l .loop .inv .1
+    ended (a .case) (a .name .now) (l .loop .out) (l .loop .j) (omega arith) ∙ l .loop .inv .1
 
 pub overlay-spec : {M : Type 1} → statement M
 overlay-spec =
