@@ -14,9 +14,9 @@ use lib.ListN.{length, getD, drop}
 use Rattle.laws.specs.Lists.{every}
 use Rattle.laws.proofs.Cases.{either, picked, clash}
 use Rattle.laws.proofs.Lists.{each, every-of, every-append}
-use Rattle.format.specs.Conversions.{Row, among, rows, isConversion, isComposite, conversionOf, ownFormat, computes as rows-compute}
-use Rattle.format.specs.Opening.{Ended, Opening, longest, unstyled, conversionAt, isByte, letterOf, afterSign, after-E, after-O}
-use Rattle.format.specs.Opening.{letter, paired, conversion, flags, flagRun, widthRun, styleFrom, takesFlag, isUnstyled, withStyle}
+use Rattle.format.specs.Conversions.{Row, among, rows, isConversion, conversionOf, ownFormat, computes as rows-compute}
+use Rattle.format.specs.Opening.{Ended, Opening, longest, unstyled, conversionAt, isByte, letterOf, afterSign}
+use Rattle.format.specs.Opening.{conversion, flags, flagRun, widthRun, styleFrom, takesFlag, isUnstyled, withStyle}
 use Rattle.format.specs.Opening.{styled, signed, pieceOf, nothing, before, composed, acted, signAt, openFrom, compositeTo}
 use Rattle.format.specs.Opening.{openTo, opening, mostElements, hasStyle, isElement, elementsIn}
 use Rattle.format.specs.Opening.Ended.{Whole, BadAt}
@@ -32,7 +32,7 @@ use Rattle.format.specs.declared.opening.Style.{Style}
 use Rattle.format.proofs.Bound.{bound}
 use Rattle.format.proofs.Entries.{all-in}
 use Rattle.format.proofs.Letters.{among-past}
-use Rattle.format.proofs.Pieces.{Follows, follows}
+use Rattle.format.proofs.Pieces.{Unstyled, conversion-unstyled, Follows, follows}
 use Rattle.format.proofs.Rows.{own-passes, conversion-known}
 use Rattle.format.proofs.Styles.{flag-run, width-run}
 
@@ -112,31 +112,8 @@ Stores side (Convert c y) = (isConversion c ≡ true) × Takes side c y
 Stores side (Open c) = Unit {0}
 Stores side Refuse = Unit {0}
 
-letter-stores : (b : ℕ) → Stores Reader (letter b)
-unfolding letter
-letter-stores b =
-    let P = Stores Reader in
-    picked P (eqb b (code "n")) refl
-    (picked P (eqb b (code "t")) refl
-    (picked P (eqb b (code "%")) refl
-    (picked P (isComposite b) tt
-    (either P (isConversion b) (λ e. (e, refl)) (λ e. tt)))))
-
-paired-stores : (letters s : List ℕ) → Stores Reader (paired letters s .act)
-unfolding paired
-paired-stores letters [] = tt
-paired-stores letters (b ∷ s) = picked (Stores Reader) (among b letters) (letter-stores b) tt
-
-conversion-stores : (s : List ℕ) → Stores Reader (conversion s .act)
-unfolding conversion
-conversion-stores [] = tt
-conversion-stores (b ∷ s) =
-    let P : Piece → Type 0 = λ p. Stores Reader (p .act) in
-    picked P (eqb b (code "E")) (paired-stores after-E s)
-    (picked P (eqb b (code "O")) (paired-stores after-O s) (letter-stores b))
-
 -- a flag and a width are stored with a conversion that takes them
-style-stores : (y : Style) → y .width ≤ 99 → among (y .flag) (0 ∷ flags) ≡ true → (a : Act) → Stores Reader a
+style-stores : (y : Style) → y .width ≤ 99 → among (y .flag) (0 ∷ flags) ≡ true → (a : Act) → Unstyled a
     → Stores Writer (withStyle y a)
 unfolding withStyle
 style-stores y w k (Byte b) e = picked (Stores Writer) (isUnstyled y) e tt
@@ -151,8 +128,14 @@ signed-stores Writer s =
     let f = flagRun s in
     let w = widthRun (drop (length f) s) in
     let rest = drop (length f + length w) s in
-    style-stores (styleFrom f w) (width-run (drop (length f) s) .most) (flag-run s .known) (conversion rest .act) (conversion-stores rest)
-signed-stores Reader s = conversion-stores s
+    style-stores (styleFrom f w) (width-run (drop (length f) s) .most) (flag-run s .known) (conversion rest .act) (conversion-unstyled rest)
+signed-stores Reader s = go (conversion s .act) (conversion-unstyled s)
+  where
+    go : (a : Act) → Unstyled a → Stores Reader a
+    go (Byte b) u = u
+    go (Convert c y) u = u
+    go (Open c) u = u
+    go Refuse u = u
 
 piece-stores : (side : Side) (b : ℕ) (s : List ℕ) → isByte b ≡ true → Stores side (pieceOf side b s .act)
 unfolding pieceOf

@@ -4,6 +4,7 @@ pub mod Bound
 mod Cases
 pub mod Elements
 pub mod Entries
+pub mod Entry
 pub mod Letters
 pub mod Opened
 pub mod Pieces

@@ -1,18 +1,20 @@
 -- What stands first in a format: by its first bytes, and how many bytes it takes.
 -- Assumes nothing.
 use Prim.Native.Char.{code}
-use Prim.Native.Nat.{ℕ, suc, _+_, _-_, _≤_}
-use mathlib.Core.Bool.{cond}
+use Prim.Native.Nat.{ℕ, suc, _+_, _-_, _≤_, _<_}
+use mathlib.Core.Bool.{true, cond}
 use mathlib.Core.List.{List, [], _∷_}
 use mathlib.Core.Path.{_≡_, refl}
 use native.Mathlib.Omega.{arith}
-use lib.Dec.{eqb, lit≤}
+use lib.Dec.{eqb, lit≤, lit<}
 use lib.ListN.{length, getD, take, drop, length-drop}
 use lib.Seq.{take-all}
-use Rattle.laws.proofs.Cases.{picked}
-use Rattle.format.specs.Conversions.{among, conversionOf}
+use Rattle.laws.proofs.Cases.{picked, either}
+use Rattle.text.specs.Digits.{decimal}
+use Rattle.text.specs.declared.digits.Digits.{Digits}
+use Rattle.format.specs.Conversions.{among, isConversion, isComposite, conversionOf}
 use Rattle.format.specs.Opening.{after-E, after-O, letter, piece, paired, conversion, flagRun, widthRun, styleFrom, takesFlag}
-use Rattle.format.specs.Opening.{isUnstyled, withStyle, styled, signed, pieceOf}
+use Rattle.format.specs.Opening.{unstyled, isByte, isUnstyled, withStyle, styled, signed, pieceOf}
 use Rattle.format.specs.declared.opening.Act.{Act}
 use Rattle.format.specs.declared.opening.Act.the-variants.{Byte, Convert, Open, Refuse}
 use Rattle.format.specs.declared.opening.Piece.{Piece}
@@ -69,6 +71,9 @@ conversion-takes (b ∷ s) =
     picked (Few 3) (eqb b (code "E")) (paired-takes after-E s)
     (picked (Few 3) (eqb b (code "O")) (paired-takes after-O s) (lit≤ tt, lit≤ tt))
 
+pub at-most-three : (s : List ℕ) {p : Piece} → p ≡ conversion s → p .length ≤ 3
+at-most-three s e = rw e (conversion-takes s .1)
+
 signed-takes : (side : Side) (s : List ℕ) → Few 6 (signed side s)
 unfolding signed styled
 signed-takes Writer s =
@@ -85,20 +90,56 @@ pub takes : (side : Side) (b : ℕ) (s : List ℕ) → Few 6 (pieceOf side b s)
 unfolding pieceOf
 takes side b s = picked (Few 6) (eqb b (code "%")) (signed-takes side s) (lit≤ tt, lit≤ tt)
 
+-- ---- what stands after a % without flag and width: a byte, or a conversion without them
+
+abbrev pub Unstyled : Act → Type 0
+Unstyled (Byte b) = isByte b ≡ true
+Unstyled (Convert c y) = (isConversion c ≡ true) × (y ≡ unstyled)
+Unstyled (Open c) = Unit {0}
+Unstyled Refuse = Unit {0}
+
+letter-unstyled : (b : ℕ) → Unstyled (letter b)
+unfolding letter
+letter-unstyled b =
+    picked Unstyled (eqb b (code "n")) refl
+    (picked Unstyled (eqb b (code "t")) refl
+    (picked Unstyled (eqb b (code "%")) refl
+    (picked Unstyled (isComposite b) tt
+    (either Unstyled (isConversion b) (λ e. (e, refl)) (λ e. tt)))))
+
+paired-unstyled : (letters s : List ℕ) → Unstyled (paired letters s .act)
+unfolding paired
+paired-unstyled letters [] = tt
+paired-unstyled letters (b ∷ s) = picked Unstyled (among b letters) (letter-unstyled b) tt
+
+pub conversion-unstyled : (s : List ℕ) → Unstyled (conversion s .act)
+unfolding conversion
+conversion-unstyled [] = tt
+conversion-unstyled (b ∷ s) =
+    let P : Piece → Type 0 = λ p. Unstyled (p .act) in
+    picked P (eqb b (code "E")) (paired-unstyled after-E s)
+    (picked P (eqb b (code "O")) (paired-unstyled after-O s) (letter-unstyled b))
+
 -- ---- what follows its first byte
+
+-- a flag and a width that stand in k bytes
+pub record Modest (k : ℕ) (y : Style) : Type 0 where
+  pub flag : y .flag < 127
+  pub width : y .width ≤ 99
+  pub bytes : 10 ≤ y .width → 4 ≤ k
 
 -- n bytes follow the first, and k are taken in all: a conversion has a byte after its %
 abbrev pub Follows : ℕ → ℕ → Act → Type 0
 Follows n k (Byte b) = Unit {0}
-Follows n k (Convert c y) = (1 ≤ n) × (2 ≤ k)
+Follows n k (Convert c y) = (1 ≤ n) × (2 ≤ k) × Modest k y
 Follows n k (Open c) = (1 ≤ n) × (2 ≤ k)
 Follows n k Refuse = Unit {0}
 
-has-two : (n k : ℕ) → 1 ≤ n → 2 ≤ k → (a : Act) → Follows n k a
-has-two n k h l (Byte b) = tt
-has-two n k h l (Convert c y) = (h, l)
-has-two n k h l (Open c) = (h, l)
-has-two n k h l Refuse = tt
+has-two : (n k : ℕ) → 1 ≤ n → 2 ≤ k → (a : Act) → Unstyled a → Follows n k a
+has-two n k h l (Byte b) u = tt
+has-two n k h l (Convert c y) u = rw (u .1) (h, l, record { flag = lit< tt; width = lit≤ tt; bytes = λ m. absurd (omega arith) })
+has-two n k h l (Open c) u = (h, l)
+has-two n k h l Refuse u = tt
 
 paired-two : (letters s : List ℕ) → 2 ≤ paired letters s .length
 unfolding paired
@@ -113,25 +154,34 @@ conversion-follows (b ∷ s) =
     has-two (suc (length s)) (conversion (b ∷ s) .length) (omega arith)
     (picked P (eqb b (code "E")) (paired-two after-E s) (picked P (eqb b (code "O")) (paired-two after-O s) (lit≤ tt)))
     (conversion (b ∷ s) .act)
+    (conversion-unstyled (b ∷ s))
 
-with-style-follows : (n k m l : ℕ) (y : Style) (a : Act) → n ≤ m → k ≤ l → Follows n k a → Follows m l (withStyle y a)
-unfolding withStyle
-with-style-follows n k m l y (Byte b) h g f = picked (Follows m l) (isUnstyled y) tt tt
-with-style-follows n k m l y (Convert c x) h g f =
-    picked (Follows m l) (takesFlag (y .flag) (conversionOf c .form)) (omega (arith, f .0), omega (arith, f .1)) tt
-with-style-follows n k m l y (Open c) h g f = picked (Follows m l) (isUnstyled y) (omega (arith, f .0), omega (arith, f .1)) tt
-with-style-follows n k m l y Refuse h g f = tt
+-- after a flag and a width, which take some bytes of their own
+module _ (n k m l : ℕ) (y : Style) (h : n ≤ m) (g : k ≤ l) (f : y .flag < 127) (w : y .width ≤ 99) (t : 10 ≤ y .width → 2 + k ≤ l) where
+  with-style-follows : (a : Act) → Follows n k a → Follows m l (withStyle y a)
+  unfolding withStyle
+  with-style-follows (Byte b) v = picked (Follows m l) (isUnstyled y) tt tt
+  with-style-follows (Convert c x) v =
+      let modest : Modest l y = record { flag = f; width = w; bytes = λ d. omega (arith, t d, v .1) } in
+      picked (Follows m l) (takesFlag (y .flag) (conversionOf c .form)) (omega (arith, v .0), omega (arith, v .1), modest) tt
+  with-style-follows (Open c) v = picked (Follows m l) (isUnstyled y) (omega (arith, v .0), omega (arith, v .1)) tt
+  with-style-follows Refuse v = tt
 
 signed-follows : (side : Side) (s : List ℕ) → let p = signed side s in Follows (length s) (p .length) (p .act)
-unfolding signed styled
+unfolding signed styled styleFrom
 signed-follows Writer s =
     let f = flagRun s in
     let w = widthRun (drop (length f) s) in
     let rest = drop (length f + length w) s in
     let p = conversion rest in
-    with-style-follows (length rest) (p .length) (length s) (length f + length w + p .length) (styleFrom f w) (p .act)
+    let digits = width-run (drop (length f) s) in
+    with-style-follows (length rest) (p .length) (length s) (length f + length w + p .length) (styleFrom f w)
     (rw length-drop (omega arith))
     (omega arith)
+    (flag-run s .small)
+    (digits .most)
+    (λ d. omega (arith, digits .two d))
+    (p .act)
     (conversion-follows rest)
 signed-follows Reader s = conversion-follows s
 
@@ -139,3 +189,12 @@ pub follows : (side : Side) (b : ℕ) (s : List ℕ) → let p = pieceOf side b 
 unfolding pieceOf
 follows side b s =
     picked (λ (p : Piece). Follows (length s) (p .length) (p .act)) (eqb b (code "%")) (signed-follows side s) tt
+
+-- ---- with a flag and a width, by its parts
+
+pub styled-is : (s : List ℕ) {f n : ℕ} {w : Digits} {p : Piece} {a : Act} → f ≡ getD (flagRun s) 0 0 → n ≡ length (flagRun s)
+    → (w .value ≡ decimal 0 (widthRun (drop n s))) × (w .count ≡ length (widthRun (drop n s)))
+    → p ≡ conversion (drop (n + w .count) s) → a ≡ withStyle (record { flag = f; width = w .value }) (p .act)
+    → record { act = a; length = n + w .count + p .length } ≡ styled s
+unfolding styled styleFrom
+styled-is s e q d h g = rw (g, h, d .0, d .1, e, q)

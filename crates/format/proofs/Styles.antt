@@ -4,11 +4,11 @@ use Prim.Native.Char.{code}
 use Prim.Native.Nat.{ℕ, suc, _+_, _-_, _*_, _≤_, _<_}
 use mathlib.Core.Bool.{Bool, true, false, cond, and-eq-true-iff}
 use mathlib.Core.List.{List, [], _∷_}
-use mathlib.Core.Path.{_≡_, refl}
+use mathlib.Core.Path.{_≡_, refl, sym, _∙_}
 use native.Mathlib.Decide.{decLe}
 use native.Mathlib.Nat.{lt-of-not-le}
 use native.Mathlib.Omega.{arith}
-use borrow.Author.Tests.{leb-true, eqb-false}
+use borrow.Author.Tests.{leb-true, eq-eqb, ne-eqb, eqb-true, eqb-false}
 use lib.Dec.{eqb, leb, lit≤, lit<}
 use lib.ListN.{length, getD}
 use Rattle.laws.proofs.Cases.{either, clash}
@@ -67,6 +67,42 @@ pub flag-run : (s : List ℕ) → IsFlag s (flagRun s)
 unfolding flagRun
 flag-run [] = no-flag []
 flag-run (b ∷ s) = either (IsFlag (b ∷ s)) (among b flags) (λ e. a-flag b s e) (λ e. no-flag (b ∷ s))
+
+-- by the first byte: a flag, or none
+pub flag-none : (s : List ℕ) → length s ≡ 0 → 0 ≡ getD (flagRun s) 0 0
+unfolding flagRun
+flag-none [] h = refl
+flag-none (b ∷ s) h = absurd (omega arith)
+
+among-zero : (b : ℕ) → among b (0 ∷ flags) ≡ true → among b flags ≡ false → b ≡ 0
+unfolding among
+among-zero b e f = either (λ (t : Bool). t ≡ true → b ≡ 0) (eqb b 0) (λ z w. eqb-true b 0 z) (λ z w. clash (cc)) e
+
+among-none : (b : ℕ) → among b (0 ∷ flags) ≡ false → among b flags ≡ false
+unfolding among
+among-none b e = either (λ (t : Bool). t ≡ false → among b flags ≡ false) (eqb b 0) (λ z w. clash (cc)) (λ z w. w) e
+
+pub flag-here : (s : List ℕ) → (length s ≡ 0 → ⊥) → {t : Bool} → t ≡ among (getD s 0 0) (0 ∷ flags) → t ≡ true
+    → getD s 0 0 ≡ getD (flagRun s) 0 0
+unfolding flagRun
+flag-here [] n e q = absurd (n refl)
+flag-here (b ∷ s) n e q =
+    either (λ (x : List ℕ). b ≡ getD x 0 0) (among b flags) (λ _. refl) (λ f. among-zero b (sym e ∙ q) f)
+
+pub flag-absent : (s : List ℕ) → (length s ≡ 0 → ⊥) → {t : Bool} → t ≡ among (getD s 0 0) (0 ∷ flags) → t ≡ false
+    → 0 ≡ getD (flagRun s) 0 0
+unfolding flagRun
+flag-absent [] n e q = absurd (n refl)
+flag-absent (b ∷ s) n e q = rw (among-none b (sym e ∙ q))
+
+pub flag-bytes : (s : List ℕ) {f n : ℕ} → f ≡ getD (flagRun s) 0 0 → n ≡ cond (eqb f 0) 0 1 → n ≡ length (flagRun s)
+flag-bytes s {f} {n} e q = q ∙ either (λ m. m ≡ length (flagRun s)) (eqb f 0) (λ z. none z) (λ z. some z)
+  where
+    none : eqb f 0 ≡ true → 0 ≡ length (flagRun s)
+    none z = sym (flag-run s .none (sym e ∙ eqb-true f 0 z))
+
+    some : eqb f 0 ≡ false → 1 ≡ length (flagRun s)
+    some z = sym (flag-run s .some (λ y. eqb-false f 0 z (e ∙ y)))
 
 -- ---- a width
 
@@ -128,3 +164,19 @@ width-run [] = no-width []
 width-run (b ∷ s) =
     either (IsWidth (b ∷ s)) (eqb b (code "0")) (λ e. no-width (b ∷ s))
     (λ e. either (IsWidth (b ∷ s)) (isDigit b) (λ d. second-digit b d (eqb-false b 48 e) s) (λ d. no-width (b ∷ s)))
+
+-- by the first byte
+pub width-none : (s : List ℕ) → length s ≡ 0 → widthRun s ≡ []
+unfolding widthRun
+width-none [] h = refl
+width-none (b ∷ s) h = absurd (omega arith)
+
+pub width-zero : (s : List ℕ) → (length s ≡ 0 → ⊥) → getD s 0 0 ≡ 48 → widthRun s ≡ []
+unfolding widthRun
+width-zero [] n e = absurd (n refl)
+width-zero (b ∷ s) n e = rw (eq-eqb b 48 e)
+
+pub width-digits : (s : List ℕ) → (length s ≡ 0 → ⊥) → (getD s 0 0 ≡ 48 → ⊥) → widthRun s ≡ digitRun 2 s
+unfolding widthRun
+width-digits [] n e = absurd (n refl)
+width-digits (b ∷ s) n e = rw (ne-eqb b 48 e)

@@ -24,7 +24,7 @@ use Rattle.format.specs.declared.opening.Side.{Side}
 use Rattle.format.specs.declared.opening.Sign.{Sign}
 use Rattle.format.specs.declared.opening.Sign.the-variants.{Own, Of}
 use Rattle.format.specs.declared.opening.Style.{Style}
-use Rattle.format.proofs.Pieces.{takes}
+use Rattle.format.proofs.Pieces.{Modest, Follows, follows, takes}
 
 -- ---- one turn of the definition
 
@@ -87,6 +87,9 @@ pub closed-done : (n k : ℕ) (d : Ended) → closed n d ≡ Done k → (d ≡ W
 unfolding closed
 closed-done n k Whole q = (refl, (cc))
 closed-done n k (BadAt p) q = clash (cc)
+
+has-modest : (n k : ℕ) {c : ℕ} {y : Style} {a : Act} → a ≡ Convert c y → Follows n k a → Modest k y
+has-modest n k e h = (rw e at h) .2
 
 -- ---- storing an opening
 
@@ -160,6 +163,10 @@ module _ {side : Side} {depth : ℕ} {g : Sign} {s : List ℕ} {i : ℕ} {xs : L
   module _ (h : i < length s) {p : Piece} (f : p ≡ pieceOf side (getD s i 0) (drop (i + 1) s)) where
     pub passes : (1 ≤ p .length) × (p .length ≤ 6)
     passes = rw f (takes side (getD s i 0) (drop (i + 1) s))
+
+    -- a flag and a width can be put into an element
+    pub modest : {c : ℕ} {y : Style} → p .act ≡ Convert c y → Modest (p .length) y
+    modest {c} {y} q = has-modest (length (drop (i + 1) s)) (p .length) q (rw f (follows side (getD s i 0) (drop (i + 1) s)))
 
     abbrev rest : Opening
     rest = openFrom side (compositeTo side depth) g (i + p .length) 0 (drop (i + p .length) s)

@@ -7,7 +7,7 @@ use lib.Dec.{eqb, leb, ltb}
 use lib.ListN.{length, getD, drop}
 use lib.Seq.{sets}
 use Rattle.laws.specs.Bytes.{bytes}
-use Rattle.text.specs.Digits.{digitRun, decimal}
+use Rattle.text.specs.Digits.{isDigit, digitRun, decimal}
 use Rattle.format.specs.Conversions.{among, isConversion, conversionOf, isNumber, isComposite, ownFormat}
 use Rattle.format.specs.declared.conversions.Form.{Form}
 use Rattle.format.specs.declared.opening.Act.{Act}
@@ -253,4 +253,5 @@ entryPlace es k = let e = getD es k 0 in cond (isElement Writer e && not (isElem
 unfoldable pub computes : Unit {0}
 unfolding after-E after-O letter paired conversion flags flagRun widthRun styleFrom takesFlag isUnstyled withStyle styled signed pieceOf
     nothing before composed acted signAt openFrom compositeTo openTo opening closed opened openedInto hasStyle isElement elementsIn entryPlace
+    isDigit digitRun decimal
 computes = tt

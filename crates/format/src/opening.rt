@@ -359,7 +359,14 @@ fn store(out: &mut [u32], n: usize, e: u32)
 }
 
 // Opens a format, its composites at most `depth` deep: counts its elements from `from` on, and stores those that fit.
-fn open_to(side: Side, depth: u32, sign: Sign, format: &[u8], out: &mut [u32], from: usize) -> Opened
+fn open_to(
+    side: Side,
+    depth: u32,
+    sign: Sign,
+    format: &[u8],
+    out: &mut [u32],
+    from: usize,
+) -> Opened
     requires { ⌜ CanOpen side depth sign (now format) from ⌝ }
     ensures { λ r. ⌜ r ≡ answered from (openTo side depth sign (now (format .entry))) ⌝ }
     ensures { λ _. ⌜ now (out .exit) ≡ sets (now (out .entry)) from (openTo side depth sign (now (format .entry)) .elements) ⌝ }

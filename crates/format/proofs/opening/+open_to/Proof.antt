@@ -11,7 +11,7 @@ use lib.ListN.{length}
 use lib.Seq.{length-take-le}
 use types.Run.{miss}
 use Rattle.format.specs.Opening.{longest, signAt}
-use Rattle.format.proofs.Turns.{Going, begins, finished, passes, stores-byte, stores-conversion, refuses, sign-within}
+use Rattle.format.proofs.Turns.{Going, begins, finished, passes, stores-byte, stores-conversion, refuses, sign-within, modest}
 use Rattle.format.proofs.Turns.{too-deep, asks, opens, opens-bad}
 use Rattle.format.proofs.opening.open_to.Reads as open-to
 use Rattle.format.proofs.opening.open_to.Kinds as open-to-kinds
@@ -25,7 +25,7 @@ use Rattle.format.proofs.opening.+open_to.{statement}
 use Rattle.format.proofs.opening.+open_to.Tie.{close}
 
 abbrev μ-open-to : Measures 2 open-to-kinds.ps ℕ
-μ-open-to κs a = a .0
+μ-open-to κs a = a .1 .0
 
 -- what `open_to` is given at the measure t, and what a call of it asks below t
 abbrev given : ℕ → In 2 open-to-kinds.ps
@@ -51,16 +51,16 @@ callees t = (
 )
 
 abbrev Inv-loop : open-to-lts.InvT-loop
-Inv-loop depth sign format out₀ from n₀ i₀ out n i = Going depth sign format i out n out₀ from
+Inv-loop side depth sign format out₀ from n₀ i₀ out n i = Going side depth sign format i out n out₀ from
 
 abbrev μ-loop : open-to-lts.MeasureT-loop
-μ-loop depth sign format out₀ from n₀ i₀ out n i = length format - i
+μ-loop side depth sign format out₀ from n₀ i₀ out n i = length format - i
 
 -- ---- what stands at i
 
--- it passes some bytes, at most three
+-- it passes some bytes, at most six
 passed : (t : ℕ) (c : open-to-lts.After-piece-at (callees t) (given t) open-to.Post Inv-loop μ-loop)
-    → (1 ≤ c .piece-at .result .length) × (c .piece-at .result .length ≤ 3)
+    → (1 ≤ c .piece-at .result .length) × (c .piece-at .result .length ≤ 6)
 passed t c = passes (c .before .before .loop .inv) (omega arith) (c .piece-at .ensures)
 
 -- the offset that its % counts as can be put into an element
@@ -71,7 +71,7 @@ sign-fits t c =
     sign-within (s .args .sign) (c .before .loop .i) (omega (arith, s .pre .1 .short)) (s .pre .1 .sign)
 
 loop-holds : (t : ℕ) → open-to-lts.Need-loop-holds (callees t) (given t) open-to.Post Inv-loop μ-loop
-loop-holds t c = begins _ _ _ _ _
+loop-holds t c = begins _ _ _ _ _ _
 
 -- ---- a byte
 
@@ -114,7 +114,10 @@ add-n-2 t c =
 
 conversion-at-requires : (t : ℕ) → open-to-lts.Need-conversion-at-requires (callees t) (given t) open-to.Post Inv-loop μ-loop
 conversion-at-requires t c κs =
-    rw (c .sign-at .ensures) (sign-fits t (c .before .before .before .before .before .before .before))
+    let a = c .before .before .before in
+    let p = a .before .before .before in
+    let m = modest (p .before .before .loop .inv) (omega arith) (p .piece-at .ensures) (a .act2 .given .1) in
+    (rw (c .sign-at .ensures) (sign-fits t (c .before .before .before .before .before .before .before)), m .flag, omega (arith, m .width))
 
 -- ---- a composite
 
@@ -165,7 +168,7 @@ same-length-2 : (t : ℕ) → open-to-lts.Need-same-length-2 (callees t) (given 
 same-length-2 t c =
     let o = c .before .before .before in
     let p = o .before .before .before .before .before .before .before .before .before .before .before in
-    o .open-to .kept .1 .1 .1 .0 ∙ p .before .before .loop .inv .kept
+    o .open-to .kept .1 .1 .1 .1 .0 ∙ p .before .before .loop .inv .kept
 
 loop-again-3 : (t : ℕ) → open-to-lts.Need-loop-again-3 (callees t) (given t) open-to.Post Inv-loop μ-loop
 loop-again-3 t c =

@@ -1,29 +1,23 @@
+-- `format::opening::flag_at` meets its contract.
 use borrow.Author.Needs.{needs}
+use Rattle.format.proofs.Styles.{flag-none, flag-here, flag-absent}
 use Rattle.format.proofs.opening.flag_at.Statement.{statement}
 use Rattle.format.proofs.opening.flag_at.Tie as tie
-use Rattle.format.proofs.opening.flag_at.Reads as reads
-use Rattle.format.proofs.opening.flag_at.Lts as lts
-use Rattle.format.proofs.opening.is_flag.Reads as is-flag-reads
 
--- src/opening.rt:182:9
 returns : tie.Need-returns
-returns c = ?
+returns c = flag-none _ (c .if1 .taken)
 
--- src/opening.rt:184:13
 shared-slice-read-b : tie.Need-shared-slice-read-b
 shared-slice-read-b c = search needs
 
--- src/opening.rt:185:8
 is-flag-requires : tie.Need-is-flag-requires
 is-flag-requires c κs = search needs
 
--- src/opening.rt:186:9
 returns-2 : tie.Need-returns-2
-returns-2 c = ?
+returns-2 c = flag-here _ (c .before .before .before .if1 .left) (c .before .is-flag .ensures) (c .if2 .taken)
 
--- src/opening.rt:178:1
 returns-3 : tie.Need-returns-3
-returns-3 c = ?
+returns-3 c = flag-absent _ (c .before .before .before .if1 .left) (c .before .is-flag .ensures) (c .if2 .left)
 
 pub flag-at-spec : {M : Type 1} → statement M
 flag-at-spec =

@@ -1,15 +1,13 @@
+-- `format::opening::flag_length` meets its contract.
+use borrow.Author.Tests.{eq-eqb, ne-eqb}
 use Rattle.format.proofs.opening.flag_length.Statement.{statement}
 use Rattle.format.proofs.opening.flag_length.Tie as tie
-use Rattle.format.proofs.opening.flag_length.Reads as reads
-use Rattle.format.proofs.opening.flag_length.Lts as lts
 
--- src/opening.rt:265:1
 returns : tie.Need-returns
-returns c = ?
+returns c = rw (eq-eqb _ 0 (c .if1 .taken))
 
--- src/opening.rt:265:1
 returns-2 : tie.Need-returns-2
-returns-2 c = ?
+returns-2 c = rw (ne-eqb _ 0 (c .if1 .left))
 
 pub flag-length-spec : {M : Type 1} → statement M
 flag-length-spec = tie.close (tie.spec returns returns-2)

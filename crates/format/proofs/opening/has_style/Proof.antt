@@ -1,44 +1,40 @@
+-- `format::opening::has_style` meets its contract: the definition makes the same tests.
+use native.Mathlib.Omega.{arith}
 use borrow.Author.Needs.{needs}
+use Rattle.format.proofs.Entry.{too-wide, unknown-flag, known-flag}
 use Rattle.format.proofs.opening.has_style.Statement.{statement}
 use Rattle.format.proofs.opening.has_style.Tie as tie
-use Rattle.format.proofs.opening.has_style.Reads as reads
-use Rattle.format.proofs.opening.has_style.Lts as lts
-use Rattle.format.proofs.conversions.conversion_of.Reads as conversion-of-reads
-use Rattle.format.proofs.opening.is_flag.Reads as is-flag-reads
-use Rattle.format.proofs.opening.style_of.Reads as style-of-reads
-use Rattle.format.proofs.opening.takes_flag.Reads as takes-flag-reads
 
--- src/opening.rt:431:9
 style-of-requires : tie.Need-style-of-requires
 style-of-requires c κs = search needs
 
--- src/opening.rt:433:9
 returns : tie.Need-returns
-returns c = ?
+returns c = too-wide _ (c .before .before .style-of .ensures) (c .if1 .taken)
 
--- src/opening.rt:435:9
 is-flag-requires : tie.Need-is-flag-requires
 is-flag-requires c κs = search needs
 
--- src/opening.rt:436:9
 returns-2 : tie.Need-returns-2
-returns-2 c = ?
+returns-2 c =
+    let l = c .before .before in
+    unknown-flag _ (l .before .before .style-of .ensures) (omega arith) (c .before .is-flag .ensures) (c .if2 .taken)
 
--- src/opening.rt:438:36
 cast-conversion-of : tie.Need-cast-conversion-of
 cast-conversion-of c = search needs
 
--- src/opening.rt:438:9
 conversion-of-requires : tie.Need-conversion-of-requires
 conversion-of-requires c κs = search needs
 
--- src/opening.rt:440:5
 takes-flag-requires : tie.Need-takes-flag-requires
 takes-flag-requires c κs = search needs
 
--- src/opening.rt:428:1
 returns-3 : tie.Need-returns-3
-returns-3 c = ?
+returns-3 c =
+    let f = c .before .before in
+    let l = f .before .before in
+    known-flag _ (l .before .before .style-of .ensures) (omega arith) (f .before .is-flag .ensures) (f .if2 .left)
+    (c .before .conversion-of .ensures)
+    (c .takes-flag .ensures)
 
 pub has-style-spec : {M : Type 1} → statement M
 has-style-spec =

@@ -1,35 +1,23 @@
 -- `format::opening::is_element` meets its contract: the definition makes the same tests, and the set of the code is that of the
 -- rows' letters.
-use Prim.Native.Nat.{_/_}
-use mathlib.Core.Bool.{and-true, and-false}
 use mathlib.Core.Path.{_≡_}
 use native.Mathlib.Omega.{arith}
 use borrow.Author.Needs.{needs}
-use borrow.Author.Tests.{lt-ltb, le-ltb, le-leb, lt-leb}
 use Rattle.format.specs.Conversions.{isConversion, computes}
-use Rattle.format.specs.Opening.{letterOf, isElement}
+use Rattle.format.specs.Opening.{letterOf}
 use Rattle.format.specs.Private.{holds}
+use Rattle.format.proofs.Entry.{byte-is, no-letter, no-sign, signed-is, plain-is, styled-no}
 use Rattle.format.proofs.Letters.{is-among}
 use Rattle.format.proofs.opening.is_element.Statement.{statement}
 use Rattle.format.proofs.opening.is_element.Tie as tie
 
 -- the code's set
-conversions : (c : tie.After-holds) → c .holds .result ≡ isConversion (letterOf (c .before .before .before .args .e))
+conversions : (c : tie.After-holds) → c .holds .result ≡ isConversion (letterOf (c .before .before .args .e))
 unfolding isConversion
 conversions c = is-among _ _ _ (c .holds .ensures) (unfold holds computes in tt) (unfold computes in tt)
 
 returns : tie.Need-returns
-unfolding isElement
-returns c = rw (lt-ltb _ 256 (c .if1 .taken))
-
-cast-if2 : tie.Need-cast-if2
-cast-if2 c = omega arith
-
-returns-2 : tie.Need-returns-2
-unfolding isElement
-returns-2 c =
-    let e = c .before .before .args .e in
-    simp (le-ltb e 256 (omega arith), lt-leb (e / 256) 1023 (omega arith), and-false)
+returns c = byte-is _ _ (c .if1 .taken)
 
 cast-holds : tie.Need-cast-holds
 cast-holds c = search needs
@@ -37,11 +25,50 @@ cast-holds c = search needs
 holds-requires : tie.Need-holds-requires
 holds-requires c κs = search needs
 
+returns-2 : tie.Need-returns-2
+returns-2 c = no-letter _ _ (omega arith) (conversions (c .before)) (c .if2 .taken)
+
 returns-3 : tie.Need-returns-3
-unfolding isElement
-returns-3 c =
-    let e = c .before .before .before .args .e in
-    simp (le-ltb e 256 (omega arith), le-leb (e / 256) 1023 (omega arith), and-true, ← conversions c)
+returns-3 c = plain-is _ _ (omega arith) (conversions (c .before .before)) (c .before .if2 .left) (omega arith)
+
+returns-4 : tie.Need-returns-4
+returns-4 c = no-sign _ _ (omega arith) (conversions (c .before .before .before)) (c .before .before .if2 .left) (c .if4 .taken)
+
+enum-told : tie.Need-enum-told
+enum-told c = search needs
+
+has-style-requires : tie.Need-has-style-requires
+has-style-requires c κs = search needs
+
+enum-told-2 : tie.Need-enum-told-2
+enum-told-2 c = search needs
+
+returns-5 : tie.Need-returns-5
+returns-5 c =
+    let z = c .before .before .before in
+    let l = z .before .before in
+    rw (c .before .enum-told .given .1)
+    (signed-is _ _ (omega arith) (conversions (l .before)) (l .if2 .left) (z .if4 .left) (c .has-style .ensures))
+
+returns-6 : tie.Need-returns-6
+returns-6 c =
+    let z = c .before .before in
+    let l = z .before .before in
+    rw (c .enum-told2 .given .1)
+    (signed-is _ _ (omega arith) (conversions (l .before)) (l .if2 .left) (z .if4 .left) (styled-no _ (omega arith)))
 
 pub is-element-spec : {M : Type 1} → statement M
-is-element-spec = tie.close (tie.spec returns cast-if2 returns-2 cast-holds holds-requires returns-3)
+is-element-spec =
+    tie.close
+    (tie.spec
+    returns
+    cast-holds
+    holds-requires
+    returns-2
+    returns-3
+    returns-4
+    enum-told
+    has-style-requires
+    enum-told-2
+    returns-5
+    returns-6)

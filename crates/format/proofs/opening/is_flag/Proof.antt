@@ -1,31 +1,35 @@
+-- `format::opening::is_flag` meets its contract: the definition makes the same tests.
+use borrow.Author.Tests.{ne-eqb}
+use Rattle.format.specs.Conversions.{among, computes}
+use Rattle.format.specs.Opening.{flags}
 use Rattle.format.proofs.opening.is_flag.Statement.{statement}
 use Rattle.format.proofs.opening.is_flag.Tie as tie
-use Rattle.format.proofs.opening.is_flag.Reads as reads
-use Rattle.format.proofs.opening.is_flag.Lts as lts
 
--- src/opening.rt:164:1
 returns : tie.Need-returns
-returns c = ?
+unfolding computes flags
+returns c = rw (c .match .keys1)
 
--- src/opening.rt:164:1
 returns-2 : tie.Need-returns-2
-returns-2 c = ?
+unfolding computes flags
+returns-2 c = rw (c .match .keys2)
 
--- src/opening.rt:164:1
 returns-3 : tie.Need-returns-3
-returns-3 c = ?
+unfolding computes flags
+returns-3 c = rw (c .match .keys3)
 
--- src/opening.rt:164:1
 returns-4 : tie.Need-returns-4
-returns-4 c = ?
+unfolding computes flags
+returns-4 c = rw (c .match .keys4)
 
--- src/opening.rt:164:1
 returns-5 : tie.Need-returns-5
-returns-5 c = ?
+unfolding computes flags
+returns-5 c = rw (c .match .keys5)
 
--- src/opening.rt:164:1
 returns-6 : tie.Need-returns-6
-returns-6 c = ?
+unfolding computes flags
+returns-6 c =
+    let r = c .match .rest in
+    rw (ne-eqb _ 0 (r .0 .0 .0 .0 .1), ne-eqb _ 95 (r .0 .0 .0 .1), ne-eqb _ 45 (r .0 .0 .1), ne-eqb _ 48 (r .0 .1), ne-eqb _ 94 (r .1))
 
 pub is-flag-spec : {M : Type 1} → statement M
 is-flag-spec = tie.close (tie.spec returns returns-2 returns-3 returns-4 returns-5 returns-6)

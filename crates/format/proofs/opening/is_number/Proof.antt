@@ -1,64 +1,57 @@
+-- `format::opening::is_number` meets its contract: each form by itself.
 use borrow.Author.Needs.{needs}
+use Rattle.format.specs.Conversions.{isNumber}
 use Rattle.format.proofs.opening.is_number.Statement.{statement}
 use Rattle.format.proofs.opening.is_number.Tie as tie
-use Rattle.format.proofs.opening.is_number.Reads as reads
-use Rattle.format.proofs.opening.is_number.Lts as lts
 
--- src/opening.rt:208:24
 enum-told : tie.Need-enum-told
 enum-told c = search needs
 
--- src/opening.rt:209:25
 enum-told-2 : tie.Need-enum-told-2
 enum-told-2 c = search needs
 
--- src/opening.rt:210:29
 enum-told-3 : tie.Need-enum-told-3
 enum-told-3 c = search needs
 
--- src/opening.rt:211:27
 enum-told-4 : tie.Need-enum-told-4
 enum-told-4 c = search needs
 
--- src/opening.rt:212:26
 enum-told-5 : tie.Need-enum-told-5
 enum-told-5 c = search needs
 
--- src/opening.rt:213:27
 enum-told-6 : tie.Need-enum-told-6
 enum-told-6 c = search needs
 
--- src/opening.rt:214:26
 enum-told-7 : tie.Need-enum-told-7
 enum-told-7 c = search needs
 
--- src/opening.rt:204:1
 returns : tie.Need-returns
-returns c = ?
+unfolding isNumber
+returns c = rw (c .enum-told .given .1)
 
--- src/opening.rt:204:1
 returns-2 : tie.Need-returns-2
-returns-2 c = ?
+unfolding isNumber
+returns-2 c = rw (c .enum-told2 .given .1)
 
--- src/opening.rt:204:1
 returns-3 : tie.Need-returns-3
-returns-3 c = ?
+unfolding isNumber
+returns-3 c = rw (c .enum-told3 .given .1)
 
--- src/opening.rt:204:1
 returns-4 : tie.Need-returns-4
-returns-4 c = ?
+unfolding isNumber
+returns-4 c = rw (c .enum-told4 .given .1)
 
--- src/opening.rt:204:1
 returns-5 : tie.Need-returns-5
-returns-5 c = ?
+unfolding isNumber
+returns-5 c = rw (c .enum-told5 .given .1)
 
--- src/opening.rt:204:1
 returns-6 : tie.Need-returns-6
-returns-6 c = ?
+unfolding isNumber
+returns-6 c = rw (c .enum-told6 .given .1)
 
--- src/opening.rt:204:1
 returns-7 : tie.Need-returns-7
-returns-7 c = ?
+unfolding isNumber
+returns-7 c = rw (c .enum-told7 .given .1)
 
 pub is-number-spec : {M : Type 1} → statement M
 is-number-spec =

@@ -1,15 +1,16 @@
+-- `format::opening::is_unstyled` meets its contract.
+use borrow.Author.Tests.{eq-eqb, ne-eqb}
+use Rattle.format.specs.Opening.{isUnstyled}
 use Rattle.format.proofs.opening.is_unstyled.Statement.{statement}
 use Rattle.format.proofs.opening.is_unstyled.Tie as tie
-use Rattle.format.proofs.opening.is_unstyled.Reads as reads
-use Rattle.format.proofs.opening.is_unstyled.Lts as lts
 
--- src/opening.rt:229:1
 returns : tie.Need-returns
-returns c = ?
+unfolding isUnstyled
+returns c = rw (eq-eqb _ 0 (c .before .if1 .taken))
 
--- src/opening.rt:229:1
 returns-2 : tie.Need-returns-2
-returns-2 c = ?
+unfolding isUnstyled
+returns-2 c = rw (ne-eqb _ 0 (c .if1 .left))
 
 pub is-unstyled-spec : {M : Type 1} → statement M
 is-unstyled-spec = tie.close (tie.spec returns returns-2)

@@ -21,7 +21,7 @@ open-to-requires c κs =
     record {
       short = omega arith;
       sign = lit< tt;
-      few = omega (arith, bound (c .before .before .before .before .args .format .now));
+      few = omega (arith, bound (c .before .before .before .before .args .side) (c .before .before .before .before .args .format .now));
     }
 
 same-length : tie.Need-same-length

@@ -13,24 +13,24 @@ returns : tie.Need-returns
 unfolding pieceOf
 returns c = rw (ne-eqb _ 37 (c .if1 .taken))
 
-add-conversion : tie.Need-add-conversion
-add-conversion c = search needs
+add-signed : tie.Need-add-signed
+add-signed c = search needs
 
-sub-conversion : tie.Need-sub-conversion
-sub-conversion c = search needs
+sub-signed : tie.Need-sub-signed
+sub-signed c = search needs
 
-part-conversion-start : tie.Need-part-conversion-start
-part-conversion-start c = search needs
+part-signed-start : tie.Need-part-signed-start
+part-signed-start c = search needs
 
-part-conversion-end : tie.Need-part-conversion-end
-part-conversion-end c = search needs
+part-signed-end : tie.Need-part-signed-end
+part-signed-end c = search needs
 
-conversion-requires : tie.Need-conversion-requires
-conversion-requires c κs = search needs
+signed-requires : tie.Need-signed-requires
+signed-requires c κs = search needs
 
 returns-2 : tie.Need-returns-2
 unfolding pieceOf
-returns-2 c = rw (eq-eqb _ 37 (c .before .before .if1 .left)) (rw rest at (c .conversion .ensures))
+returns-2 c = rw (eq-eqb _ 37 (c .before .before .if1 .left)) (rw rest at (c .signed .ensures))
 
 pub piece-at-spec : {M : Type 1} → statement M
 piece-at-spec =
@@ -38,9 +38,9 @@ piece-at-spec =
     (tie.spec
     shared-slice-read-b
     returns
-    add-conversion
-    sub-conversion
-    part-conversion-start
-    part-conversion-end
-    conversion-requires
+    add-signed
+    sub-signed
+    part-signed-start
+    part-signed-end
+    signed-requires
     returns-2)

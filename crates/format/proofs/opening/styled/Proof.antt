@@ -1,73 +1,94 @@
+-- `format::opening::styled` meets its contract: a flag and a width lie within the format, and are small.
+use Prim.Native.Nat.{ℕ, _+_, _≤_}
+use mathlib.Core.List.{List}
+use mathlib.Core.Path.{_≡_}
+use native.Mathlib.Omega.{arith}
 use borrow.Author.Needs.{needs}
+use lib.ListN.{length, drop, length-drop}
+use Rattle.text.specs.Digits.{decimal}
+use Rattle.format.specs.Opening.{flagRun, widthRun}
+use Rattle.format.proofs.Pieces.{rest, styled-is, at-most-three}
+use Rattle.format.proofs.Styles.{flag-run, width-run, flag-bytes}
 use Rattle.format.proofs.opening.styled.Statement.{statement}
 use Rattle.format.proofs.opening.styled.Tie as tie
-use Rattle.format.proofs.opening.styled.Reads as reads
-use Rattle.format.proofs.opening.styled.Lts as lts
-use Rattle.format.proofs.opening.conversion.Reads as conversion-reads
-use Rattle.format.proofs.opening.flag_at.Reads as flag-at-reads
-use Rattle.format.proofs.opening.flag_length.Reads as flag-length-reads
-use Rattle.format.proofs.opening.width_at.Reads as width-at-reads
-use Rattle.format.proofs.opening.with_style.Reads as with-style-reads
 
--- src/opening.rt:275:9
+-- the flag has so many bytes, and lies within the format
+flag-count : (c : tie.After-flag-length) → c .flag-length .result ≡ length (flagRun (c .before .before .before .args .s .now))
+flag-count c = flag-bytes _ (c .before .flag-at .ensures) (c .flag-length .ensures)
+
+flag-within : (c : tie.After-flag-length) → c .flag-length .result ≤ length (c .before .before .before .args .s .now)
+flag-within c = omega (arith, flag-count c, flag-run (c .before .before .before .args .s .now) .within)
+
+-- what stands after it, and the width there
+abbrev after-flag : tie.After-width-at → List ℕ
+after-flag c = drop (c .before .before .flag-length .result) (c .before .before .before .before .before .args .s .now)
+
+width-is : (c : tie.After-width-at)
+    → (c .width-at .result .value ≡ decimal 0 (widthRun (after-flag c))) × (c .width-at .result .count ≡ length (widthRun (after-flag c)))
+width-is c = rw rest at (c .width-at .ensures)
+
+both-within : (c : tie.After-width-at)
+    → c .before .before .flag-length .result + c .width-at .result .count ≤ length (c .before .before .before .before .before .args .s .now)
+both-within c =
+    omega (
+      arith,
+      flag-within (c .before .before),
+      width-is c .1,
+      width-run (after-flag c) .within,
+      length-drop (c .before .before .flag-length .result) (c .before .before .before .before .before .args .s .now),
+    )
+
 flag-at-requires : tie.Need-flag-at-requires
 flag-at-requires c κs = search needs
 
--- src/opening.rt:276:9
 flag-length-requires : tie.Need-flag-length-requires
 flag-length-requires c κs = search needs
 
--- src/opening.rt:277:26
 sub-width-at : tie.Need-sub-width-at
-sub-width-at c = ?
+sub-width-at c = flag-within c
 
--- src/opening.rt:277:26
 part-width-at-start : tie.Need-part-width-at-start
-part-width-at-start c = ?
+part-width-at-start c = omega (arith, flag-within c)
 
--- src/opening.rt:277:26
 part-width-at-end : tie.Need-part-width-at-end
 part-width-at-end c = search needs
 
--- src/opening.rt:277:9
 width-at-requires : tie.Need-width-at-requires
 width-at-requires c κs = search needs
 
--- src/opening.rt:278:13
 add-n : tie.Need-add-n
-add-n c = ?
+add-n c = omega (arith, both-within (c .before))
 
--- src/opening.rt:279:28
 sub-conversion : tie.Need-sub-conversion
-sub-conversion c = ?
+sub-conversion c = both-within (c .before)
 
--- src/opening.rt:279:28
 part-conversion-start : tie.Need-part-conversion-start
-part-conversion-start c = ?
+part-conversion-start c = omega (arith, both-within (c .before))
 
--- src/opening.rt:279:28
 part-conversion-end : tie.Need-part-conversion-end
 part-conversion-end c = search needs
 
--- src/opening.rt:279:9
 conversion-requires : tie.Need-conversion-requires
 conversion-requires c κs = search needs
 
--- src/opening.rt:283:16
 cast-t16 : tie.Need-cast-t16
-cast-t16 c = ?
+cast-t16 c = let w = c .before .before .before .before in omega (arith, width-is w .0, width-run (after-flag w) .most)
 
--- src/opening.rt:286:14
 with-style-requires : tie.Need-with-style-requires
 with-style-requires c κs = search needs
 
--- src/opening.rt:287:17
 add-t10 : tie.Need-add-t10
-add-t10 c = ?
+add-t10 c =
+    let p = c .before .before .before in
+    omega (arith, both-within (p .before .before .before), at-most-three _ (p .conversion .ensures))
 
--- src/opening.rt:272:1
 returns : tie.Need-returns
-returns c = ?
+returns c =
+    let p = c .before .before .before in
+    let w = p .before .before .before in
+    styled-is _ (w .before .before .before .flag-at .ensures) (flag-count (w .before .before)) (width-is w)
+    (rw rest at (p .conversion .ensures))
+    (c .before .with-style .ensures)
 
 pub styled-spec : {M : Type 1} → statement M
 styled-spec =

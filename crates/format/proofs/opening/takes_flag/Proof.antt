@@ -1,29 +1,29 @@
+-- `format::opening::takes_flag` meets its contract: the definition makes the same tests.
 use borrow.Author.Needs.{needs}
+use borrow.Author.Tests.{ne-eqb}
+use Rattle.format.specs.Opening.{takesFlag}
 use Rattle.format.proofs.opening.takes_flag.Statement.{statement}
 use Rattle.format.proofs.opening.takes_flag.Tie as tie
-use Rattle.format.proofs.opening.takes_flag.Reads as reads
-use Rattle.format.proofs.opening.takes_flag.Lts as lts
-use Rattle.format.proofs.opening.is_number.Reads as is-number-reads
 
--- src/opening.rt:224:18
 is-number-requires : tie.Need-is-number-requires
 is-number-requires c κs = search needs
 
--- src/opening.rt:225:14
 is-number-requires-2 : tie.Need-is-number-requires-2
 is-number-requires-2 c κs = search needs
 
--- src/opening.rt:219:1
 returns : tie.Need-returns
-returns c = ?
+unfolding takesFlag
+returns c = rw (c .match .keys1)
 
--- src/opening.rt:219:1
 returns-2 : tie.Need-returns-2
-returns-2 c = ?
+unfolding takesFlag
+returns-2 c = rw (c .before .match .keys2, c .is-number .ensures)
 
--- src/opening.rt:219:1
 returns-3 : tie.Need-returns-3
-returns-3 c = ?
+unfolding takesFlag
+returns-3 c =
+    let r = c .before .match .rest in
+    rw (ne-eqb _ 0 (r .0 .1), ne-eqb _ 94 (r .1)) (c .is-number2 .ensures)
 
 pub takes-flag-spec : {M : Type 1} → statement M
 takes-flag-spec =

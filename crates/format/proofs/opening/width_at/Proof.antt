@@ -1,29 +1,32 @@
+-- `format::opening::width_at` meets its contract.
+use mathlib.Core.Path.{ap, refl}
 use borrow.Author.Needs.{needs}
+use Rattle.text.specs.Digits.{decimal, readDigits}
+use Rattle.text.specs.declared.digits.Digits.{Digits}
+use Rattle.format.proofs.Styles.{width-none, width-zero, width-digits}
 use Rattle.format.proofs.opening.width_at.Statement.{statement}
 use Rattle.format.proofs.opening.width_at.Tie as tie
-use Rattle.format.proofs.opening.width_at.Reads as reads
-use Rattle.format.proofs.opening.width_at.Lts as lts
-use Rattle.text.proofs.read_digits.Reads as read-digits-reads
 
--- src/opening.rt:196:9
 returns : tie.Need-returns
-returns c = ?
+unfolding decimal
+returns c = rw (width-none _ (c .if1 .taken)) (refl, refl)
 
--- src/opening.rt:198:8
 shared-slice-read-if2 : tie.Need-shared-slice-read-if2
 shared-slice-read-if2 c = search needs
 
--- src/opening.rt:199:9
 returns-2 : tie.Need-returns-2
-returns-2 c = ?
+unfolding decimal
+returns-2 c = rw (width-zero _ (c .before .before .if1 .left) (c .if2 .taken)) (refl, refl)
 
--- src/opening.rt:201:5
 read-digits-requires : tie.Need-read-digits-requires
 read-digits-requires c κs = search needs
 
--- src/opening.rt:192:1
 returns-3 : tie.Need-returns-3
-returns-3 c = ?
+unfolding readDigits
+returns-3 c =
+    let l = c .before in
+    rw (width-digits _ (l .before .before .if1 .left) (l .if2 .left))
+    (ap (λ (d : Digits). d .value) (c .read-digits .ensures), ap (λ (d : Digits). d .count) (c .read-digits .ensures))
 
 pub width-at-spec : {M : Type 1} → statement M
 width-at-spec =

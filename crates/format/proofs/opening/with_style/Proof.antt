@@ -1,71 +1,62 @@
+-- `format::opening::with_style` meets its contract: the definition makes the same tests.
 use borrow.Author.Needs.{needs}
+use Rattle.format.specs.Opening.{withStyle}
 use Rattle.format.proofs.opening.with_style.Statement.{statement}
 use Rattle.format.proofs.opening.with_style.Tie as tie
-use Rattle.format.proofs.opening.with_style.Reads as reads
-use Rattle.format.proofs.opening.with_style.Lts as lts
-use Rattle.format.proofs.conversions.conversion_of.Reads as conversion-of-reads
-use Rattle.format.proofs.opening.is_unstyled.Reads as is-unstyled-reads
-use Rattle.format.proofs.opening.takes_flag.Reads as takes-flag-reads
 
--- src/opening.rt:240:19
 enum-known-act : tie.Need-enum-known-act
 enum-known-act c = search needs
 
--- src/opening.rt:241:16
 is-unstyled-requires : tie.Need-is-unstyled-requires
 is-unstyled-requires c κs = search needs
 
--- src/opening.rt:242:17
 returns : tie.Need-returns
-returns c = ?
+unfolding withStyle
+returns c = rw (c .before .before .before .act .given .1, ← c .before .is-unstyled .ensures, c .if1 .taken)
 
--- src/opening.rt:246:24
 enum-known-act-2 : tie.Need-enum-known-act-2
 enum-known-act-2 c = search needs
 
--- src/opening.rt:247:17
 conversion-of-requires : tie.Need-conversion-of-requires
 conversion-of-requires c κs = search needs
 
--- src/opening.rt:249:16
 takes-flag-requires : tie.Need-takes-flag-requires
 takes-flag-requires c κs = search needs
 
--- src/opening.rt:250:17
 returns-2 : tie.Need-returns-2
-returns-2 c = ?
+unfolding withStyle
+returns-2 c =
+    rw (c .before .before .before .before .act2 .given .1, ← c .before .before .conversion-of .ensures, ← c .before .takes-flag .ensures, c .if2 .taken)
 
--- src/opening.rt:254:19
 enum-known-act-3 : tie.Need-enum-known-act-3
 enum-known-act-3 c = search needs
 
--- src/opening.rt:255:16
 is-unstyled-requires-2 : tie.Need-is-unstyled-requires-2
 is-unstyled-requires-2 c κs = search needs
 
--- src/opening.rt:256:17
 returns-3 : tie.Need-returns-3
-returns-3 c = ?
+unfolding withStyle
+returns-3 c = rw (c .before .before .before .act3 .given .1, ← c .before .is-unstyled2 .ensures, c .if3 .taken)
 
--- src/opening.rt:260:24
 enum-told : tie.Need-enum-told
 enum-told c = search needs
 
--- src/opening.rt:236:1
 returns-4 : tie.Need-returns-4
-returns-4 c = ?
+unfolding withStyle
+returns-4 c = rw (c .before .before .before .act .given .1, ← c .before .is-unstyled .ensures, c .if1 .left)
 
--- src/opening.rt:236:1
 returns-5 : tie.Need-returns-5
-returns-5 c = ?
+unfolding withStyle
+returns-5 c =
+    rw (c .before .before .before .before .act2 .given .1, ← c .before .before .conversion-of .ensures, ← c .before .takes-flag .ensures, c .if2 .left)
 
--- src/opening.rt:236:1
 returns-6 : tie.Need-returns-6
-returns-6 c = ?
+unfolding withStyle
+returns-6 c = rw (c .before .before .before .act3 .given .1, ← c .before .is-unstyled2 .ensures, c .if3 .left)
 
--- src/opening.rt:236:1
 returns-7 : tie.Need-returns-7
-returns-7 c = ?
+unfolding withStyle
+returns-7 c = rw (c .enum-told .given .1)
 
 pub with-style-spec : {M : Type 1} → statement M
 with-style-spec =

@@ -1,0 +1,116 @@
+-- Whether an entry is an element, by its parts.
+-- Assumes nothing.
+use Prim.Native.Nat.{ℕ, _/_, _%_, _-_, _≤_, _<_}
+use mathlib.Core.Bool.{Bool, true, false, not, cond, _&&_, and-eq-true-iff}
+use mathlib.Core.List.{List, [], _∷_}
+use mathlib.Core.Path.{_≡_, refl, sym, ap, _∙_}
+use native.Mathlib.Decide.{decLe}
+use native.Mathlib.Nat.{lt-of-not-le}
+use native.Mathlib.Omega.{arith}
+use borrow.Author.Tests.{lt-ltb, le-ltb, le-leb, lt-leb, not-true, not-false, leb-true}
+use lib.Dec.{leb}
+use lib.ListN.{length, getD, List·getD-eq-default}
+use Rattle.laws.proofs.Cases.{clash}
+use Rattle.format.specs.Conversions.{among, isConversion, conversionOf}
+use Rattle.format.specs.Opening.{flags, letterOf, afterSign, styleOf, takesFlag, hasStyle, isElement, entryPlace}
+use Rattle.format.specs.declared.conversions.Conversion.{Conversion}
+use Rattle.format.specs.declared.opening.Side.{Side}
+use Rattle.format.specs.declared.opening.Side.the-variants.{Writer, Reader}
+use Rattle.format.specs.declared.opening.Style.{Style}
+
+-- ---- its flag and width, which are y
+
+module _ (e : ℕ) {y : Style} (q : y ≡ styleOf e) where
+  flag-is : e / 33554432 ≡ y .flag
+  flag-is = sym (ap (λ (s : Style). s .flag) q)
+
+  width-is : e / 262144 % 128 ≡ y .width
+  width-is = sym (ap (λ (s : Style). s .width) q)
+
+  pub too-wide : 99 < y .width → false ≡ hasStyle Writer e
+  unfolding hasStyle
+  too-wide h = rw (width-is, lt-leb (y .width) 99 h)
+
+  module _ (w : y .width ≤ 99) {t : Bool} (k : t ≡ among (y .flag) (0 ∷ flags)) where
+    pub unknown-flag : not t ≡ true → false ≡ hasStyle Writer e
+    unfolding hasStyle
+    unknown-flag n = rw (width-is, flag-is, le-leb (y .width) 99 w, ← k, not-true t n)
+
+    pub known-flag : not t ≡ false → {c : Conversion} {r : Bool} → c ≡ conversionOf (e % 256) → r ≡ takesFlag (y .flag) (c .form)
+        → r ≡ hasStyle Writer e
+    unfolding hasStyle
+    known-flag n p h = rw (width-is, flag-is, le-leb (y .width) 99 w, ← k, not-false t n, ← p) h
+
+-- ---- the whole entry
+
+module _ (e : ℕ) (side : Side) where
+  pub byte-is : e < 256 → true ≡ isElement side e
+  unfolding isElement
+  byte-is h = rw (lt-ltb e 256 h)
+
+  module _ (h : 256 ≤ e) {t : Bool} (c : t ≡ isConversion (letterOf e)) where
+    pub no-letter : not t ≡ true → false ≡ isElement side e
+    unfolding isElement
+    no-letter n = rw (le-ltb e 256 h, ← c, not-true t n)
+
+    module _ (n : not t ≡ false) where
+      pub no-sign : e / 256 % 1024 ≡ 0 → false ≡ isElement side e
+      unfolding isElement
+      no-sign z = rw (le-ltb e 256 h, ← c, not-false t n, z)
+
+      pub signed-is : (e / 256 % 1024 ≡ 0 → ⊥) → {r : Bool} → r ≡ hasStyle side e → r ≡ isElement side e
+      unfolding isElement
+      signed-is z s = rw (le-ltb e 256 h, ← c, not-false t n, le-leb 1 (afterSign e) (omega arith)) s
+
+-- without flag and width, alike for both sides
+plain-style : (side : Side) (e : ℕ) → e < 262144 → true ≡ hasStyle side e
+unfolding hasStyle among takesFlag
+plain-style Writer e h =
+    let f : e / 33554432 ≡ 0 = omega arith in
+    let w : e / 262144 % 128 ≡ 0 = omega arith in
+    rw (f, w)
+plain-style Reader e h = rw (lt-ltb e 262144 h)
+
+pub plain-is : (e : ℕ) (side : Side) → 256 ≤ e → {t : Bool} → t ≡ isConversion (letterOf e) → not t ≡ false → e < 262144
+    → true ≡ isElement side e
+plain-is e side h c n l = signed-is e side h c n (λ z. omega arith) (plain-style side e l)
+
+pub styled-no : (e : ℕ) → 262144 ≤ e → false ≡ hasStyle Reader e
+unfolding hasStyle
+styled-no e h = rw (le-ltb e 262144 h)
+
+-- ---- the place of an entry that the reader refuses
+
+module _ (es : List ℕ) (k : ℕ) where
+  pub past-entries : length es ≤ k → k ≡ entryPlace es k
+  unfolding entryPlace isElement
+  past-entries h = rw (List·getD-eq-default es 0 h)
+
+  abbrev entry : ℕ
+  entry = getD es k 0
+
+  module _ {t : Bool} (w : t ≡ isElement Writer entry) where
+    pub no-entry : not t ≡ true → k ≡ entryPlace es k
+    unfolding entryPlace
+    no-entry n = rw (← w, not-true t n)
+
+    module _ (n : not t ≡ false) {u : Bool} (r : u ≡ isElement Reader entry) where
+      pub plain-entry : u ≡ true → k ≡ entryPlace es k
+      unfolding entryPlace
+      plain-entry e = rw (← w, not-false t n, ← r, e)
+
+      pub styled-entry : u ≡ false → afterSign entry - 1 ≡ entryPlace es k
+      unfolding entryPlace
+      styled-entry e = rw (← w, not-false t n, ← r, e)
+
+-- such an entry has the offset of a %
+pub has-sign : (e : ℕ) {t u : Bool} → t ≡ isElement Writer e → not t ≡ false → u ≡ isElement Reader e → u ≡ false → 1 ≤ afterSign e
+unfolding isElement
+has-sign e {t} w n r f =
+    elim (decLe 256 e) [
+      | yes h ↦
+          let p = rw (le-ltb e 256 h) at (sym w ∙ not-false t n) in
+          let q = and-eq-true-iff (isConversion (letterOf e)) (leb 1 (afterSign e) && hasStyle Writer e) .0 p .1 in
+          leb-true 1 (afterSign e) (and-eq-true-iff (leb 1 (afterSign e)) (hasStyle Writer e) .0 q .0)
+      | no h ↦ let b = byte-is e Reader (lt-of-not-le h) in clash (cc)
+    ]
