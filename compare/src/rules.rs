@@ -255,7 +255,8 @@ fn composite(letter: u8) -> Option<&'static [u8]> {
     })
 }
 
-/// What stands after a %, as far as it is there: flag, width, E or O, letter. Also how many bytes that is. A pair that is not taken is none.
+/// What stands after a %: flag, width, E or O, letter, and how many bytes that is. None where it ends before, or has E or O in a pair that
+/// is not taken.
 fn after_percent(rest: &[u8], side: Use) -> Option<(Conversion, usize)> {
     let mut at = 0;
     let (mut flag, mut width) = (0, 0);

@@ -6,8 +6,8 @@ pub const MOST: usize = 6656;
 /// The letters of the conversions that are neither composites nor bytes.
 pub const LETTERS: &[u8] = b"YCymbhBdejuwaAUWGgVHkIlpPMS";
 
-/// A byte stands for itself. A conversion is its letter, 256 times one more than the offset of its % in the format, 2^18 times its width and
-/// 2^25 times its flag.
+/// A byte stands for itself. A conversion is its letter, 256 times one more than the offset of its % in the format, 2^18 times its width
+/// and 2^25 times its flag.
 pub fn element(item: &Item, offset: usize) -> u32 {
     match *item {
         Item::Byte(b) | Item::Space(b) => b as u32,

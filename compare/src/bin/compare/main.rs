@@ -1,6 +1,6 @@
-//! Compares the proved library with an independent implementation of the rules (`rules.rs`) on random cases and on every flag and width, its
-//! writer with the C library's strftime on every day of the years 1000 to 9999 and on flags and widths, and its white space with isspace on
-//! every byte. Usage: compare SECONDS [SEED]
+//! Compares the proved library with an independent implementation of the rules (`rules.rs`) on random cases and on every flag and width,
+//! its writer with the C library's strftime on every day of the years 1000 to 9999 and on flags and widths, and its white space with
+//! isspace on every byte. Usage: compare SECONDS [SEED]
 mod c_columns;
 mod c_days;
 mod c_spaces;
@@ -147,8 +147,8 @@ fn compare_read(random: &mut Random, tally: &mut Tally, function: &'static str, 
     }
 }
 
-/// Both readers on a text: by the format, and by the elements that it opens to for writing, which are those for reading where it has no flag
-/// and no width.
+/// Both readers on a text: by the format, and by the elements that it opens to for writing, which without flags and widths are those for
+/// reading.
 fn compare_reading(random: &mut Random, cal: &Calendar, tally: &mut Tally, format: &[u8], opened: &Opened) {
     let text = cases::text(random, cal, &opened.items);
     let reading = rules::read(cal, format, &text);
