@@ -23,7 +23,7 @@ fn item(entry: u32) -> Option<(Item, usize)> {
     }
     let offset = (entry / 256 % 1024).checked_sub(1)? as usize;
     let conversion = Conversion { letter, flag: (entry / (1 << 25)) as u8, width: (entry / (1 << 18) % 128) as usize };
-    conversion.is_known().then(|| (Item::Conversion(conversion), offset))
+    conversion.is_known().then_some((Item::Conversion(conversion), offset))
 }
 
 /// What a list's entries stand for, or the place of the first that no opening for this use makes: the offset of its % where it is a

@@ -230,7 +230,7 @@ fn compare_formats(random: &mut Random, cal: &Calendar, tally: &mut Tally) {
 /// there can be or more. The text is one that the entries before the first bad one can read.
 fn compare_strange(random: &mut Random, cal: &Calendar, tally: &mut Tally) {
     let plain = cases::format(random);
-    let format = if random.chance(50) { cases::with_columns(random, &plain) } else { plain };
+    let format = if random.chance(25) { cases::with_columns(random, &plain) } else { plain };
     let mut entries = Opened::new(&format, Use::Writing).elements;
     for _ in 0..random.below(4) {
         let at = random.below(entries.len() + 1);
