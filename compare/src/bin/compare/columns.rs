@@ -1,6 +1,7 @@
-//! Every flag and width before every letter: written and opened, against the rules.
-use crate::elements::element;
-use crate::library::{self, Lent};
+//! Every flag and width before every letter: written, opened and read, against the rules.
+use crate::elements::Opened;
+use crate::library::{self, Lent, WORDS};
+use crate::words;
 use compare::random::Random;
 use compare::rules::{self, Calendar, Moment, Use};
 
@@ -38,6 +39,7 @@ pub fn compare(random: &mut Random, cal: &Calendar, mut differs: impl FnMut(&dyn
                         compare_writings(random, cal, &format, m, &mut differs);
                     }
                     compare_openings(random, &format, &mut differs);
+                    compare_readings(random, cal, &format, &mut differs);
                 }
             }
         }
@@ -61,14 +63,30 @@ fn compare_writings(random: &mut Random, cal: &Calendar, format: &[u8], m: &Mome
 /// For both uses.
 fn compare_openings(random: &mut Random, format: &[u8], differs: &mut impl FnMut(&dyn std::fmt::Debug)) {
     for (side, for_writing) in [(Use::Reading, 0), (Use::Writing, 1)] {
-        let (expected, elements) = match rules::placed_items(format, side) {
-            Ok(placed) => ((0, placed.len() as u32), placed.iter().map(|(item, offset)| element(item, *offset)).collect()),
-            Err(at) => ((3, at as u32), vec![]),
-        };
+        let opened = Opened::new(format, side);
+        let expected = opened.bad.map_or((0, opened.elements.len() as u32), |at| (3, at as u32));
         let mut lent = Lent::new(random, 14, |n| n as u32);
         let found = library::open(format, for_writing, lent.slice());
-        if found != expected || !lent.is(&elements) {
+        if found != expected || !lent.is(&opened.elements) {
             differs(&(String::from_utf8_lossy(format), side, found, expected));
         }
+    }
+}
+
+/// What was written, by the format and by the elements that it opens to for writing.
+fn compare_readings(random: &mut Random, cal: &Calendar, format: &[u8], differs: &mut impl FnMut(&dyn std::fmt::Debug)) {
+    let text = rules::write(cal, format, &MOMENTS[0], usize::MAX).2;
+    let reading = rules::read(cal, format, &text);
+    let opened = Opened::new(format, Use::Writing);
+    let mut compare_words = |by: &str, call: &dyn Fn(&mut [u32]) -> (u32, u32)| {
+        let mut lent = Lent::new(random, WORDS, |n| n as u32);
+        let found = call(lent.slice());
+        if found != (reading.number, reading.place) || !lent.is(&words(&reading)) {
+            differs(&(by, String::from_utf8_lossy(format), &text, found, lent.slice().to_vec(), &reading));
+        }
+    };
+    compare_words("format", &|lent| library::strptime(format, &text, lent));
+    if opened.whole {
+        compare_words("elements", &|lent| library::read(&opened.elements, &text, lent));
     }
 }

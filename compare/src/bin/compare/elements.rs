@@ -8,7 +8,7 @@ pub const LETTERS: &[u8] = b"YCymbhBdejuwaAUWGgVHkIlpPMS";
 
 /// A byte stands for itself. A conversion is its letter, 256 times one more than the offset of its % in the format, 2^18 times its width
 /// and 2^25 times its flag.
-pub fn element(item: &Item, offset: usize) -> u32 {
+fn element(item: &Item, offset: usize) -> u32 {
     match *item {
         Item::Byte(b) | Item::Space(b) => b as u32,
         Item::Conversion(c) => c.letter as u32 + 256 * (offset as u32 + 1) + (1 << 18) * c.width as u32 + (1 << 25) * c.flag as u32,
