@@ -26,6 +26,7 @@ use Rattle.text.specs.declared.names.Case.{Case}
 use Rattle.text.specs.declared.names.Names.{Names}
 use Rattle.text.proofs.Case.{cased-length}
 use Rattle.text.proofs.Fill.{fill-length, fill-below, filled-is-fill, plain-most}
+use Rattle.text.proofs.ReadBack.{filled-length}
 use Rattle.text.proofs.Rows.{held}
 use Rattle.format.specs.Conversions.{conversionOf, isNumber, computes as rows-compute}
 use Rattle.format.specs.Opening.{isByte, letterOf, unstyled, styleOf, hasStyle, isElement}
@@ -97,6 +98,13 @@ module _ (y : Style) where
   unfolding placesBy
   places-most w = picked (λ n. n ≤ max w (y .width)) (eqb (y .flag) 45) (omega arith) (omega arith)
 
+-- as long as its own width, and as the name
+pub plain-length : (own w v : ℕ) → 1 ≤ w → v < 10 ^ w → w ≡ length (number unstyled own w v)
+plain-length own w v h l = rw (number-plain own w v h l) (sym (filled-length own w v))
+
+pub plain-name-length : (k : Case) (s : List ℕ) → length s ≡ length (name unstyled k s)
+plain-name-length k s = rw (name-plain k s) (sym (cased-length k s))
+
 -- no name has more than nine letters
 name-most : (t : Names) (v : ℕ) → length (nameFor t v) ≤ 9
 unfolding nameFor padded
@@ -116,6 +124,11 @@ has-room m i c e =
     let u = both (leb 1 (r .width)) (ltb (getD highest (r .kind) 0) (10 ^ r .width)) (rw e at t) in
     let v = value-ranged m (no-fault-moment m i) (r .kind) (omega (arith, conversion-small c .kind)) in
     (leb→le 1 (r .width) (u .0), omega (arith, ltb→lt (getD highest (r .kind) 0) (10 ^ r .width) (u .1), v .1))
+
+-- the room of a conversion whose form is known
+pub room-of : (c : Conversion) (m : Moment) → HasRoom c m → {f : Form} {v : ℕ} → c .form ≡ f → isNumber f ≡ true → v ≡ value (c .kind) m
+    → (1 ≤ c .width) × (v < 10 ^ c .width)
+room-of c m h p q e = rw e (h (rw p q))
 
 -- a form writes no more than n bytes, which has room for nine and for the width asked for
 formed-most : (n : ℕ) (y : Style) → 9 ≤ n → y .width ≤ n → (f : Form) (w v : ℕ) → w ≤ 9 → (isNumber f ≡ true → (1 ≤ w) × (v < 10 ^ w))

@@ -1,13 +1,17 @@
 -- The writer's order, 1, 2, 3, 4, and then 0: what each way out answers and leaves in the buffer.
 -- Assumes nothing.
 use Prim.Native.Nat.{ℕ, min, _*_, _≤_, _<_}
+use mathlib.Core.Bool.{true}
 use mathlib.Core.List.{List}
-use mathlib.Core.Path.{_≡_, refl, sym, ap}
+use mathlib.Core.Path.{_≡_, refl, sym, ap, _∙_}
 use native.Mathlib.Nat.{zero-add}
 use native.Mathlib.Omega.{arith}
-use borrow.Author.Tests.{le-leb, lt-leb, eq-eqb, ne-eqb}
+use borrow.Author.Tests.{le-leb, lt-leb, eq-eqb, ne-eqb, eqb-true}
+use lib.Dec.{eqb}
 use lib.ListN.{length, take, length-take}
 use Rattle.laws.specs.Stores.{Puts}
+use Rattle.laws.proofs.Cases.{either, clash}
+use Rattle.calendar.specs.Calendar.{date}
 use Rattle.format.specs.Opening.{opening, opened, openedInto, longest, mostElements, elementsIn}
 use Rattle.format.specs.declared.opening.Opened.{Opened}
 use Rattle.format.specs.declared.opening.Opened.the-variants.{Done as Opened-to}
@@ -18,11 +22,11 @@ use Rattle.format.proofs.Entries.{counted-within}
 use Rattle.format.proofs.Entry.{all-plain}
 use Rattle.format.proofs.Opened.{Opens, Breaks, opened-done, stored}
 use Rattle.format.proofs.Sides.{same-opening}
-use Rattle.values.specs.Moments.{momentOf}
+use Rattle.values.specs.Moments.{momentFault, momentOf}
 use Rattle.values.specs.declared.Moment.{Moment}
 use Rattle.values.specs.declared.MomentFields.{MomentFields}
 use Rattle.values.specs.declared.MomentFields.the-variants.{Valid, Bad}
-use Rattle.strftime.specs.Private.{momentWriting}
+use Rattle.strftime.specs.Private.{momentWriting, IsMoment}
 use Rattle.strftime.specs.Writing.{Result, text, writingOf, refused, put, byFormat, byElements}
 use Rattle.strftime.specs.Writing.{forMoment, forFields, writing, elementsWriting}
 use Rattle.strftime.specs.declared.Fields.{Fields}
@@ -79,7 +83,7 @@ module _ (f : List ℕ) (m : Moment) (b : List ℕ) where
       → Gives a c (momentWriting f m b)
   unfolding momentWriting byFormat
   plain-format h g =
-      rw (le-leb (length f) longest (h .opens .short), same-opening f (h .opens .whole), h .opens .whole) (rw (h .first) at g)
+      rw (le-leb (length f) longest (h .opens .short), same-opening f (h .opens .whole), h .opens .whole, same-opening f (h .opens .whole)) (rw (h .first) at g)
 
 -- ---- the fields: 2
 
@@ -89,7 +93,9 @@ valid-moment y n d h i s {m} =
     either (λ (r : MomentFields). r ≡ Valid m → IsMoment m) (eqb (momentFault y n d h i s) 0) (λ z q. good z q) (λ z q. clash (cc))
   where
     good : eqb (momentFault y n d h i s) 0 ≡ true → Valid (record { date = date y n d; hour = h; minute = i; second = s }) ≡ Valid m → IsMoment m
-    good z q = ?
+    good z q =
+        let e : record { date = date y n d; hour = h; minute = i; second = s } ≡ m = cc in
+        rw (← e) (eqb-true (momentFault y n d h i s) 0 z)
 
 module _ (t : Fields) {r : MomentFields} (e : r ≡ momentOf (t .year) (t .month) (t .day) (t .hour) (t .minute) (t .second)) where
   with-fields : (rest : Moment → Result) (b : List ℕ) {s : MomentFields} → r ≡ s → forFields rest b t ≡ forMoment rest b s

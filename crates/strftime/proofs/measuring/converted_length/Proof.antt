@@ -1,8 +1,10 @@
 -- `strftime::measuring::converted_length` meets its contract: one return for each form.
-use lib.ListN.{length-map}
+use mathlib.Core.Path.{refl, _∙_}
+use native.Mathlib.Omega.{arith}
+use Rattle.format.specs.Conversions.{isNumber}
+use Rattle.format.specs.Opening.{unstyled}
 use Rattle.strftime.specs.Writing.{converted, formed}
-use Rattle.text.proofs.ReadBack.{filled-length}
-use Rattle.strftime.proofs.Lengths.{by-form}
+use Rattle.strftime.proofs.Lengths.{by-form, room-of, plain-length, plain-name-length}
 use borrow.Author.Needs.{needs}
 use Rattle.strftime.proofs.measuring.converted_length.Statement.{statement}
 use Rattle.strftime.proofs.measuring.converted_length.Tie as tie
@@ -46,38 +48,51 @@ full-length-requires-2 c κs = search needs
 enum-told-4 : tie.Need-enum-told-4
 enum-told-4 c = search needs
 
+-- a number, whose width has room for it
 returns : tie.Need-returns
-unfolding converted formed
-returns c = rw (c .enum-told .given .1, filled-length)
+unfolding formed isNumber
+returns c =
+    let s = c .before .before in
+    let f = c .enum-told .given .1 in
+    let r = room-of (s .args .c) (s .args .moment) (s .pre) f refl refl in
+    rw (by-form unstyled (s .args .c) (s .args .moment) f refl) (plain-length 48 _ _ (r .0) (omega (arith, r .1)))
 
 returns-2 : tie.Need-returns-2
-unfolding converted formed
-returns-2 c = rw (c .enum-told2 .given .1, filled-length)
+unfolding formed isNumber
+returns-2 c =
+    let s = c .before .before in
+    let f = c .enum-told2 .given .1 in
+    let r = room-of (s .args .c) (s .args .moment) (s .pre) f refl refl in
+    rw (by-form unstyled (s .args .c) (s .args .moment) f refl) (plain-length 32 _ _ (r .0) (omega (arith, r .1)))
 
 returns-3 : tie.Need-returns-3
-unfolding converted formed
-returns-3 c = rw (c .enum-told3 .given .1, filled-length)
+unfolding formed isNumber
+returns-3 c =
+    let s = c .before .before in
+    let f = c .enum-told3 .given .1 in
+    let r = room-of (s .args .c) (s .args .moment) (s .pre) f refl refl in
+    rw (by-form unstyled (s .args .c) (s .args .moment) f refl) (plain-length 48 _ _ (r .0) (omega (arith, r .1)))
 
 returns-4 : tie.Need-returns-4
 unfolding formed
 returns-4 c =
     let a = c .before .before .before .before .before .args in
-    rw (by-form (a .c) (a .moment) (c .before .before .before .form .given .1) (c .before .value .ensures))
-    (c .short-length .ensures)
+    rw (by-form unstyled (a .c) (a .moment) (c .before .before .before .form .given .1) (c .before .value .ensures))
+    (c .short-length .ensures ∙ plain-name-length _ _)
 
 returns-5 : tie.Need-returns-5
 unfolding formed
 returns-5 c =
     let a = c .before .before .before .before .before .args in
-    rw (by-form (a .c) (a .moment) (c .before .before .before .form2 .given .1) (c .before .value2 .ensures))
-    (c .full-length .ensures)
+    rw (by-form unstyled (a .c) (a .moment) (c .before .before .before .form2 .given .1) (c .before .value2 .ensures))
+    (c .full-length .ensures ∙ plain-name-length _ _)
 
 returns-6 : tie.Need-returns-6
 unfolding formed
 returns-6 c =
     let a = c .before .before .before .before .before .args in
-    rw (by-form (a .c) (a .moment) (c .before .before .before .form3 .given .1) (c .before .value3 .ensures), length-map)
-    (c .full-length2 .ensures)
+    rw (by-form unstyled (a .c) (a .moment) (c .before .before .before .form3 .given .1) (c .before .value3 .ensures))
+    (c .full-length2 .ensures ∙ plain-name-length _ _)
 
 returns-7 : tie.Need-returns-7
 unfolding converted formed

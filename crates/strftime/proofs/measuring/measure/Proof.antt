@@ -2,7 +2,7 @@
 use Prim.Native.Nat.{_-_}
 use native.Mathlib.Omega.{arith}
 use lib.ListN.{length}
-use Rattle.strftime.proofs.Lengths.{text-most}
+use Rattle.strftime.proofs.Lengths.{text-any}
 use Rattle.strftime.proofs.Loops.{Measured, nothing-measured, measured-next, all-measured}
 use Rattle.strftime.proofs.measuring.measure.Statement.{statement}
 use Rattle.strftime.proofs.measuring.measure.Tie as tie
@@ -23,13 +23,13 @@ shared-slice-read-element-length : tie.Need-shared-slice-read-element-length Inv
 shared-slice-read-element-length c = omega arith
 
 element-length-requires : tie.Need-element-length-requires Inv-loop μ-loop
-element-length-requires c κs = tt
+element-length-requires c κs = c .before .before .before .before .pre .1
 
 add-n : tie.Need-add-n Inv-loop μ-loop
 add-n c =
     let s = c .before .before .before .before .before in
     let l = measured-next (c .before .before .before .loop .inv) (omega arith) (c .element-length .ensures) in
-    omega (arith, l .count, text-most (s .args .moment) (s .args .elements .now), s .pre)
+    omega (arith, l .count, text-any (s .args .moment) (s .pre .1) (s .args .elements .now), s .pre .0)
 
 add-i : tie.Need-add-i Inv-loop μ-loop
 add-i c = omega arith

@@ -1,12 +1,16 @@
--- `strftime::putting::put_converted` meets its contract: each form puts what it writes.
-use Prim.Native.Nat.{_+_, _≤_}
-use mathlib.Core.Path.{_≡_, refl, sym}
+-- `strftime::putting::put_converted` meets its contract: each form puts what it writes, a number on its own width.
+use Prim.Native.Nat.{_+_, _%_, _^_, _≤_, _<_}
+use mathlib.Core.Bool.{true}
+use mathlib.Core.Path.{_≡_, refl, sym, _∙_}
 use native.Mathlib.Nat.{add-zero}
+use native.Mathlib.Omega.{arith}
 use lib.ListN.{length}
+use Rattle.format.specs.Conversions.{isNumber}
+use Rattle.format.specs.Opening.{unstyled}
 use Rattle.format.specs.declared.conversions.Form.{Form}
+use Rattle.text.specs.declared.names.Case.the-variants.{AsIs, Small}
 use Rattle.strftime.specs.Writing.{formed, converted}
-use Rattle.text.proofs.ReadBack.{filled-length}
-use Rattle.strftime.proofs.Lengths.{by-form}
+use Rattle.strftime.proofs.Lengths.{by-form, room-of, plain-length, plain-name-length, number-plain, name-plain}
 use borrow.Author.Needs.{needs}
 use Rattle.strftime.proofs.putting.put_converted.Statement.{statement}
 use Rattle.strftime.proofs.putting.put_converted.Tie as tie
@@ -16,11 +20,15 @@ abbrev start : tie.After-value → tie.Start
 start c = c .before .before
 
 module _ (c : tie.After-value) {f : Form} (e : start c .args .c .form ≡ f) where
-  written : converted (start c .args .c) (start c .args .moment) ≡ formed f (start c .args .c .width) (c .value .result)
-  written = by-form (start c .args .c) (start c .args .moment) e (c .value .ensures)
+  written : converted unstyled (start c .args .c) (start c .args .moment) ≡ formed unstyled f (start c .args .c .width) (c .value .result)
+  written = by-form unstyled (start c .args .c) (start c .args .moment) e (c .value .ensures)
 
-  room : start c .args .at + length (formed f (start c .args .c .width) (c .value .result)) ≤ length (start c .args .out .now)
-  room = rw written at (start c .pre)
+  room : start c .args .at + length (formed unstyled f (start c .args .c .width) (c .value .result)) ≤ length (start c .args .out .now)
+  room = rw written at (start c .pre .0)
+
+  -- a number has room on its own width
+  digits : isNumber f ≡ true → (1 ≤ start c .args .c .width) × (c .value .result < 10 ^ start c .args .c .width)
+  digits n = room-of (start c .args .c) (start c .args .moment) (start c .pre .1) e n (c .value .ensures)
 
 value-requires : tie.Need-value-requires
 value-requires c κs = search needs
@@ -29,43 +37,58 @@ enum-told : tie.Need-enum-told
 enum-told c = search needs
 
 put-number-requires : tie.Need-put-number-requires
-unfolding formed
-put-number-requires c κs = rw filled-length at (room (c .before .before .before) (c .before .enum-told .given .1))
+unfolding formed isNumber
+put-number-requires c κs =
+    let l = c .before .before .before in
+    let f = c .before .enum-told .given .1 in
+    let d = digits l f refl in
+    let e = plain-length 48 (start l .args .c .width) (l .value .result) (d .0) (omega (arith, d .1)) in
+    rw (← e) at (room l f)
 
 enum-told-2 : tie.Need-enum-told-2
 enum-told-2 c = search needs
 
 put-number-requires-2 : tie.Need-put-number-requires-2
-unfolding formed
-put-number-requires-2 c κs = rw filled-length at (room (c .before .before .before) (c .before .enum-told2 .given .1))
+unfolding formed isNumber
+put-number-requires-2 c κs =
+    let l = c .before .before .before in
+    let f = c .before .enum-told2 .given .1 in
+    let d = digits l f refl in
+    let e = plain-length 32 (start l .args .c .width) (l .value .result) (d .0) (omega (arith, d .1)) in
+    rw (← e) at (room l f)
 
 enum-told-3 : tie.Need-enum-told-3
 enum-told-3 c = search needs
 
 put-number-requires-3 : tie.Need-put-number-requires-3
-unfolding formed
-put-number-requires-3 c κs = rw filled-length at (room (c .before .before .before) (c .before .enum-told3 .given .1))
+unfolding formed isNumber
+put-number-requires-3 c κs =
+    let l = c .before .before .before in
+    let f = c .before .enum-told3 .given .1 in
+    let d = digits l f refl in
+    let e = plain-length 48 (start l .args .c .width) (l .value .result % 7) (d .0) (omega (arith, d .1)) in
+    rw (← e) at (room l f)
 
 enum-known-form : tie.Need-enum-known-form
 enum-known-form c = search needs
 
 put-short-requires : tie.Need-put-short-requires
 unfolding formed
-put-short-requires c κs = room (c .before .before .before .before) (c .before .before .form .given .1)
+put-short-requires c κs = rw (← plain-name-length AsIs _) at (room (c .before .before .before .before) (c .before .before .form .given .1))
 
 enum-known-form-2 : tie.Need-enum-known-form-2
 enum-known-form-2 c = search needs
 
 put-full-requires : tie.Need-put-full-requires
 unfolding formed
-put-full-requires c κs = room (c .before .before .before .before) (c .before .before .form2 .given .1)
+put-full-requires c κs = rw (← plain-name-length AsIs _) at (room (c .before .before .before .before) (c .before .before .form2 .given .1))
 
 enum-known-form-3 : tie.Need-enum-known-form-3
 enum-known-form-3 c = search needs
 
-put-lower-requires : tie.Need-put-lower-requires
+put-full-requires-2 : tie.Need-put-full-requires-2
 unfolding formed
-put-lower-requires c κs = room (c .before .before .before .before) (c .before .before .form3 .given .1)
+put-full-requires-2 c κs = rw (← plain-name-length Small _) at (room (c .before .before .before .before) (c .before .before .form3 .given .1))
 
 enum-told-4 : tie.Need-enum-told-4
 enum-told-4 c = search needs
@@ -74,28 +97,37 @@ same-length : tie.Need-same-length
 same-length c = search needs
 
 returns : tie.Need-returns
-unfolding formed
+unfolding formed isNumber
 returns c =
-    let l = c .before .before .before .before in
-    rw (written (l .before .before) (l .enum-told .given .1)) (c .before .before .put-number .ensures)
+    let m = c .before .before .before .before in
+    let l = m .before .before in
+    let f = m .enum-told .given .1 in
+    let d = digits l f refl in
+    rw (written l f, number-plain 48 (start l .args .c .width) (l .value .result) (d .0) (omega (arith, d .1))) (c .before .before .put-number .ensures)
 
 same-length-2 : tie.Need-same-length-2
 same-length-2 c = search needs
 
 returns-2 : tie.Need-returns-2
-unfolding formed
+unfolding formed isNumber
 returns-2 c =
-    let l = c .before .before .before .before in
-    rw (written (l .before .before) (l .enum-told2 .given .1)) (c .before .before .put-number2 .ensures)
+    let m = c .before .before .before .before in
+    let l = m .before .before in
+    let f = m .enum-told2 .given .1 in
+    let d = digits l f refl in
+    rw (written l f, number-plain 32 (start l .args .c .width) (l .value .result) (d .0) (omega (arith, d .1))) (c .before .before .put-number2 .ensures)
 
 same-length-3 : tie.Need-same-length-3
 same-length-3 c = search needs
 
 returns-3 : tie.Need-returns-3
-unfolding formed
+unfolding formed isNumber
 returns-3 c =
-    let l = c .before .before .before .before in
-    rw (written (l .before .before) (l .enum-told3 .given .1)) (c .before .before .put-number3 .ensures)
+    let m = c .before .before .before .before in
+    let l = m .before .before in
+    let f = m .enum-told3 .given .1 in
+    let d = digits l f refl in
+    rw (written l f, number-plain 48 (start l .args .c .width) (l .value .result % 7) (d .0) (omega (arith, d .1))) (c .before .before .put-number3 .ensures)
 
 same-length-4 : tie.Need-same-length-4
 same-length-4 c = search needs
@@ -104,7 +136,7 @@ returns-4 : tie.Need-returns-4
 unfolding formed
 returns-4 c =
     let l = c .before .before .before .before .before in
-    rw (written (l .before .before) (l .form .given .1)) (c .before .before .put-short .ensures)
+    rw (written (l .before .before) (l .form .given .1), name-plain _ _) (c .before .before .put-short .ensures)
 
 same-length-5 : tie.Need-same-length-5
 same-length-5 c = search needs
@@ -113,7 +145,7 @@ returns-5 : tie.Need-returns-5
 unfolding formed
 returns-5 c =
     let l = c .before .before .before .before .before in
-    rw (written (l .before .before) (l .form2 .given .1)) (c .before .before .put-full .ensures)
+    rw (written (l .before .before) (l .form2 .given .1), name-plain _ _) (c .before .before .put-full .ensures)
 
 same-length-6 : tie.Need-same-length-6
 same-length-6 c = search needs
@@ -122,7 +154,7 @@ returns-6 : tie.Need-returns-6
 unfolding formed
 returns-6 c =
     let l = c .before .before .before .before .before in
-    rw (written (l .before .before) (l .form3 .given .1)) (c .before .before .put-lower .ensures)
+    rw (written (l .before .before) (l .form3 .given .1), name-plain _ _) (c .before .before .put-full2 .ensures)
 
 returns-7 : tie.Need-returns-7
 unfolding formed
@@ -144,7 +176,7 @@ put-converted-spec =
     enum-known-form-2
     put-full-requires
     enum-known-form-3
-    put-lower-requires
+    put-full-requires-2
     enum-told-4
     same-length
     returns

@@ -14,7 +14,7 @@ abbrev μ-loop : tie.MeasureT-loop
 μ-loop out₀ elements moment at₀ done₀ out at done = length elements - done
 
 loop-holds : tie.Need-loop-holds Inv-loop μ-loop
-loop-holds c = nothing-put _ _ _ (c .before .before .pre)
+loop-holds c = nothing-put _ _ _ (c .before .before .pre .0)
 
 mul-put-element : tie.Need-mul-put-element Inv-loop μ-loop
 mul-put-element c = omega arith
@@ -23,7 +23,7 @@ shared-slice-read-put-element : tie.Need-shared-slice-read-put-element Inv-loop 
 shared-slice-read-put-element c = omega arith
 
 put-element-requires : tie.Need-put-element-requires Inv-loop μ-loop
-put-element-requires c κs = room (c .before .before .before .loop .inv) (omega arith)
+put-element-requires c κs = (room (c .before .before .before .loop .inv) (omega arith), c .before .before .before .before .before .before .pre .1)
 
 add-done : tie.Need-add-done Inv-loop μ-loop
 add-done c = omega arith

@@ -1,7 +1,9 @@
 -- `strftime::putting::put_full` meets its contract.
 use native.Mathlib.Omega.{arith}
+use Rattle.text.specs.Naming.{nameFor}
+use Rattle.text.proofs.Case.{cased-length}
 use Rattle.strftime.proofs.Lengths.{named}
-use Rattle.strftime.proofs.Parts.{puts-rest}
+use Rattle.strftime.proofs.Parts.{puts-full}
 use borrow.Author.Needs.{needs}
 use Rattle.strftime.proofs.putting.put_full.Statement.{statement}
 use Rattle.strftime.proofs.putting.put_full.Tie as tie
@@ -27,10 +29,12 @@ returns c =
     let s = c .before .before .before .before .before .before in
     let n = named (s .args .t) (s .args .value) (c .before .before .before .place-for .ensures) in
     let w = rw n at (c .before .before .write-name .ensures) in
-    puts-rest _ _ _ (s .pre) (w .0) (w .1)
+    puts-full _ _ (s .args .case) _ (s .pre) (w .0) (w .1)
 
 add-result : tie.Need-add-result
-add-result c = omega (arith, returns c .ends, c .before .before .before .before .before .before .pre)
+add-result c =
+    let s = c .before .before .before .before .before .before in
+    omega (arith, returns c .ends, s .pre, cased-length (s .args .case) (nameFor (s .args .t) (s .args .value)))
 
 same-length : tie.Need-same-length
 same-length c = search needs

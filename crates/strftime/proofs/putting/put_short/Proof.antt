@@ -3,7 +3,7 @@ use mathlib.Core.Path.{ap}
 use Prim.Native.Nat.{_+_}
 use Rattle.text.specs.Naming.{nameFor}
 use Rattle.strftime.proofs.Lengths.{named}
-use Rattle.strftime.proofs.Parts.{puts-first}
+use Rattle.strftime.proofs.Parts.{puts-short}
 use borrow.Author.Needs.{needs}
 use Rattle.strftime.proofs.putting.put_short.Statement.{statement}
 use Rattle.strftime.proofs.putting.put_short.Tie as tie
@@ -37,7 +37,7 @@ returns c =
     let s = c .before .before .before .before .before .before .before in
     let n = named (s .args .t) (s .args .value) (c .before .before .before .place-for .ensures) in
     let e = ap (_+_ (s .args .at)) (c .before .before .before .before .before .short-length .ensures) in
-    puts-first _ _ 3 (nameFor (s .args .t) (s .args .value)) e (rw n at (c .before .before .write-name .ensures .1))
+    puts-short _ _ (s .args .case) 3 (nameFor (s .args .t) (s .args .value)) e (rw n at (c .before .before .write-name .ensures .1))
 
 pub put-short-spec : {M : Type 1} → statement M
 put-short-spec =
