@@ -12,6 +12,7 @@ use borrow.Author.Tests.{not-true, not-false}
 use lib.ListN.{length, getD, drop, drop-of-length-le}
 use lib.Seq.{drop-cons}
 use Rattle.laws.specs.Lists.{every}
+use Rattle.laws.proofs.Lists.{every-of}
 use Rattle.format.specs.Opening.{isElement, elementsIn}
 use Rattle.format.specs.declared.opening.Side.{Side}
 
@@ -85,3 +86,7 @@ module _ (side : Side) where
 
     pub counted-within : elementsIn side n es ≤ length es
     counted-within = bounded (elementsIn side n es) (length es) (λ h. counted n es (length es) h .1)
+
+    -- where all count, all are elements
+    pub counted-all : elementsIn side n es ≡ length es → every (isElement side) es ≡ true
+    counted-all e = every-of (isElement side) 0 es (λ k h. counted n es k (omega arith) .2)

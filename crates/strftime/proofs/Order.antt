@@ -8,16 +8,18 @@ use native.Mathlib.Nat.{zero-add}
 use native.Mathlib.Omega.{arith}
 use borrow.Author.Tests.{le-leb, lt-leb, eq-eqb, ne-eqb, eqb-true}
 use lib.Dec.{eqb}
-use lib.ListN.{length, take, length-take}
+use lib.ListN.{length, getD, take, length-take}
+use Rattle.laws.specs.Lists.{every}
 use Rattle.laws.specs.Stores.{Puts}
 use Rattle.laws.proofs.Cases.{either, clash}
 use Rattle.calendar.specs.Calendar.{date}
-use Rattle.format.specs.Opening.{opening, opened, openedInto, longest, mostElements, elementsIn}
+use Rattle.format.specs.Opening.{opening, opened, openedInto, longest, mostElements, isElement, elementsIn}
 use Rattle.format.specs.declared.opening.Opened.{Opened}
 use Rattle.format.specs.declared.opening.Opened.the-variants.{Done as Opened-to}
 use Rattle.format.specs.declared.opening.Side.{Side}
 use Rattle.format.specs.declared.opening.Side.the-variants.{Writer, Reader}
 use Rattle.format.proofs.Bound.{bound}
+use Rattle.format.proofs.Elements.{elements, are-bytes}
 use Rattle.format.proofs.Entries.{counted-within}
 use Rattle.format.proofs.Entry.{all-plain}
 use Rattle.format.proofs.Opened.{Opens, Breaks, opened-done, stored}
@@ -63,6 +65,12 @@ all-stored side f xs {ys = ys} {n = n} h a s e =
     let o = opened-done side f a e in
     let first = stored side f xs s o (omega (arith, o .count, o .short, bound side f)) in
     record { opens = o; room = omega (arith, o .count, ap length first, length-take n ys); first = first }
+
+-- those of a format of bytes that was opened as for the reader have neither flags nor widths
+pub all-unstyled : (f : List ℕ) {n : ℕ} {ys : List ℕ} → ((k : ℕ) → getD f k 0 < 256) → Stored Reader f n ys
+    → (length (take n ys) ≤ mostElements) × (every (isElement Reader) (take n ys) ≡ true)
+all-unstyled f b h =
+    rw (h .first) (omega (arith, h .opens .few, h .opens .count), elements Reader f (h .opens .short) (are-bytes f (λ k l. b k)))
 
 module _ (f : List ℕ) (m : Moment) (b : List ℕ) where
   pub long-format : longest < length f → Gives (writingOf FormatTooLong) b (momentWriting f m b)

@@ -96,12 +96,25 @@ fn put_styled(out: &mut [u8], at: usize, style: Style, c: Conversion, moment: Mo
     }
 }
 
-fn put_styled_number(out: &mut [u8], at: usize, style: Style, own: u8, width: usize, value: u32) -> usize
+fn put_styled_number(
+    out: &mut [u8],
+    at: usize,
+    style: Style,
+    own: u8,
+    width: usize,
+    value: u32,
+) -> usize
     requires { ⌜ at + length (number style own width value) ≤ length (now out) ⌝ }
     ensures { λ r. ⌜ Puts (number style own width value) (now (out .entry)) at (now (out .exit)) r ⌝ }
 {
     let n = digit_count(value);
-    let from = put_fill(out, at, fill_by(style.flag, own), places_by(style, width), n);
+    let from = put_fill(
+        out,
+        at,
+        fill_by(style.flag, own),
+        places_by(style, width),
+        n,
+    );
     put_number(out, from, n, b'0', value)
 }
 
@@ -113,7 +126,14 @@ fn put_styled_short(out: &mut [u8], at: usize, style: Style, t: Names, value: u3
     put_short(out, from, t, value, case_by(style.flag, Case::AsIs))
 }
 
-fn put_styled_full(out: &mut [u8], at: usize, style: Style, own: Case, t: Names, value: u32) -> usize
+fn put_styled_full(
+    out: &mut [u8],
+    at: usize,
+    style: Style,
+    own: Case,
+    t: Names,
+    value: u32,
+) -> usize
     requires { ⌜ at + length (name style own (nameFor t value)) ≤ length (now out) ⌝ }
     ensures { λ r. ⌜ Puts (name style own (nameFor t value)) (now (out .entry)) at (now (out .exit)) r ⌝ }
 {

@@ -1,6 +1,6 @@
 -- `strftime::strftime` meets its contract: 1 and 2 are answered here, what follows is that of the opened format.
 use native.Mathlib.Omega.{arith}
-use Rattle.strftime.proofs.Order.{too-long, bad-moment, good-moment}
+use Rattle.strftime.proofs.Order.{is-moment, too-long, bad-moment, good-moment}
 use borrow.Author.Needs.{needs}
 use Rattle.strftime.proofs.strftime.Statement.{statement}
 use Rattle.strftime.proofs.strftime.Tie as tie
@@ -21,7 +21,9 @@ slice-aggregate-write-format : tie.Need-slice-aggregate-write-format
 slice-aggregate-write-format c = search needs
 
 write-format-requires : tie.Need-write-format-requires
-write-format-requires c κs = search needs
+write-format-requires c κs =
+    let m = c .before .before .before .before in
+    (omega arith, is-moment _ (m .before .before .moment-of .ensures) (m .moment .given .1))
 
 same-length : tie.Need-same-length
 same-length c = search needs
@@ -35,7 +37,9 @@ slice-aggregate-write-format-2 : tie.Need-slice-aggregate-write-format-2
 slice-aggregate-write-format-2 c = search needs
 
 write-format-requires-2 : tie.Need-write-format-requires-2
-write-format-requires-2 c κs = search needs
+write-format-requires-2 c κs =
+    let m = c .before .before .before .before .before in
+    (omega arith, is-moment _ (m .before .before .moment-of .ensures) (m .moment .given .1))
 
 same-length-2 : tie.Need-same-length-2
 same-length-2 c = search needs
@@ -49,7 +53,9 @@ slice-aggregate-write-format-3 : tie.Need-slice-aggregate-write-format-3
 slice-aggregate-write-format-3 c = search needs
 
 write-format-requires-3 : tie.Need-write-format-requires-3
-write-format-requires-3 c κs = search needs
+write-format-requires-3 c κs =
+    let m = c .before .before .before .before .before in
+    (omega arith, is-moment _ (m .before .before .moment-of .ensures) (m .moment .given .1))
 
 returns-4 : tie.Need-returns-4
 returns-4 c = bad-moment _ (c .before .before .before .before .moment-of .ensures) _ _ (omega arith) (c .before .before .field .given .1)

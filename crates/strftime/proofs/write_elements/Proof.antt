@@ -1,8 +1,10 @@
 -- `strftime::write_elements` meets its contract: 2 and 3 are answered here.
+use mathlib.Core.Path.{sym, _∙_}
 use native.Mathlib.Omega.{arith}
 use Rattle.format.specs.Opening.{mostElements}
-use Rattle.format.proofs.Entries.{counted-few}
-use Rattle.strftime.proofs.Order.{bad-fields, bad-entry, all-elements}
+use Rattle.format.specs.declared.opening.Side.the-variants.{Writer, Reader}
+use Rattle.format.proofs.Entries.{counted-few, counted-all}
+use Rattle.strftime.proofs.Order.{is-moment, bad-fields, bad-entry, plain-elements, all-elements}
 use borrow.Author.Needs.{needs}
 use Rattle.strftime.proofs.write_elements.Statement.{statement}
 use Rattle.strftime.proofs.write_elements.Tie as tie
@@ -19,31 +21,57 @@ enum-known-moment c = search needs
 elements-in-requires : tie.Need-elements-in-requires
 elements-in-requires c κs = search needs
 
-returns : tie.Need-returns
-returns c =
-    let m = c .before .before .before in
-    let a = m .before .before .before .before .before .args in
-    bad-entry (a .fields) (m .before .before .moment-of .ensures) (a .elements .now) (a .out .now) (m .moment .given .1)
-    (c .before .elements-in .ensures) (omega arith)
-
-write-opened-requires : tie.Need-write-opened-requires
-write-opened-requires c κs =
+write-plain-requires : tie.Need-write-plain-requires
+write-plain-requires c κs =
     let e = c .before .before in
-    let s = e .before .before .before .before .before .before .before in
-    omega (arith, counted-few mostElements (s .args .elements .now), e .elements-in .ensures)
-
-returns-2 : tie.Need-returns-2
-returns-2 c = bad-fields _ (c .before .before .before .moment-of .ensures) _ _ (c .before .field .given .1)
+    let m = c .before .before .before .before in
+    let es = c .before .before .before .before .before .before .before .before .before .args .elements .now in
+    let q = sym (e .elements-in .ensures) ∙ c .before .if1 .taken in (
+      (omega (arith, counted-few Reader mostElements es, q), counted-all Reader mostElements es q),
+      is-moment _ (m .before .before .moment-of .ensures) (m .moment .given .1),
+    )
 
 same-length : tie.Need-same-length
 same-length c = search needs
 
+returns : tie.Need-returns
+returns c =
+    let w = c .before .before .before in
+    let m = w .before .before .before .before in
+    plain-elements _ (m .before .before .moment-of .ensures) _ _ (m .moment .given .1)
+    (sym (w .before .if1 .taken) ∙ w .before .before .elements-in .ensures)
+    (c .before .before .write-plain .ensures)
+
+elements-in-requires-2 : tie.Need-elements-in-requires-2
+elements-in-requires-2 c κs = search needs
+
+returns-2 : tie.Need-returns-2
+returns-2 c =
+    let m = c .before .before .before .before .before in
+    let a = m .before .before .before .before .before .args in
+    bad-entry (a .fields) (m .before .before .moment-of .ensures) (a .elements .now) (a .out .now) (m .moment .given .1)
+    (c .before .elements-in2 .ensures) (omega arith)
+
+write-measured-requires : tie.Need-write-measured-requires
+write-measured-requires c κs =
+    let e = c .before .before in
+    let m = c .before .before .before .before .before .before in (
+      omega (arith, counted-few Writer mostElements (c .before .before .before .before .before .before .before .before .before .before .before .args .elements .now), e .elements-in2 .ensures),
+      is-moment _ (m .before .before .moment-of .ensures) (m .moment .given .1),
+    )
+
 returns-3 : tie.Need-returns-3
-returns-3 c =
+returns-3 c = bad-fields _ (c .before .before .before .moment-of .ensures) _ _ (c .before .field .given .1)
+
+same-length-2 : tie.Need-same-length-2
+same-length-2 c = search needs
+
+returns-4 : tie.Need-returns-4
+returns-4 c =
     let e = c .before .before .before .before .before in
-    let m = e .before .before in
-    all-elements _ (m .before .before .moment-of .ensures) _ _ (m .moment .given .1) (e .elements-in .ensures)
-    (omega arith) (c .before .before .write-opened .ensures)
+    let m = e .before .before .before .before in
+    all-elements _ (m .before .before .moment-of .ensures) _ _ (m .moment .given .1) (e .elements-in2 .ensures)
+    (omega arith) (c .before .before .write-measured .ensures)
 
 pub write-elements-spec : {M : Type 1} → statement M
 write-elements-spec =
@@ -53,8 +81,12 @@ write-elements-spec =
     enum-known-field
     enum-known-moment
     elements-in-requires
-    returns
-    write-opened-requires
-    returns-2
+    write-plain-requires
     same-length
-    returns-3)
+    returns
+    elements-in-requires-2
+    returns-2
+    write-measured-requires
+    returns-3
+    same-length-2
+    returns-4)

@@ -2,8 +2,9 @@
 use mathlib.Core.Path.{sym}
 use native.Mathlib.Omega.{arith}
 use lib.Seq.{length-take-le}
-use Rattle.format.proofs.Opened.{opened-bad, opened-long}
-use Rattle.strftime.proofs.Order.{Stored, all-stored, long-format, bad-format, whole-format}
+use Rattle.format.specs.declared.opening.Side.the-variants.{Reader}
+use Rattle.format.proofs.Opened.{opened-long}
+use Rattle.strftime.proofs.Order.{Stored, all-stored, all-unstyled, long-format, plain-format}
 use borrow.Author.Needs.{needs}
 use Rattle.strftime.proofs.write_format.Statement.{statement}
 use Rattle.strftime.proofs.write_format.Tie as tie
@@ -13,10 +14,10 @@ abbrev start : tie.After-count → tie.Start
 start c = c .before .before .before .before .before .before .before .before .before
 
 holds : (c : tie.After-count)
-    → Stored (start c .args .format .now) (c .count .given .0 .0) (c .before .before .before .before .«open» .last .1 .0)
+    → Stored Reader (start c .args .format .now) (c .count .given .0 .0) (c .before .before .before .before .«open» .last .1 .1 .0)
 holds c =
     let o = c .before .before .before .before .«open» in
-    all-stored (start c .args .format .now) _ (start c .pre) (o .ensures .0) (o .ensures .1) (c .count .given .1)
+    all-stored Reader (start c .args .format .now) _ (start c .pre .0) (o .ensures .0) (o .ensures .1) (c .count .given .1)
 
 open-requires : tie.Need-open-requires
 open-requires c κs = search needs
@@ -24,22 +25,26 @@ open-requires c κs = search needs
 enum-known-count : tie.Need-enum-known-count
 enum-known-count c = search needs
 
-slice-reshare-prefix-write-opened : tie.Need-slice-reshare-prefix-write-opened
-slice-reshare-prefix-write-opened c = holds (c .before) .room
+slice-reshare-prefix-write-plain : tie.Need-slice-reshare-prefix-write-plain
+slice-reshare-prefix-write-plain c = holds (c .before) .room
 
-slice-aggregate-write-opened : tie.Need-slice-aggregate-write-opened
-slice-aggregate-write-opened c = sym (length-take-le _ _ (holds (c .before .before) .room))
+slice-aggregate-write-plain : tie.Need-slice-aggregate-write-plain
+slice-aggregate-write-plain c = sym (length-take-le _ _ (holds (c .before .before) .room))
 
-write-opened-requires : tie.Need-write-opened-requires
-write-opened-requires c κs =
-    let h = holds (c .before .before .before) in
-    rw (h .first) (omega (arith, h .opens .few, h .opens .count))
+write-plain-requires : tie.Need-write-plain-requires
+write-plain-requires c κs =
+    let l = c .before .before .before in
+    let known = l .before .before .before .before .before .before .before .before .shared-slice-known .given in
+    (all-unstyled (start l .args .format .now) (λ k. omega (arith, known k)) (holds l), start l .pre .1)
 
 enum-told : tie.Need-enum-told
 enum-told c = search needs
 
-enum-known-at : tie.Need-enum-known-at
-enum-known-at c = search needs
+enum-told-2 : tie.Need-enum-told-2
+enum-told-2 c = search needs
+
+write-styled-requires : tie.Need-write-styled-requires
+write-styled-requires c κs = search needs
 
 same-length : tie.Need-same-length
 same-length c = search needs
@@ -49,24 +54,22 @@ same-length-2 c = search needs
 
 returns : tie.Need-returns
 returns c =
-    whole-format _ _ _ (holds (c .before .before .before .before .before .before)) (c .before .before .write-opened .ensures)
+    plain-format _ _ _ (holds (c .before .before .before .before .before .before)) (c .before .before .write-plain .ensures)
 
 same-length-3 : tie.Need-same-length-3
 same-length-3 c = search needs
 
 returns-2 : tie.Need-returns-2
-returns-2 c =
-    long-format _ _ _ (opened-long _ (c .before .before .before .before .«open» .ensures .0) (c .enum-told .given .1))
+returns-2 c = long-format _ _ _ (opened-long Reader _ (c .before .before .before .before .«open» .ensures .0) (c .enum-told .given .1))
 
 same-length-4 : tie.Need-same-length-4
 same-length-4 c = search needs
 
+same-length-5 : tie.Need-same-length-5
+same-length-5 c = search needs
+
 returns-3 : tie.Need-returns-3
-returns-3 c =
-    let o = c .before .before .before .before .before in
-    let a = o .before .before .before .before .before .args in
-    bad-format (a .format .now) (a .moment) (a .out .now)
-    (opened-bad (a .format .now) (o .«open» .ensures .0) (c .before .at .given .1))
+returns-3 c = search needs
 
 pub write-format-spec : {M : Type 1} → statement M
 write-format-spec =
@@ -74,15 +77,17 @@ write-format-spec =
     (tie.spec
     open-requires
     enum-known-count
-    slice-reshare-prefix-write-opened
-    slice-aggregate-write-opened
-    write-opened-requires
+    slice-reshare-prefix-write-plain
+    slice-aggregate-write-plain
+    write-plain-requires
     enum-told
-    enum-known-at
+    enum-told-2
+    write-styled-requires
     same-length
     same-length-2
     returns
     same-length-3
     returns-2
     same-length-4
+    same-length-5
     returns-3)

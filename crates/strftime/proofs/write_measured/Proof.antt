@@ -1,29 +1,33 @@
+-- `strftime::write_measured` meets its contract: where the bytes measured have room, all is put.
+use Prim.Native.Nat.{_≤_}
+use native.Mathlib.Omega.{arith}
+use lib.ListN.{length}
+use Rattle.strftime.specs.Writing.{text}
+use Rattle.strftime.proofs.Order.{too-small, fits}
+use borrow.Author.Needs.{needs}
 use Rattle.strftime.proofs.write_measured.Statement.{statement}
 use Rattle.strftime.proofs.write_measured.Tie as tie
-use Rattle.strftime.proofs.write_measured.Reads as reads
-use Rattle.strftime.proofs.write_measured.Lts as lts
-use Rattle.strftime.proofs.measuring.measure.Reads as measure-reads
-use Rattle.strftime.proofs.putting.put_elements.Reads as put-elements-reads
 
--- src/lib.rt:188:9
+room : (c : tie.After-put-elements-arg)
+    → let a = c .before .before .before .before .before .args in length (text (a .moment) (a .elements .now)) ≤ length (a .out .now)
+room c = omega arith
+
 measure-requires : tie.Need-measure-requires
-measure-requires c κs = ?
+measure-requires c κs = search needs
 
--- src/lib.rt:190:9
 returns : tie.Need-returns
-returns c = ?
+returns c =
+    let a = c .before .before .before .before .args in
+    too-small (text (a .moment) (a .elements .now)) (a .out .now) (c .before .measure .ensures) (omega arith)
 
--- src/lib.rt:192:9
 put-elements-requires : tie.Need-put-elements-requires
-put-elements-requires c κs = ?
+put-elements-requires c κs = (room c, c .before .before .before .before .before .pre .1)
 
--- src/lib.rt:182:1
 same-length : tie.Need-same-length
-same-length c = ?
+same-length c = search needs
 
--- src/lib.rt:182:1
 returns-2 : tie.Need-returns-2
-returns-2 c = ?
+returns-2 c = fits _ _ (room (c .before .before .before)) (c .before .before .put-elements .ensures)
 
 pub write-measured-spec : {M : Type 1} → statement M
 write-measured-spec =

@@ -1,65 +1,72 @@
+-- `strftime::write_styled` meets its contract: the array has room for all elements of a format that is not too long.
+use mathlib.Core.Path.{sym}
+use native.Mathlib.Omega.{arith}
+use lib.Seq.{length-take-le}
+use Rattle.format.specs.declared.opening.Side.the-variants.{Writer}
+use Rattle.format.proofs.Opened.{opened-bad, opened-long}
+use Rattle.strftime.proofs.Order.{Stored, all-stored, long-format, bad-format, whole-format}
+use borrow.Author.Needs.{needs}
 use Rattle.strftime.proofs.write_styled.Statement.{statement}
 use Rattle.strftime.proofs.write_styled.Tie as tie
-use Rattle.strftime.proofs.write_styled.Reads as reads
-use Rattle.strftime.proofs.write_styled.Lts as lts
-use Rattle.format.proofs.open.Reads as open-reads
-use Rattle.strftime.proofs.write_measured.Reads as write-measured-reads
 
--- src/lib.rt:160:11
+-- the function's entry, where the elements are all stored, and that they are
+abbrev start : tie.After-count → tie.Start
+start c = c .before .before .before .before .before .before .before .before .before
+
+holds : (c : tie.After-count)
+    → Stored Writer (start c .args .format .now) (c .count .given .0 .0) (c .before .before .before .before .«open» .last .1 .1 .0)
+holds c =
+    let o = c .before .before .before .before .«open» in
+    all-stored Writer (start c .args .format .now) _ (start c .pre .0) (o .ensures .0) (o .ensures .1) (c .count .given .1)
+
 open-requires : tie.Need-open-requires
-open-requires c κs = ?
+open-requires c κs = search needs
 
--- src/lib.rt:161:24
 enum-known-count : tie.Need-enum-known-count
-enum-known-count c = ?
+enum-known-count c = search needs
 
--- src/lib.rt:161:50
 slice-reshare-prefix-write-measured : tie.Need-slice-reshare-prefix-write-measured
-slice-reshare-prefix-write-measured c = ?
+slice-reshare-prefix-write-measured c = holds (c .before) .room
 
--- src/lib.rt:161:50
 slice-aggregate-write-measured : tie.Need-slice-aggregate-write-measured
-slice-aggregate-write-measured c = ?
+slice-aggregate-write-measured c = sym (length-take-le _ _ (holds (c .before .before) .room))
 
--- src/lib.rt:161:35
 write-measured-requires : tie.Need-write-measured-requires
-write-measured-requires c κs = ?
+write-measured-requires c κs =
+    let h = holds (c .before .before .before) in
+    (rw (h .first) (omega (arith, h .opens .few, h .opens .count)), start (c .before .before .before) .pre .1)
 
--- src/lib.rt:162:28
 enum-told : tie.Need-enum-told
-enum-told c = ?
+enum-told c = search needs
 
--- src/lib.rt:163:23
 enum-known-at : tie.Need-enum-known-at
-enum-known-at c = ?
+enum-known-at c = search needs
 
--- src/lib.rt:154:1
 same-length : tie.Need-same-length
-same-length c = ?
+same-length c = search needs
 
--- src/lib.rt:154:1
 same-length-2 : tie.Need-same-length-2
-same-length-2 c = ?
+same-length-2 c = search needs
 
--- src/lib.rt:154:1
 returns : tie.Need-returns
-returns c = ?
+returns c =
+    whole-format _ _ _ (holds (c .before .before .before .before .before .before)) (c .before .before .write-measured .ensures)
 
--- src/lib.rt:154:1
 same-length-3 : tie.Need-same-length-3
-same-length-3 c = ?
+same-length-3 c = search needs
 
--- src/lib.rt:154:1
 returns-2 : tie.Need-returns-2
-returns-2 c = ?
+returns-2 c = long-format _ _ _ (opened-long Writer _ (c .before .before .before .before .«open» .ensures .0) (c .enum-told .given .1))
 
--- src/lib.rt:154:1
 same-length-4 : tie.Need-same-length-4
-same-length-4 c = ?
+same-length-4 c = search needs
 
--- src/lib.rt:154:1
 returns-3 : tie.Need-returns-3
-returns-3 c = ?
+returns-3 c =
+    let o = c .before .before .before .before .before in
+    let a = o .before .before .before .before .before .args in
+    bad-format (a .format .now) (a .moment) (a .out .now)
+    (opened-bad Writer (a .format .now) (o .«open» .ensures .0) (c .before .at .given .1))
 
 pub write-styled-spec : {M : Type 1} → statement M
 write-styled-spec =
