@@ -9,6 +9,7 @@ use lib.ListN.{length, take}
 use lib.Seq.{length-take-le}
 use Rattle.laws.specs.Bytes.{bytes}
 use Rattle.format.specs.Opening.{opened, openedInto}
+use Rattle.format.specs.declared.opening.Side.the-variants.{Reader}
 use Rattle.report.specs.Lines.{lineLength}
 use Rattle.report.specs.Parts.{readingBy}
 use Rattle.strptime.specs.Answers.{reading}
@@ -42,7 +43,7 @@ put-bytes-requires c κs = search needs
 formats : (c : tie.After-open) →
     let a = c .before .before .before .before .before .args in
     let f = take (lineLength (now (a .input))) (now (a .input)) in
-    (c .«open» .result ≡ opened f) × (c .«open» .last .1 .0 ≡ openedInto f (now (a .elements)))
+    (c .«open» .result ≡ opened Reader f) × (c .«open» .last .1 .0 ≡ openedInto Reader f (now (a .elements)))
 formats c =
     let l = c .before .before .before in
     let e : l .line-end .result ≡ lineLength (now (l .before .before .args .input)) = omega (arith, l .line-end .ensures) in
