@@ -107,8 +107,8 @@ module _ (f s : List ℕ) where
       concluding (Conflict p) e = absurd (false≢true e)
 
   -- a text whose answer has none of the numbers before 9 is matched: each way out of the order before 9 has one of them
-  judging-matched : (a : Bool) → leb (length f) longest ≡ a → (b : Bool) → leb (length s) longest ≡ b → (d : Ended) → opening Reader f .ended ≡ d
-      → (o : Outcome) → read f s .outcome ≡ o → Judging (reading f s) → Matched f s
+  judging-matched : (a : Bool) → leb (length f) longest ≡ a → (b : Bool) → leb (length s) longest ≡ b
+      → (d : Ended) → opening Reader f .ended ≡ d → (o : Outcome) → read f s .outcome ≡ o → Judging (reading f s) → Matched f s
   unfolding reading unlessLong byFormat readBy concluded refused showing among isRead start
   judging-matched false e b g d h o q j = absurd (true≢false (rw e at j))
   judging-matched true e false g d h o q j = absurd (true≢false (rw (e, g) at j))

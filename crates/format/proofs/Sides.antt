@@ -75,14 +75,14 @@ data Pieces (w r : Piece) : Type 0 where
   neither : w .act ≡ Refuse → r .act ≡ Refuse → Pieces w r
   writer : (c : ℕ) (y : Style) → isUnstyled y ≡ false → isConversion c ≡ true → w .act ≡ Convert c y → r .act ≡ Refuse → Pieces w r
 
--- nothing stands before the conversion
-no-style : (y : Style) → y ≡ unstyled → (a : Act) → Unstyled a → withStyle y a ≡ a
+no-style : (a : Act) → Unstyled a → withStyle unstyled a ≡ a
 unfolding withStyle isUnstyled takesFlag
-no-style y e (Byte b) u = rw e
-no-style y e (Convert c x) u = rw (e, u .1)
-no-style y e (Open c) u = rw e
-no-style y e Refuse u = refl
+no-style (Byte b) u = refl
+no-style (Convert c x) u = rw (u .1)
+no-style (Open c) u = refl
+no-style Refuse u = refl
 
+-- after a % stands a byte that begins neither flag nor width
 module _ (b : ℕ) (s : List ℕ) where
   no-flag : among b flags ≡ false → flagRun (b ∷ s) ≡ []
   unfolding flagRun
@@ -98,7 +98,7 @@ module _ (b : ℕ) (s : List ℕ) where
       let p = conversion (b ∷ s) in
       let f = no-flag (neither-of (among b flags) (isDigit b) e .0) in
       let w = no-width (neither-of (among b flags) (isDigit b) e .1) in
-      rw (f, w, no-style unstyled refl (p .act) (conversion-unstyled (b ∷ s)), zero-add (p .length))
+      rw (f, w, no-style (p .act) (conversion-unstyled (b ∷ s)), zero-add (p .length))
     where
       neither-of : (x y : Bool) → (x || y) ≡ false → (x ≡ false) × (y ≡ false)
       neither-of false y e = (refl, e)
@@ -116,6 +116,7 @@ marked-with y w r e q (Convert c x) u h =
 marked-with y w r e q (Open c) u h = neither (rw e at h) q
 marked-with y w r e q Refuse u h = neither h q
 
+-- what stands after a %, where the reader refuses it
 module _ (s : List ℕ) (q : conversion s .act ≡ Refuse) where
   abbrev flag : List ℕ
   flag = flagRun s
@@ -322,41 +323,44 @@ module _ (sign c : ℕ) (y : Style) (h : sign + 1 < longest) (k : isConversion c
 
   no-element : isElement Reader element ≡ false
   no-element =
-      sym (signed-is element Reader (omega (arith, large)) (sym (ap isConversion letter-of ∙ k)) refl (λ z. omega (arith, sign-of)) (styled-no element large))
+      let known : true ≡ isConversion (letterOf element) = sym (ap isConversion letter-of ∙ k) in
+      sym (signed-is element Reader (omega (arith, large)) known refl (λ z. omega (arith, sign-of)) (styled-no element large))
 
-module _ (f : List ℕ) (short : length f ≤ longest) (bytes : every isByte f ≡ true) (a : Apart (length f) (opening Writer f) (opening Reader f))
-  where
-    -- the writer's elements, the reader's before the first with a flag or a width, and that one
-    abbrev all : List ℕ
-    all = opening Writer f .elements
+-- a format of bytes that is not too long
+module _ (f : List ℕ) (short : length f ≤ longest) (bytes : every isByte f ≡ true)
+    (a : Apart (length f) (opening Writer f) (opening Reader f)) where
+  -- the writer's elements, the reader's before the first with a flag or a width, and that one
+  abbrev all : List ℕ
+  all = opening Writer f .elements
 
-    abbrev first-ones : List ℕ
-    first-ones = opening Reader f .elements
+  abbrev first-ones : List ℕ
+  first-ones = opening Reader f .elements
 
-    abbrev styled-one : ℕ
-    styled-one = conversionAt (a .sign) (a .style) (a .letter)
+  abbrev styled-one : ℕ
+  styled-one = conversionAt (a .sign) (a .style) (a .letter)
 
-    in-time : a .sign + 1 < longest
-    in-time = omega (arith, a .within)
+  in-time : a .sign + 1 < longest
+  in-time = omega (arith, a .within)
 
-    not-read : isElement Reader styled-one ≡ false
-    not-read = no-element (a .sign) (a .letter) (a .style) in-time (a .known) (a .width) (a .styled)
+  not-read : isElement Reader styled-one ≡ false
+  not-read = no-element (a .sign) (a .letter) (a .style) in-time (a .known) (a .width) (a .styled)
 
-    stands-there : getD all (length first-ones) 0 ≡ styled-one
-    stands-there = rw (a .elements) (getD-append-seam first-ones styled-one (a .more) 0)
+  stands-there : getD all (length first-ones) 0 ≡ styled-one
+  stands-there = rw (a .elements) (getD-append-seam first-ones styled-one (a .more) 0)
 
-    pub apart-longer : length first-ones < length all
-    apart-longer = omega (arith, ap length (a .elements), length-append first-ones (styled-one ∷ a .more))
+  -- to the reader, only the elements before it count, and its place is the offset of its %
+  pub apart-longer : length first-ones < length all
+  apart-longer = omega (arith, ap length (a .elements), length-append first-ones (styled-one ∷ a .more))
 
-    pub apart-counted : elementsIn Reader mostElements all ≡ length first-ones
-    apart-counted =
-        rw (a .elements)
-        (counted-before Reader mostElements first-ones styled-one (a .more) (elements Reader f short bytes) not-read
-        (omega (arith, apart-longer, bound Writer f)))
+  pub apart-counted : elementsIn Reader mostElements all ≡ length first-ones
+  apart-counted =
+      rw (a .elements)
+      (counted-before Reader mostElements first-ones styled-one (a .more) (elements Reader f short bytes) not-read
+      (omega (arith, apart-longer, bound Writer f)))
 
-    pub apart-place : entryPlace all (length first-ones) ≡ a .sign
-    unfolding entryPlace
-    apart-place =
-        let t : isElement Writer styled-one ≡ true = rw stands-there at (element-at Writer f short bytes (length first-ones) apart-longer) in
-        let p = sign-of (a .sign) (a .letter) (a .style) in-time (a .known) (a .width) (a .styled) in
-        rw (stands-there, t, not-read) (omega (arith, p))
+  pub apart-place : entryPlace all (length first-ones) ≡ a .sign
+  unfolding entryPlace
+  apart-place =
+      let t = rw stands-there at (element-at Writer f short bytes (length first-ones) apart-longer) in
+      let p = sign-of (a .sign) (a .letter) (a .style) in-time (a .known) (a .width) (a .styled) in
+      rw (stands-there, t, not-read) (omega (arith, p))
