@@ -11,6 +11,7 @@ use lib.Dec.{leb}
 use lib.ListN.{length, getD, replicate}
 use Rattle.format.specs.Conversions.{among}
 use Rattle.format.specs.Opening.{Ended, Whole, BadAt, opening, longest}
+use Rattle.format.specs.declared.opening.Side.the-variants.{Reader}
 use Rattle.judge.specs.declared.Verdict.{Verdict}
 use Rattle.judge.specs.declared.Verdict.the-variants.{Unsaid, Impossible, Open, Agreed}
 use Rattle.strptime.specs.Answers.{showing, refused, finished, done, withHour, withDay}
@@ -54,7 +55,7 @@ module _ (t : State) where
 
 -- the reading of a text by a format's elements
 abbrev pub read : List ℕ → List ℕ → Stepped
-read f s = readAll (opening f .elements) s start
+read f s = readAll (opening Reader f .elements) s start
 
 none-kept : (k n : ℕ) → Kept (start .facts) k n → ⊥
 unfolding start unsaid
@@ -66,9 +67,9 @@ none-kept k n e = omega (arith, zeros 18 k)
     zeros (suc m) (suc k) = zeros m k
 
 module _ (f s : List ℕ) where
-  read-went : isRead (read f s .outcome) ≡ true → Went (opening f .elements) s start
+  read-went : isRead (read f s .outcome) ≡ true → Went (opening Reader f .elements) s start
   unfolding start unsaid
-  read-went = went (opening f .elements) s start refl (omega arith)
+  read-went = went (opening Reader f .elements) s start refl (omega arith)
 
   -- exactly the facts that the text says
   kept-said : isRead (read f s .outcome) ≡ true → (k n : ℕ) → Kept (read f s .state .facts) k n ↔ Says (facts f s) k n
@@ -86,7 +87,7 @@ module _ (f s : List ℕ) where
   matched-read : Matched f s → isRead (read f s .outcome) ≡ true
   unfolding facts start
   matched-read m =
-      goes-through (opening f .elements) s start (unfold start unsaid in refl) (omega arith) (m .all-read)
+      goes-through (opening Reader f .elements) s start (unfold start unsaid in refl) (omega arith) (m .all-read)
       (λ k a b x y. m .consistent k a b (not-kept k a x) (not-kept k b y))
     where
       not-kept : (k n : ℕ) → Kept (start .facts) k n ⊎ Says (facts f s) k n → Says (facts f s) k n
@@ -106,8 +107,8 @@ module _ (f s : List ℕ) where
       concluding (Conflict p) e = absurd (false≢true e)
 
   -- a text whose answer has none of the numbers before 9 is matched: each way out of the order before 9 has one of them
-  judging-matched : (a : Bool) → leb (length f) longest ≡ a → (b : Bool) → leb (length s) longest ≡ b → (d : Ended) → opening f .ended ≡ d
-      → (o : Outcome) → read f s .outcome ≡ o → Judging (reading f s) → Matched f s
+  judging-matched : (a : Bool) → leb (length f) longest ≡ a → (b : Bool) → leb (length s) longest ≡ b
+      → (d : Ended) → opening Reader f .ended ≡ d → (o : Outcome) → read f s .outcome ≡ o → Judging (reading f s) → Matched f s
   unfolding reading unlessLong byFormat readBy concluded refused showing among isRead start
   judging-matched false e b g d h o q j = absurd (true≢false (rw e at j))
   judging-matched true e false g d h o q j = absurd (true≢false (rw (e, g) at j))
@@ -128,7 +129,7 @@ module _ (f s : List ℕ) where
   pub matched : Matched f s ↔ (among (reading f s .number) beforeNine ≡ false)
   matched = (
     λ m. rw (matched-is m) (judged-numbers (read f s .state)),
-    judging-matched _ refl _ refl (opening f .ended) refl (read f s .outcome) refl,
+    judging-matched _ refl _ refl (opening Reader f .ended) refl (read f s .outcome) refl,
   )
 
   -- what the judge is handed: a kind has a number exactly if that fact is among those that the text says
@@ -136,6 +137,6 @@ module _ (f s : List ℕ) where
   handed m = kept-said (matched-read m)
 
   -- and where the elements end
-  pub ends-at : Matched f s → read f s .state .at ≡ endFrom (opening f .elements) s 0
+  pub ends-at : Matched f s → read f s .state .at ≡ endFrom (opening Reader f .elements) s 0
   unfolding start
   ends-at m = read-went (matched-read m) .ends

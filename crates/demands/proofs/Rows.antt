@@ -13,6 +13,7 @@ use lib.Seq.{sets, sets-eq, length-sets, drop-append-seam}
 use Rattle.laws.proofs.Cases.{either, picked}
 use Rattle.format.specs.Conversions.{among}
 use Rattle.format.specs.Opening.{Ended, Whole, BadAt, opening, longest}
+use Rattle.format.specs.declared.opening.Side.the-variants.{Writer, Reader}
 use Rattle.format.proofs.Refused.{bad-within}
 use Rattle.calendar.specs.Calendar.{within, lastYear, monthLength, dateFault}
 use Rattle.values.specs.Moments.{momentFault, momentOf}
@@ -91,14 +92,14 @@ module _ (f b : List ℕ) where
 
   format-written : (m : Moment) → WritingRow f b (byFormat f b m)
   unfolding byFormat among
-  format-written m = go (opening f .ended) refl
+  format-written m = go (opening Writer f .ended) refl
     where
-      go : (d : Ended) → opening f .ended ≡ d → WritingRow f b (byFormat f b m)
-      go Whole e = rw e (put-written (text m (opening f .elements)))
+      go : (d : Ended) → opening Writer f .ended ≡ d → WritingRow f b (byFormat f b m)
+      go Whole e = rw e (put-written (text m (opening Writer f .elements)))
       go (BadAt p) e =
           rw e
           (refusal 3 p refl (λ z. omega (arith, z)) (λ z. absurd (omega (arith, z))) (λ z. absurd (omega (arith, z)))
-          (λ z. bad-within f e) (λ z. absurd (omega (arith, z))))
+          (λ z. bad-within Writer f e) (λ z. absurd (omega (arith, z))))
 
   pub writing-rows : (t : Fields) → WritingRow f b (writing f t b)
   unfolding writing forFields forMoment momentOf among
@@ -201,16 +202,16 @@ module _ (f s : List ℕ) where
 
   format-read : ReadingRow f s (reader.byFormat f s)
   unfolding reader.byFormat readBy reader.refused among start
-  format-read = go (opening f .ended) refl
+  format-read = go (opening Reader f .ended) refl
     where
-      go : (d : Ended) → opening f .ended ≡ d → ReadingRow f s (reader.byFormat f s)
+      go : (d : Ended) → opening Reader f .ended ≡ d → ReadingRow f s (reader.byFormat f s)
       go Whole e =
-          let r = readAll (opening f .elements) s start in
-          let w = all-within (opening f .elements) s start (omega arith) in
+          let r = readAll (opening Reader f .elements) s start in
+          let w = all-within (opening Reader f .elements) s start (omega arith) in
           rw e (concluded-read (r .state) (r .outcome) (w .0) (w .1))
       go (BadAt p) e =
           rw e
-          (shown-read 3 p Nothing refl (λ z. refl) (λ z. absurd (false≢true z)) (λ z. bad-within f e) (λ z. absurd (false≢true z))
+          (shown-read 3 p Nothing refl (λ z. refl) (λ z. absurd (false≢true z)) (λ z. bad-within Reader f e) (λ z. absurd (false≢true z))
           (λ z. absurd (false≢true z)))
 
   pub reading-rows : ReadingRow f s (reading f s)

@@ -16,6 +16,7 @@ use Rattle.format.specs.Conversions as conversions
 use Rattle.format.specs.Conversions.{among}
 use Rattle.format.specs.Opening as opening
 use Rattle.format.specs.Opening.{Whole, opening}
+use Rattle.format.specs.declared.opening.Side.the-variants.{Writer}
 use Rattle.strftime.specs.Writing.{element, text, put, byFormat, forMoment, forFields, writing}
 use Rattle.values.specs.Values as values
 use Rattle.judge.specs.Agreement as agreement
@@ -36,7 +37,7 @@ computed = refl
 -- ---- the writer
 
 -- a format of one byte
-alone : (b : ℕ) → (b ≡ code "%" → ⊥) → opening (b ∷ []) ≡ record { elements = b ∷ []; ended = Whole }
+alone : (b : ℕ) → (b ≡ code "%" → ⊥) → opening Writer (b ∷ []) ≡ record { elements = b ∷ []; ended = Whole }
 unfolding opening.computes
 alone b n = rw (ne-eqb b (code "%") n)
 

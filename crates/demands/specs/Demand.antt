@@ -7,6 +7,7 @@ use mathlib.Core.Path.{_≡_}
 use Rattle.kinds.specs.Kinds.{dayKinds, hourKinds, minute, second}
 use Rattle.calendar.specs.Calendar.{dateOf}
 use Rattle.format.specs.Opening.{opening}
+use Rattle.format.specs.declared.opening.Side.the-variants.{Reader}
 use Rattle.judge.specs.Demand.{IsDay, IsHour, Only, Earliest}
 use Rattle.strptime.specs.Answers.{reading}
 use Rattle.strptime.specs.declared.Day.{Day}
@@ -76,4 +77,4 @@ module _ (f s : List ℕ) where
         × (reading f s .second ≡ c))
         ↔ (DayIs x × HourIs h × NumberIs minute m × NumberIs second c)
     -- its place is where the last element stopped
-    pub unread : reading f s .number ≡ 0 → reading f s .place ≡ endFrom (opening f .elements) s 0
+    pub unread : reading f s .number ≡ 0 → reading f s .place ≡ endFrom (opening Reader f .elements) s 0

@@ -7,6 +7,7 @@ use mathlib.Core.Logic.{_⊎_}
 use mathlib.Core.Path.{_≡_}
 use lib.ListN.{length}
 use Rattle.format.specs.Opening.{Whole, opening, longest}
+use Rattle.format.specs.declared.opening.Side.the-variants.{Reader}
 use Rattle.strptime.specs.Elements.{readElement}
 use Rattle.strptime.specs.declared.elements.Item.{Item}
 use Rattle.strptime.specs.declared.elements.Item.the-variants.{Skip, Fact as Reads, NoMatch, OutOfRange}
@@ -32,7 +33,7 @@ factsFrom (e ∷ es) s at = saying (λ next. factsFrom es s next) (readElement e
 
 -- the facts that a text says by a format
 unfoldable pub facts : List ℕ → List ℕ → List Fact
-facts f s = factsFrom (opening f .elements) s 0
+facts f s = factsFrom (opening Reader f .elements) s 0
 
 -- a fact of kind k with number n is among some facts
 unfoldable pub Says : List Fact → ℕ → ℕ → Type 0
@@ -70,7 +71,7 @@ pub record Matched (f s : List ℕ) : Type 0 where
   -- not 1, not 5, not 3
   pub format-short : length f ≤ longest
   pub text-short : length s ≤ longest
-  pub format-whole : opening f .ended ≡ Whole
+  pub format-whole : opening Reader f .ended ≡ Whole
   -- not 6 or 7, not 8
-  pub all-read : allRead (opening f .elements) s 0 ≡ true
+  pub all-read : allRead (opening Reader f .elements) s 0 ≡ true
   pub consistent : Consistent (facts f s)

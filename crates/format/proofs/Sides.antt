@@ -4,28 +4,35 @@ use Prim.Native.Char.{code}
 use Prim.Native.Nat.{ℕ, zero, suc, _+_, _-_, _≤_, _<_}
 use mathlib.Core.Bool.{Bool, true, false, cond, _||_, and-eq-true-iff}
 use mathlib.Core.List.{List, [], _∷_, _++_, map, append-assoc}
-use mathlib.Core.Path.{_≡_, refl, ap}
+use mathlib.Core.Path.{_≡_, refl, sym, ap, _∙_}
 use native.Mathlib.Decide.{decLe}
-use native.Mathlib.Nat.{zero-add, lt-of-not-le}
+use native.Mathlib.Nat.{zero-add, le-of-suc-le-suc, lt-of-not-le}
 use native.Mathlib.Omega.{arith}
 use borrow.Author.Tests.{lt-leb, le-leb, eqb-true}
 use lib.Dec.{T, eqb}
-use lib.ListN.{length, getD, drop}
+use lib.ListN.{length, getD, drop, length-append}
+use lib.Seq.{getD-append-seam}
+use Rattle.laws.specs.Lists.{every}
 use Rattle.laws.proofs.Cases.{either, picked, clash}
 use Rattle.laws.proofs.Table.{at}
 use Rattle.text.specs.Digits.{isDigit, digitRun, decimal}
-use Rattle.format.specs.Conversions.{Composite, among, isConversion, conversionOf, composites, formatOf, ownFormat}
+use Rattle.format.specs.Conversions.{Row, Composite, among, rows, isConversion, conversionOf, composites, formatOf, ownFormat}
 use Rattle.format.specs.Conversions.{computes as rows-compute}
 use Rattle.format.specs.Opening.{Ended, Opening, unstyled, conversionAt, conversion, flags, flagRun, widthRun, styleFrom, takesFlag}
 use Rattle.format.specs.Opening.{isUnstyled, withStyle, styled, signed, pieceOf, nothing, before, composed, acted, signAt}
-use Rattle.format.specs.Opening.{openFrom, compositeTo, openTo, opening, computes}
+use Rattle.format.specs.Opening.{openFrom, compositeTo, openTo, opening, longest, mostElements, isByte, letterOf, afterSign}
+use Rattle.format.specs.Opening.{isElement, elementsIn, entryPlace, computes}
 use Rattle.format.specs.Opening.Ended.{Whole, BadAt}
 use Rattle.format.specs.declared.opening.Act.{Act}
 use Rattle.format.specs.declared.opening.Act.the-variants.{Byte, Convert, Open, Refuse}
 use Rattle.format.specs.declared.opening.Piece.{Piece}
+use Rattle.format.specs.declared.opening.Side.{Side}
 use Rattle.format.specs.declared.opening.Side.the-variants.{Writer, Reader}
 use Rattle.format.specs.declared.opening.Sign.the-variants.{Own, Of}
 use Rattle.format.specs.declared.opening.Style.{Style}
+use Rattle.format.proofs.Bound.{bound}
+use Rattle.format.proofs.Elements.{elements, element-at}
+use Rattle.format.proofs.Entry.{signed-is, styled-no}
 use Rattle.format.proofs.Letters.{among-past}
 use Rattle.format.proofs.Pieces.{Unstyled, conversion-unstyled, Follows, follows}
 use Rattle.format.proofs.Styles.{flag-run, width-run}
@@ -68,14 +75,14 @@ data Pieces (w r : Piece) : Type 0 where
   neither : w .act ≡ Refuse → r .act ≡ Refuse → Pieces w r
   writer : (c : ℕ) (y : Style) → isUnstyled y ≡ false → isConversion c ≡ true → w .act ≡ Convert c y → r .act ≡ Refuse → Pieces w r
 
--- nothing stands before the conversion
-no-style : (y : Style) → y ≡ unstyled → (a : Act) → Unstyled a → withStyle y a ≡ a
+no-style : (a : Act) → Unstyled a → withStyle unstyled a ≡ a
 unfolding withStyle isUnstyled takesFlag
-no-style y e (Byte b) u = rw e
-no-style y e (Convert c x) u = rw (e, u .1)
-no-style y e (Open c) u = rw e
-no-style y e Refuse u = refl
+no-style (Byte b) u = refl
+no-style (Convert c x) u = rw (u .1)
+no-style (Open c) u = refl
+no-style Refuse u = refl
 
+-- after a % stands a byte that begins neither flag nor width
 module _ (b : ℕ) (s : List ℕ) where
   no-flag : among b flags ≡ false → flagRun (b ∷ s) ≡ []
   unfolding flagRun
@@ -91,7 +98,7 @@ module _ (b : ℕ) (s : List ℕ) where
       let p = conversion (b ∷ s) in
       let f = no-flag (neither-of (among b flags) (isDigit b) e .0) in
       let w = no-width (neither-of (among b flags) (isDigit b) e .1) in
-      rw (f, w, no-style unstyled refl (p .act) (conversion-unstyled (b ∷ s)), zero-add (p .length))
+      rw (f, w, no-style (p .act) (conversion-unstyled (b ∷ s)), zero-add (p .length))
     where
       neither-of : (x y : Bool) → (x || y) ≡ false → (x ≡ false) × (y ≡ false)
       neither-of false y e = (refl, e)
@@ -109,6 +116,7 @@ marked-with y w r e q (Convert c x) u h =
 marked-with y w r e q (Open c) u h = neither (rw e at h) q
 marked-with y w r e q Refuse u h = neither h q
 
+-- what stands after a %, where the reader refuses it
 module _ (s : List ℕ) (q : conversion s .act ≡ Refuse) where
   abbrev flag : List ℕ
   flag = flagRun s
@@ -268,3 +276,91 @@ same-opening f e = go (sides f)
     go : Sides (length f) (opening Writer f) (opening Reader f) → opening Writer f ≡ opening Reader f
     go (together q) = q
     go (apart a) = let g = a .ended in clash (cc)
+
+-- ---- the elements where the two go apart
+
+-- elements before an entry that is none are all that count
+counted-before : (side : Side) (n : ℕ) (es : List ℕ) (e : ℕ) (more : List ℕ) → every (isElement side) es ≡ true
+    → isElement side e ≡ false → length es < n → elementsIn side n (es ++ (e ∷ more)) ≡ length es
+unfolding elementsIn every
+counted-before side zero es e more t f h = absurd (omega arith)
+counted-before side (suc n) [] e more t f h = rw f
+counted-before side (suc n) (x ∷ es) e more t f h =
+    let u = and-eq-true-iff (isElement side x) (every (isElement side) es) .0 t in
+    rw (u .0) (ap suc (counted-before side n es e more (u .1) f (le-of-suc-le-suc h)))
+
+letter-below : (c : ℕ) → isConversion c ≡ true → c < 256
+unfolding isConversion
+letter-below c e =
+    elim (decLe 256 c) [
+      | yes h ↦ let f = among-past 256 (map (λ (r : Row). r .letter) rows) (unfold rows-compute in tt) c h in clash (cc)
+      | no h ↦ lt-of-not-le h
+    ]
+
+-- a conversion with a flag or a width is no element to the reader
+module _ (sign c : ℕ) (y : Style) (h : sign + 1 < longest) (k : isConversion c ≡ true) (w : y .width ≤ 99) (u : isUnstyled y ≡ false) where
+  abbrev element : ℕ
+  element = conversionAt sign y c
+
+  sign-of : afterSign element ≡ sign + 1
+  sign-of = omega (arith, letter-below c k)
+
+  letter-of : letterOf element ≡ c
+  letter-of = omega (arith, letter-below c k)
+
+  large : 262144 ≤ element
+  unfolding isUnstyled
+  large =
+      elim (decLe 262144 element) [
+        | yes l ↦ l
+        | no l ↦
+            let m = lt-of-not-le l in
+            let f : y .flag ≡ 0 = omega arith in
+            let d : y .width ≡ 0 = omega arith in
+            let v : true ≡ false = rw (f, d) at u in
+            clash (cc)
+      ]
+
+  no-element : isElement Reader element ≡ false
+  no-element =
+      let known : true ≡ isConversion (letterOf element) = sym (ap isConversion letter-of ∙ k) in
+      sym (signed-is element Reader (omega (arith, large)) known refl (λ z. omega (arith, sign-of)) (styled-no element large))
+
+-- a format of bytes that is not too long
+module _ (f : List ℕ) (short : length f ≤ longest) (bytes : every isByte f ≡ true)
+    (a : Apart (length f) (opening Writer f) (opening Reader f)) where
+  -- the writer's elements, the reader's before the first with a flag or a width, and that one
+  abbrev all : List ℕ
+  all = opening Writer f .elements
+
+  abbrev first-ones : List ℕ
+  first-ones = opening Reader f .elements
+
+  abbrev styled-one : ℕ
+  styled-one = conversionAt (a .sign) (a .style) (a .letter)
+
+  in-time : a .sign + 1 < longest
+  in-time = omega (arith, a .within)
+
+  not-read : isElement Reader styled-one ≡ false
+  not-read = no-element (a .sign) (a .letter) (a .style) in-time (a .known) (a .width) (a .styled)
+
+  stands-there : getD all (length first-ones) 0 ≡ styled-one
+  stands-there = rw (a .elements) (getD-append-seam first-ones styled-one (a .more) 0)
+
+  -- to the reader, only the elements before it count, and its place is the offset of its %
+  pub apart-longer : length first-ones < length all
+  apart-longer = omega (arith, ap length (a .elements), length-append first-ones (styled-one ∷ a .more))
+
+  pub apart-counted : elementsIn Reader mostElements all ≡ length first-ones
+  apart-counted =
+      rw (a .elements)
+      (counted-before Reader mostElements first-ones styled-one (a .more) (elements Reader f short bytes) not-read
+      (omega (arith, apart-longer, bound Writer f)))
+
+  pub apart-place : entryPlace all (length first-ones) ≡ a .sign
+  unfolding entryPlace
+  apart-place =
+      let t = rw stands-there at (element-at Writer f short bytes (length first-ones) apart-longer) in
+      let p = sign-of (a .sign) (a .letter) (a .style) in-time (a .known) (a .width) (a .styled) in
+      rw (stands-there, t, not-read) (omega (arith, p))

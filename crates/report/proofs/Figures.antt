@@ -9,6 +9,7 @@ use Rattle.laws.proofs.Cases.{picked}
 use Rattle.format.specs.Opening.{longest, mostElements, elementsIn}
 use Rattle.format.specs.declared.opening.Opened.{Opened}
 use Rattle.format.specs.declared.opening.Opened.the-variants.{Done, TooLong, Bad}
+use Rattle.format.specs.declared.opening.Side.the-variants.{Reader}
 use Rattle.judge.specs.Verdicts.{dayVerdict, hourVerdict}
 use Rattle.judge.specs.declared.Verdict.{Verdict}
 use Rattle.judge.specs.declared.Verdict.the-variants.{Unsaid, Impossible, Open, Agreed}
@@ -50,7 +51,7 @@ by-number : (es s : List ℕ) → byElements es s .number ≤ 10
 unfolding byElements readBy showing refused
 by-number es s =
     let r = readAll es s start in
-    picked (λ (x : Reading). x .number ≤ 10) (eqb (elementsIn mostElements es) (length es))
+    picked (λ (x : Reading). x .number ≤ 10) (eqb (elementsIn Reader mostElements es) (length es))
     (concluded-number (r .state) (r .outcome)) (lit≤ tt)
 
 elements-number : (es s : List ℕ) → elementsReading es s .number ≤ 10

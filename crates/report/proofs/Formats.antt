@@ -8,20 +8,16 @@ use native.Mathlib.Omega.{arith}
 use lib.ListN.{length, getD, take, length-take}
 use lib.Seq.{getD-take, take-nil}
 use Rattle.laws.specs.Lists.{every}
-use Rattle.format.specs.Opening.{longest, mostElements, isByte, opening, opened, openedInto}
+use Rattle.format.specs.Opening.{longest, mostElements, isByte, opened, openedInto}
 use Rattle.format.specs.declared.opening.Opened.{Opened}
 use Rattle.format.specs.declared.opening.Opened.the-variants.{Done, TooLong, Bad}
-use Rattle.format.proofs.Elements.{all-elements, are-bytes}
-use Rattle.format.proofs.Opened.{Opens, opened-done, opened-bad, opened-long, stored}
+use Rattle.format.specs.declared.opening.Side.the-variants.{Reader}
+use Rattle.format.proofs.Elements.{are-bytes}
+use Rattle.format.proofs.Opened.{opened-done, opened-bad, opened-long, stored}
 use Rattle.report.specs.Parts.{readingBy}
-use Rattle.strptime.specs.Answers.{reading, elementsReading}
-use Rattle.strptime.proofs.Opens.{format-long, conversion-bad, format-read, entries-read}
-
--- the elements of a format of bytes read as it does
-whole-read : (f s : List ℕ) {n : ℕ} → every isByte f ≡ true → Opens f n → elementsReading (opening f .elements) s ≡ reading f s
-whole-read f s b o =
-    let es = opening f .elements in
-    sym (entries-read es s (sym (all-elements f (o .short) b)) refl) ∙ format-read f s (o .short) (o .whole)
+use Rattle.strptime.specs.Answers.{reading}
+use Rattle.strptime.proofs.Opened.{read-by-elements}
+use Rattle.strptime.proofs.Opens.{format-long, conversion-bad}
 
 -- the first bytes of a slice
 pub first-bytes : (s : List ℕ) (n : ℕ) → ((k : ℕ) → getD s k 0 < 256) → every isByte (take n s) ≡ true
@@ -38,14 +34,16 @@ first-few (e ∷ es) (suc n) =
 
 -- ---- a format answers each text as its opening does, which stored its elements into entries that have room for all of them
 pub answers : (f room : List ℕ) {r : Opened} {es : List ℕ} → every isByte f ≡ true → mostElements ≤ length room → mostElements ≤ length es
-    → r ≡ opened f → es ≡ openedInto f room → (s : List ℕ) → readingBy r es s ≡ reading f s
+    → r ≡ opened Reader f → es ≡ openedInto Reader f room → (s : List ℕ) → readingBy r es s ≡ reading f s
 unfolding readingBy
 answers f room {r} {es} b h k e g s = go r refl
   where
     go : (q : Opened) → r ≡ q → readingBy q es s ≡ reading f s
-    go (Done n) d = let o = opened-done f e d in rw (stored f room g o (omega (arith, o .few))) (whole-read f s b o)
-    go TooLong d = format-long f s (opened-long f e d)
+    go (Done n) d =
+        let o = opened-done Reader f e d in
+        rw (stored Reader f room g o (omega (arith, o .few))) (read-by-elements f (o .short) b (o .whole) s)
+    go TooLong d = format-long f s (opened-long Reader f e d)
     go (Bad p) d =
-        let o = opened-bad f e d in
+        let o = opened-bad Reader f e d in
         let m : min p longest ≡ p = omega (arith, o .within, o .short) in
         rw m (conversion-bad f s (o .short) (o .bad))

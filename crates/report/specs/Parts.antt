@@ -6,6 +6,7 @@ use lib.ListN.{length, take, drop}
 use Rattle.format.specs.Opening.{longest, opened, openedInto}
 use Rattle.format.specs.declared.opening.Opened.{Opened}
 use Rattle.format.specs.declared.opening.Opened.the-variants.{Done, TooLong, Bad}
+use Rattle.format.specs.declared.opening.Side.the-variants.{Reader}
 use Rattle.report.specs.Lines.{lines, lineLength}
 use Rattle.report.specs.Report.{answered, reportOf}
 use Rattle.report.specs.declared.First.{First}
@@ -32,8 +33,8 @@ pub record Part (whole before after : List ℕ) (n : ℕ) (rest : List ℕ) : Ty
 
 -- the first part: the first line is opened as the format, and the lines for the texts from a place on are left
 pub record FirstPart (s room elements before after : List ℕ) (r : First) : Type 0 where
-  pub opens : r .opened ≡ opened (take (lineLength s) s)
-  pub stores : elements ≡ openedInto (take (lineLength s) s) room
+  pub opens : r .opened ≡ opened Reader (take (lineLength s) s)
+  pub stores : elements ≡ openedInto Reader (take (lineLength s) s) room
   pub puts : Part (reportOf s) before after (r .count) (linesBy (r .opened) elements s (r .next))
 
 -- a part from a place of the input on: it has a line at least where there is a text

@@ -3,6 +3,7 @@
 use answers::answer_to;
 use format::MOST_ELEMENTS;
 use format::Opened;
+use format::Side;
 use format::open;
 use line::put_bytes;
 use line::put_line;
@@ -44,7 +45,7 @@ pub fn first_part(input: &[u8], elements: &mut [u32; MOST_ELEMENTS], out: &mut [
         (now (out .entry)) (now (out .exit)) r ⌝ }
 {
     let end = line_end(input, 0);
-    let opened = open(&input[..end], elements);
+    let opened = open(Side::Reader, &input[..end], elements);
     if LONGEST_INPUT < input.len() {
         let count = put_bytes(out, 0, b"too long\n");
         return First {

@@ -5,7 +5,8 @@ use mathlib.Core.List.{List}
 use mathlib.Core.Path.{_≡_, sym, ap, _∙_}
 use borrow.Author.Tests.{le-leb, lt-leb, eq-eqb, ne-eqb}
 use lib.ListN.{length}
-use Rattle.format.specs.Opening.{Whole, BadAt, longest, opening, mostElements, elementsIn}
+use Rattle.format.specs.Opening.{Whole, BadAt, longest, opening, mostElements, elementsIn, entryPlace}
+use Rattle.format.specs.declared.opening.Side.the-variants.{Reader}
 use Rattle.strptime.specs.Answers.{refused, concluded, readBy, byFormat, byElements, unlessLong, reading, elementsReading}
 use Rattle.strptime.specs.Reading.{start, readAll}
 use Rattle.strptime.specs.declared.Outcome.{Outcome}
@@ -38,19 +39,19 @@ module _ (f s : List ℕ) (h : length f ≤ longest) where
   unfolding reading
   format-short = rw (le-leb (length f) longest h)
 
-  pub conversion-bad : {p : ℕ} → opening f .ended ≡ BadAt p → unlessLong s (refused 3 p) ≡ reading f s
+  pub conversion-bad : {p : ℕ} → opening Reader f .ended ≡ BadAt p → unlessLong s (refused 3 p) ≡ reading f s
   unfolding byFormat
   conversion-bad e = rw e at format-short
 
-  pub format-read : opening f .ended ≡ Whole → unlessLong s (readBy (opening f .elements) s) ≡ reading f s
+  pub format-read : opening Reader f .ended ≡ Whole → unlessLong s (readBy (opening Reader f .elements) s) ≡ reading f s
   unfolding byFormat
   format-read e = rw e at format-short
 
 -- ---- by elements: 3 after 5
-module _ (es s : List ℕ) {n : ℕ} (e : n ≡ elementsIn mostElements es) where
-  pub entry-bad : (n ≡ length es → ⊥) → unlessLong s (refused 3 n) ≡ elementsReading es s
+module _ (es s : List ℕ) {n : ℕ} (e : n ≡ elementsIn Reader mostElements es) where
+  pub entry-bad : (n ≡ length es → ⊥) → {p : ℕ} → p ≡ entryPlace es n → unlessLong s (refused 3 p) ≡ elementsReading es s
   unfolding elementsReading byElements
-  entry-bad d = rw (← e, ne-eqb n (length es) d)
+  entry-bad d q = rw (← e, ne-eqb n (length es) d, q)
 
   pub entries-read : n ≡ length es → unlessLong s (readBy es s) ≡ elementsReading es s
   unfolding elementsReading byElements

@@ -1,16 +1,17 @@
 -- Places that a reading answers are offsets of its text or its format, or 1 or 2: none is above 1,024.
 -- Assumes nothing.
 use Prim.Native.Nat.{ℕ, _≤_}
-use mathlib.Core.Bool.{true}
+use mathlib.Core.Bool.{true, not, _&&_}
 use mathlib.Core.List.{List, [], _∷_}
 use mathlib.Core.Path.{_≡_, refl}
 use native.Mathlib.Omega.{arith}
 use borrow.Author.Tests.{leb-true}
 use lib.Dec.{eqb, leb, lit≤}
-use lib.ListN.{length}
+use lib.ListN.{length, getD}
 use Rattle.laws.proofs.Cases.{either, picked}
-use Rattle.format.specs.Opening.{Ended, opening, longest, mostElements, elementsIn}
+use Rattle.format.specs.Opening.{Ended, opening, longest, mostElements, isElement, elementsIn, entryPlace}
 use Rattle.format.specs.Opening.Ended.{Whole, BadAt}
+use Rattle.format.specs.declared.opening.Side.the-variants.{Writer, Reader}
 use Rattle.format.proofs.Entries.{counted-few}
 use Rattle.format.proofs.Refused.{bad-within}
 use Rattle.judge.specs.declared.Verdict.{Verdict}
@@ -64,11 +65,11 @@ module _ (s : List ℕ) (short : length s ≤ longest) where
 
   format-place : (f : List ℕ) → length f ≤ longest → byFormat f s .place ≤ longest
   unfolding byFormat showing refused
-  format-place f h = go (opening f .ended) refl
+  format-place f h = go (opening Reader f .ended) refl
     where
-      go : (d : Ended) → opening f .ended ≡ d → byFormat f s .place ≤ longest
-      go Whole e = rw e (by-place (opening f .elements))
-      go (BadAt p) e = rw e (omega (arith, bad-within f e))
+      go : (d : Ended) → opening Reader f .ended ≡ d → byFormat f s .place ≤ longest
+      go Whole e = rw e (by-place (opening Reader f .elements))
+      go (BadAt p) e = rw e (omega (arith, bad-within Reader f e))
 
 -- 0 for too long a text
 unless-place : (s : List ℕ) (r : Reading) (n : ℕ) → (length s ≤ longest → r .place ≤ n) → unlessLong s r .place ≤ n
@@ -86,12 +87,19 @@ reading-place f s =
     unless-place s _ longest (λ l. format-place s l f (leb-true (length f) longest e)))
     (λ _. lit≤ tt)
 
+-- the offset of a %, or the entry's index
+entry-place : (es : List ℕ) (k : ℕ) → k ≤ mostElements → entryPlace es k ≤ mostElements
+unfolding entryPlace
+entry-place es k h =
+    let e = getD es k 0 in
+    picked (λ p. p ≤ mostElements) (isElement Writer e && not (isElement Reader e)) (omega arith) h
+
 pub elements-place : (es s : List ℕ) → elementsReading es s .place ≤ mostElements
 unfolding elementsReading byElements showing refused
 elements-place es s =
-    let good = elementsIn mostElements es in
+    let good = elementsIn Reader mostElements es in
     unless-place s _ mostElements
     (λ l.
     picked (λ (r : Reading). r .place ≤ mostElements) (eqb good (length es))
     (omega (arith, by-place s l es))
-    (counted-few mostElements es))
+    (entry-place es good (counted-few Reader mostElements es)))

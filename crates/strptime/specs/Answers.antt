@@ -6,7 +6,8 @@ use lib.Dec.{eqb, leb}
 use lib.ListN.{length}
 use Rattle.kinds.specs.Kinds as kinds
 use Rattle.calendar.specs.Calendar.{dateOf}
-use Rattle.format.specs.Opening.{Ended, Whole, BadAt, opening, longest, mostElements, elementsIn}
+use Rattle.format.specs.Opening.{Ended, Whole, BadAt, opening, longest, mostElements, elementsIn, entryPlace}
+use Rattle.format.specs.declared.opening.Side.the-variants.{Reader}
 use Rattle.judge.specs.Agreement.{said}
 use Rattle.judge.specs.Verdicts.{dayVerdict, hourVerdict}
 use Rattle.judge.specs.declared.Verdict.{Verdict}
@@ -95,18 +96,19 @@ readBy es s = let r = readAll es s start in concluded (r .state) (r .outcome)
 
 -- 3, then by the elements of a format
 unfoldable pub byFormat : List ℕ → List ℕ → Reading
-byFormat f s = go (opening f .ended)
+byFormat f s = go (opening Reader f .ended)
   where
     go : Ended → Reading
-    go Whole = readBy (opening f .elements) s
+    go Whole = readBy (opening Reader f .elements) s
     go (BadAt p) = refused 3 p
 
--- the same by the elements of a format that was opened before: 3 at the first entry that no format opens to
+-- The same by the elements of a format that was opened before: 3 at the first entry that no format opens to for reading. Its place is the
+-- offset of its % where it has a flag or a width that the writer takes, else its index.
 unfoldable pub byElements : List ℕ → List ℕ → Reading
 byElements es s =
-    let good = elementsIn mostElements es in
+    let good = elementsIn Reader mostElements es in
     let read = readBy es s in
-    cond (eqb good (length es)) read (refused 3 good)
+    cond (eqb good (length es)) read (refused 3 (entryPlace es good))
 
 -- 5, then the rest
 unfoldable pub unlessLong : List ℕ → Reading → Reading

@@ -16,7 +16,9 @@ use format::MOST_ELEMENTS;
 use format::Opened;
 use format::SHORT_BYTES;
 use format::SHORT_ELEMENTS;
+use format::Side;
 use format::elements_in;
+use format::entry_place;
 use format::open;
 use judge::Verdict;
 use judge::judge_day;
@@ -193,9 +195,9 @@ fn bad_conversion(at: usize, text: &[u8]) -> Answer
 pub fn read_elements(elements: &[u32], text: &[u8]) -> Answer
     ensures { λ r. ⌜ readingOf r ≡ elementsReading (now (elements .entry)) (now (text .entry)) ⌝ }
 {
-    let good = elements_in(elements);
+    let good = elements_in(Side::Reader, elements);
     if good != elements.len() {
-        return bad_conversion(good, text);
+        return bad_conversion(entry_place(elements, good), text);
     }
     read_short(elements, text)
 }
@@ -205,7 +207,7 @@ fn read_opened(format: &[u8], text: &[u8], room: &mut [u32]) -> Answer
     requires { ⌜ (length (now format) ≤ longest → 13 * length (now format) ≤ 2 * length (now room)) ⌝ }
     ensures { λ r. ⌜ readingOf r ≡ reading (now (format .entry)) (now (text .entry)) ⌝ }
 {
-    match open(format, room) {
+    match open(Side::Reader, format, room) {
         Opened::TooLong => Answer::FormatTooLong,
         Opened::Bad { at } => bad_conversion(at, text),
         Opened::Done { count } => read_short(&room[..count], text),

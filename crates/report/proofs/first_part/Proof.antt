@@ -9,6 +9,7 @@ use lib.ListN.{length, take}
 use lib.Seq.{length-take-le}
 use Rattle.laws.specs.Bytes.{bytes}
 use Rattle.format.specs.Opening.{opened, openedInto}
+use Rattle.format.specs.declared.opening.Side.the-variants.{Reader}
 use Rattle.report.specs.Lines.{lineLength}
 use Rattle.report.specs.Parts.{readingBy}
 use Rattle.strptime.specs.Answers.{reading}
@@ -42,7 +43,7 @@ put-bytes-requires c κs = search needs
 formats : (c : tie.After-open) →
     let a = c .before .before .before .before .before .args in
     let f = take (lineLength (now (a .input))) (now (a .input)) in
-    (c .«open» .result ≡ opened f) × (c .«open» .last .1 .0 ≡ openedInto f (now (a .elements)))
+    (c .«open» .result ≡ opened Reader f) × (c .«open» .last .1 .1 .0 ≡ openedInto Reader f (now (a .elements)))
 formats c =
     let l = c .before .before .before in
     let e : l .line-end .result ≡ lineLength (now (l .before .before .args .input)) = omega (arith, l .line-end .ensures) in
@@ -66,14 +67,14 @@ slice-aggregate-put-bytes-2 c = search needs
 put-bytes-requires-2 : tie.Need-put-bytes-requires-2
 put-bytes-requires-2 c κs = search needs
 
-add-t14 : tie.Need-add-t14
-add-t14 c = omega (arith, ends (c .before .before .before .before .before .before .before))
+add-t15 : tie.Need-add-t15
+add-t15 c = omega (arith, ends (c .before .before .before .before .before .before .before))
 
 -- the opened format answers each text as the format does
 opens : (c : tie.After-open) →
     let l = c .before .before .before in
     let a = l .before .before .args in
-    (t : List ℕ) → readingBy (c .«open» .result) (c .«open» .last .1 .0) t ≡ reading (take (l .line-end .result) (now (a .input))) t
+    (t : List ℕ) → readingBy (c .«open» .result) (c .«open» .last .1 .1 .0) t ≡ reading (take (l .line-end .result) (now (a .input))) t
 opens c =
     let l = c .before .before .before in
     let k = l .before in
@@ -106,5 +107,5 @@ first-part-spec =
     returns
     slice-aggregate-put-bytes-2
     put-bytes-requires-2
-    add-t14
+    add-t15
     returns-2)

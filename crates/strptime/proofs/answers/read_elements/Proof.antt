@@ -8,11 +8,16 @@ use Rattle.strptime.proofs.answers.read_elements.Tie as tie
 elements-in-requires : tie.Need-elements-in-requires
 elements-in-requires c κs = search needs
 
+entry-place-requires : tie.Need-entry-place-requires
+entry-place-requires c κs = search needs
+
 bad-conversion-requires : tie.Need-bad-conversion-requires
 bad-conversion-requires c κs = search needs
 
 returns : tie.Need-returns
-returns c = c .bad-conversion .ensures ∙ entry-bad _ _ (c .before .before .elements-in .ensures) (c .before .if1 .taken)
+returns c =
+    let d = c .before .before in
+    c .bad-conversion .ensures ∙ entry-bad _ _ (d .before .elements-in .ensures) (d .if1 .taken) (c .before .entry-place .ensures)
 
 read-short-requires : tie.Need-read-short-requires
 read-short-requires c κs = search needs
@@ -23,4 +28,4 @@ returns-2 c = c .read-short .ensures ∙ entries-read _ _ (c .before .before .el
 pub read-elements-spec : {M : Type 1} → statement M
 read-elements-spec =
     tie.close
-    (tie.spec elements-in-requires bad-conversion-requires returns read-short-requires returns-2)
+    (tie.spec elements-in-requires entry-place-requires bad-conversion-requires returns read-short-requires returns-2)
