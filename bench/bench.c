@@ -1,6 +1,7 @@
 /* Ratios of the library's time to the C library's, or to the same loop in C: each pair is measured in this run, best of several rounds. */
 #define _GNU_SOURCE
 #include <stdio.h>
+#include <stdlib.h>
 #include <string.h>
 #include <time.h>
 
@@ -50,21 +51,35 @@ static void make_dates(void) {
         if (took < best) best = took;                             \
     }
 
-static uint32_t open_all(const char *f, uint32_t elements[LARUSQEM_ELEMENTS]) {
-    return larusqem_open(f, strlen(f), elements, LARUSQEM_ELEMENTS).place;
+static uint32_t open_all(const char *f, enum larusqem_use use, uint32_t elements[LARUSQEM_ELEMENTS]) {
+    return larusqem_open(f, strlen(f), use, elements, LARUSQEM_ELEMENTS).place;
+}
+
+/* ends the program where the two libraries do not write the same for a date */
+static void check_same(const char *f) {
+    char theirs[256], ours[256];
+    for (int i = 0; i < DATES; i++) {
+        size_t length = strftime(theirs, sizeof theirs, f, &dates[i]);
+        struct larusqem_answer a = larusqem_strftime(f, strlen(f), moments[i], ours, sizeof ours);
+        if (a.number != LARUSQEM_DONE || a.place != length || memcmp(theirs, ours, length) != 0) {
+            fprintf(stderr, "bench: %s is not written as the C library writes it: %.*s\n", f, (int)length, theirs);
+            exit(1);
+        }
+    }
 }
 
 static void writing(void) {
-    static const char *formats[] = {"%c", "%F %T", "%G-W%V-%u", "%A %d %B %Y"};
+    static const char *formats[] = {"%c", "%F %T", "%G-W%V-%u", "%A %d %B %Y", "%-d %^b %_5Y"};
     static uint32_t elements[LARUSQEM_ELEMENTS];
     printf("| write | C library | ours, format opened each time | ratio | ours, opened once | ratio |\n|---|---|---|---|---|---|\n");
     for (size_t k = 0; k < sizeof formats / sizeof *formats; k++) {
         const char *f = formats[k];
         size_t n = strlen(f);
         char out[256];
+        check_same(f);
         BEST(libc, DATES, for (int i = 0; i < DATES; i++) sink += strftime(out, sizeof out, f, &dates[i]));
         BEST(anew, DATES, for (int i = 0; i < DATES; i++) sink += larusqem_strftime(f, n, moments[i], out, sizeof out).place);
-        uint32_t count = open_all(f, elements);
+        uint32_t count = open_all(f, LARUSQEM_FOR_WRITING, elements);
         BEST(once, DATES, for (int i = 0; i < DATES; i++) sink += larusqem_write(elements, count, moments[i], out, sizeof out).place);
         printf("| `%s` | %.0f ns | %.0f ns | %.2f | %.0f ns | %.2f |\n", f, libc, anew, anew / libc, once, once / libc);
     }
@@ -83,7 +98,7 @@ static void reading(void) {
         struct tm t;
         BEST(libc, DATES, for (int i = 0; i < DATES; i++) { memset(&t, 0, sizeof t); sink += (uint64_t)(strptime(s, f, &t) - s); });
         BEST(anew, DATES, for (int i = 0; i < DATES; i++) sink += larusqem_strptime(f, strlen(f), s, strlen(s)).place);
-        uint32_t count = open_all(f, elements);
+        uint32_t count = open_all(f, LARUSQEM_FOR_READING, elements);
         BEST(once, DATES, for (int i = 0; i < DATES; i++) sink += larusqem_read(elements, count, s, strlen(s)).place);
         printf("| `%s` | %.0f ns | %.0f ns | %.2f | %.0f ns | %.2f |\n", f, libc, anew, anew / libc, once, once / libc);
     }

@@ -1,5 +1,5 @@
 //! The C library's strftime and isspace, in the C locale, which is POSIX's: a program is in it until it asks for another.
-use crate::rules::{Calendar, Moment};
+use crate::rules::{items, numeric, Calendar, Conversion, Item, Moment, Use};
 
 #[repr(C)]
 struct Tm {
@@ -26,9 +26,23 @@ mod c {
 /// The longest text that is asked for.
 const ROOM: usize = 512;
 
-/// Whether the C library has the same rules: it does not fill years and centuries, and a zero byte ends its format.
+/// Whether the C library has the same rules for a conversion that ours takes.
+pub fn coincide(c: &Conversion, m: &Moment) -> bool {
+    match (c.flag, c.letter) {
+        // - leaves the fill to the width, with blanks: `%-5d` is four blanks and a 5
+        (b'-', _) => c.width == 0,
+        // %P is small before ^ is looked at: `%^P` is am
+        (b'^', b'P') => false,
+        // years and centuries have no width of their own: `%Y`, `%_Y` and `%0Y` are 5 for the year 5, and `%3Y` is 005
+        (_, b'Y' | b'G' | b'C') => m[0] >= 1000 || c.width >= numeric(c.letter).unwrap().1,
+        _ => true,
+    }
+}
+
+/// Whether it has the same rules for a format that ours takes: a zero byte ends its format.
 pub fn alike(format: &[u8], m: &Moment) -> bool {
-    !format.contains(&0) && (m[0] >= 1000 || !format.iter().any(|b| b"YGCFc".contains(b)))
+    let coincides = |item: &Item| !matches!(item, Item::Conversion(c) if !coincide(c, m));
+    !format.contains(&0) && items(format, Use::Writing).unwrap().iter().all(coincides)
 }
 
 /// What the C library writes for a valid moment, which the format's text must show to be less than `ROOM` bytes.

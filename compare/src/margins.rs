@@ -64,6 +64,49 @@ fn margins() {
     assert_eq!(ends.map(|d| (d.date(), d.weekday)), [((1, 1, 1), 1), ((9999, 12, 31), 5)]);
 }
 
+/// Flags and widths when writing, and refused when reading.
+#[test]
+fn flags_and_widths() {
+    let cal = Calendar::new();
+    let early = [5, 11, 3, 0, 8, 9];
+    for (m, format, text) in [
+        (early, "%5m %_5m %05m %-5m", "00011    11 00011 11"),
+        (early, "%d %1d %2d %3d %-d %_d %0d", "03 03 03 003 3  3 03"),
+        (early, "%e %1e %2e %3e %-e %_e %0e %05e", " 3  3  3   3 3  3 03 00003"),
+        (early, "%Y %3Y %4Y %5Y %-Y %_Y %_5Y %010Y", "0005 0005 0005 00005 5    5     5 0000000005"),
+        (early, "%C %-C %_C %5C %_5EC", "00 0  0 00000     0"),
+        (early, "%k %-k %0k %4k %l %-l %0l %4l", " 0 0 00    0 12 12 12   12"),
+        (early, "%u %3u %_3u %-3u %w %3w %_3w %-3w %-9w", "4 004   4 4 4 004   4 4 4"),
+        (early, "%-j %_5j %1j %4j", "307   307 307 0307"),
+        (early, "%_5Ey|%-Oe|%05Od|%3OU", "    5|3|00003|044"),
+        (early, "%^b %^3b %^4b %4b %2b %12B %^B", "NOV NOV  NOV  Nov Nov     November NOVEMBER"),
+        (early, "%^a|%^10A|%9A|%8A", "THU|  THURSDAY| Thursday|Thursday"),
+        (early, "%p %P %^p %^P %3p %3P %^3P %1P", "AM am AM AM  AM  am  AM am"),
+        (MORNING, "%G %-g %_V %-V %4V %-H%-M%-S", "1934 34 10 10 0010 789"),
+        (midnight(1, 1, 1), "%-C%-y%-U%-W%-V%-w", "010111"),
+    ] {
+        assert_eq!(write(&cal, format.as_bytes(), &m, 99), (0, text.len() as u32, text.into()), "{format}");
+    }
+    for (why, bad) in [
+        ("unfinished", "% %_ %0 %5 %05 %_5 %5E %_5O"),
+        ("another order", "%00d %100d %5^a %_-d %__d %E5y %E_y %O-d %^05a %+d %#a %5\td"),
+        ("a flag of others", "%^d %^5Y %^Oe %_a %-B %0p %_5P %-5A %05h"),
+        ("a composite or a byte", "%5c %^x %-D %_F %0T %_5Ec %5% %-n %0t %^% %5n"),
+        ("no letter", "%5Q %_s %5Ed %-Oc"),
+    ] {
+        for bad in bad.split(' ') {
+            assert_eq!(write(&cal, format!("%d{bad}").as_bytes(), &early, 99), (3, 2, vec![]), "{bad}, {why}");
+        }
+    }
+    for bad in ["%5m", "%-d", "%_5Ey", "%^a", "%^P", "%05Y", "%1j", "%0"] {
+        let format = format!("%d {bad}");
+        let expected = Reading { number: 3, place: 3, ..Reading::default() };
+        assert_eq!(read(&cal, format.as_bytes(), b"3"), expected, "{format}");
+    }
+    // the most that a format writes
+    assert_eq!(write(&cal, &b"%99d".repeat(256), &early, 0), (4, 25_344, vec![]));
+}
+
 #[test]
 fn white_space() {
     let all: Vec<u8> = (0..=255).filter(|b| white(*b)).collect();

@@ -11,6 +11,9 @@ pub const MONTHS: [&str; 12] =
     ["January", "February", "March", "April", "May", "June", "July", "August", "September", "October", "November", "December"];
 pub const HALVES: [&str; 2] = ["AM", "PM"];
 
+/// The letters of the conversions that show a name or a half of the day.
+pub const NAMED: &[u8] = b"aAbBhpP";
+
 /// The pairs in which E and O are taken.
 pub const PAIRS: [&str; 19] =
     ["Ec", "EC", "Ex", "EX", "Ey", "EY", "Od", "Oe", "OH", "OI", "Om", "OM", "OS", "Ou", "OU", "OV", "Ow", "OW", "Oy"];
@@ -181,6 +184,38 @@ impl Calendar {
 /// At each kind 1 to 17 (RULES 7) the number said, if one was. AM is 0 and PM is 1.
 pub type Facts = [Option<u32>; 18];
 
+/// What a format is opened for: flags and widths are taken for writing alone (RULES 4).
+#[derive(Clone, Copy, PartialEq, Eq, Debug)]
+pub enum Use {
+    Reading,
+    Writing,
+}
+
+/// A conversion that is neither a composite nor a byte: its letter, its flag's byte or 0, and the width asked or 0.
+#[derive(Clone, Copy, PartialEq, Eq, Debug)]
+pub struct Conversion {
+    pub letter: u8,
+    pub flag: u8,
+    pub width: usize,
+}
+
+impl Conversion {
+    /// With neither a flag nor a width.
+    pub fn is_plain(&self) -> bool {
+        self.flag == 0 && self.width == 0
+    }
+
+    /// Whether there is such a conversion: a number or a name, with a flag that belongs to it, if with one, and a width of at most 99.
+    pub fn is_known(&self) -> bool {
+        let flags: &[u8] = match self.letter {
+            l if NAMED.contains(&l) => b"^",
+            l if numeric(l).is_some() => b"_-0",
+            _ => return false,
+        };
+        (self.flag == 0 || flags.contains(&self.flag)) && self.width <= 99
+    }
+}
+
 /// What a format's elements ask for (RULES 4), composites opened.
 #[derive(Clone, Copy, PartialEq, Eq, Debug)]
 pub enum Item {
@@ -188,7 +223,7 @@ pub enum Item {
     Byte(u8),
     /// A white-space byte, `%n` or `%t`: written as that byte, read as a run.
     Space(u8),
-    Conversion(u8),
+    Conversion(Conversion),
 }
 
 /// The bytes that are white space (RULES 1).
@@ -220,45 +255,60 @@ fn composite(letter: u8) -> Option<&'static [u8]> {
     })
 }
 
+/// What stands after a %: flag, width, E or O, letter, and how many bytes that is. None where it ends before, or has E or O in a pair that
+/// is not taken.
+fn after_percent(rest: &[u8], side: Use) -> Option<(Conversion, usize)> {
+    let mut at = 0;
+    let (mut flag, mut width) = (0, 0);
+    if side == Use::Writing {
+        if b"_-0^".contains(rest.first()?) {
+            flag = rest[0];
+            at += 1;
+        }
+        if (b'1'..=b'9').contains(rest.get(at)?) {
+            let digits = 1 + rest[at + 1..].iter().take(1).filter(|b| b.is_ascii_digit()).count();
+            width = std::str::from_utf8(&rest[at..at + digits]).unwrap().parse().unwrap();
+            at += digits;
+        }
+    }
+    if b"EO".contains(rest.get(at)?) {
+        let pair = rest.get(at..at + 2)?;
+        if !PAIRS.iter().any(|p| p.as_bytes() == pair) {
+            return None;
+        }
+        at += 1;
+    }
+    Some((Conversion { letter: *rest.get(at)?, flag, width }, at + 1))
+}
+
 /// The elements of a format, each with the offset in it of its byte or its `%`, or else the offset of the first bad `%`.
-pub fn placed_items(format: &[u8]) -> Result<Vec<(Item, usize)>, usize> {
+pub fn placed_items(format: &[u8], side: Use) -> Result<Vec<(Item, usize)>, usize> {
     let mut out = Vec::new();
     let mut i = 0;
     while i < format.len() {
         let start = i;
-        if format[i] != b'%' {
-            out.push((byte(format[i]), start));
-            i += 1;
+        i += 1;
+        if format[start] != b'%' {
+            out.push((byte(format[start]), start));
             continue;
         }
-        let letter = match *format.get(i + 1).ok_or(start)? {
-            b'E' | b'O' => {
-                let pair = format.get(i + 1..i + 3).ok_or(start)?;
-                if !PAIRS.iter().any(|p| p.as_bytes() == pair) {
-                    return Err(start);
-                }
-                i += 3;
-                pair[1]
-            }
-            letter => {
-                i += 2;
-                letter
-            }
-        };
-        match letter {
+        let (conversion, length) = after_percent(&format[i..], side).ok_or(start)?;
+        i += length;
+        match conversion.letter {
+            _ if conversion.is_known() => out.push((Item::Conversion(conversion), start)),
+            _ if !conversion.is_plain() => return Err(start),
             b'n' => out.push((byte(10), start)),
             b't' => out.push((byte(9), start)),
             b'%' => out.push((byte(b'%'), start)),
-            l if b"YGCygmdHMSeklIjuwUWVaAbBhpP".contains(&l) => out.push((Item::Conversion(l), start)),
-            l => out.extend(items(composite(l).ok_or(start)?).unwrap().into_iter().map(|item| (item, start))),
+            l => out.extend(items(composite(l).ok_or(start)?, side).unwrap().into_iter().map(|item| (item, start))),
         }
     }
     Ok(out)
 }
 
 /// The elements of a format, or the offset of its first bad `%`.
-pub fn items(format: &[u8]) -> Result<Vec<Item>, usize> {
-    placed_items(format).map(|placed| placed.into_iter().map(|(item, _)| item).collect())
+pub fn items(format: &[u8], side: Use) -> Result<Vec<Item>, usize> {
+    placed_items(format, side).map(|placed| placed.into_iter().map(|(item, _)| item).collect())
 }
 
 /// Year, month, day, hour, minute, second.
@@ -296,48 +346,59 @@ fn twelve(hour: u32) -> u32 {
     }
 }
 
+/// The number that a numeric conversion shows.
+fn number(letter: u8, d: &Day, m: &Moment) -> u32 {
+    match letter {
+        b'H' | b'k' => m[3],
+        b'I' | b'l' => twelve(m[3]),
+        b'M' => m[4],
+        b'S' => m[5],
+        b'w' => d.weekday as u32 % 7,
+        _ => d.value(numeric(letter).unwrap().0),
+    }
+}
+
+/// The name, short or full, or the half of the day that any other conversion shows.
+fn name(letter: u8, d: &Day, m: &Moment) -> String {
+    let (weekday, month, half) = (WEEKDAYS[d.weekday as usize - 1], MONTHS[d.month as usize - 1], HALVES[m[3] as usize / 12]);
+    match letter {
+        b'a' => weekday[..3].to_string(),
+        b'A' => weekday.to_string(),
+        b'B' => month.to_string(),
+        b'p' => half.to_string(),
+        b'P' => half.to_lowercase(),
+        _ => month[..3].to_string(),
+    }
+}
+
+/// What a conversion writes for a day and a moment of it.
+fn shown(c: &Conversion, d: &Day, m: &Moment) -> Vec<u8> {
+    let (bytes, fill, places) = match numeric(c.letter) {
+        Some((_, own, _, _)) => {
+            let fill = match c.flag {
+                b'_' => b' ',
+                0 if b"ekl".contains(&c.letter) => b' ',
+                _ => b'0',
+            };
+            (number(c.letter, d, m).to_string(), fill, if c.flag == b'-' { 0 } else { own.max(c.width) })
+        }
+        None if c.flag == b'^' => (name(c.letter, d, m).to_uppercase(), b' ', c.width),
+        None => (name(c.letter, d, m), b' ', c.width),
+    };
+    let mut out = vec![fill; places.saturating_sub(bytes.len())];
+    out.extend(bytes.bytes());
+    out
+}
+
 /// What the items write for a valid moment (RULES 5).
 pub fn written(cal: &Calendar, items: &[Item], m: &Moment) -> Vec<u8> {
     let d = cal.find(m[0], m[1], m[2]);
     let mut out = Vec::new();
     for item in items {
-        let letter = match *item {
-            Item::Byte(b) | Item::Space(b) => {
-                out.push(b);
-                continue;
-            }
-            Item::Conversion(l) => l,
-        };
-        let shown = match letter {
-            b'Y' => format!("{:04}", d.year),
-            b'G' => format!("{:04}", d.week_year),
-            b'C' => format!("{:02}", d.year / 100),
-            b'y' => format!("{:02}", d.year % 100),
-            b'g' => format!("{:02}", d.week_year % 100),
-            b'm' => format!("{:02}", d.month),
-            b'd' => format!("{:02}", d.day),
-            b'e' => format!("{:2}", d.day),
-            b'H' => format!("{:02}", m[3]),
-            b'k' => format!("{:2}", m[3]),
-            b'I' => format!("{:02}", twelve(m[3])),
-            b'l' => format!("{:2}", twelve(m[3])),
-            b'M' => format!("{:02}", m[4]),
-            b'S' => format!("{:02}", m[5]),
-            b'j' => format!("{:03}", d.day_of_year),
-            b'u' => format!("{}", d.weekday),
-            b'w' => format!("{}", d.weekday % 7),
-            b'U' => format!("{:02}", d.sundays),
-            b'W' => format!("{:02}", d.mondays),
-            b'V' => format!("{:02}", d.week),
-            b'a' => WEEKDAYS[d.weekday as usize - 1][..3].to_string(),
-            b'A' => WEEKDAYS[d.weekday as usize - 1].to_string(),
-            b'b' | b'h' => MONTHS[d.month as usize - 1][..3].to_string(),
-            b'B' => MONTHS[d.month as usize - 1].to_string(),
-            b'p' => HALVES[m[3] as usize / 12].to_string(),
-            b'P' => HALVES[m[3] as usize / 12].to_lowercase(),
-            _ => unreachable!(),
-        };
-        out.extend_from_slice(shown.as_bytes());
+        match item {
+            Item::Byte(b) | Item::Space(b) => out.push(*b),
+            Item::Conversion(c) => out.extend(shown(c, d, m)),
+        }
     }
     out
 }
@@ -347,7 +408,7 @@ pub fn write(cal: &Calendar, format: &[u8], m: &Moment, room: usize) -> (u32, u3
     if format.len() > 1024 {
         return (1, 0, vec![]);
     }
-    write_opened(cal, &items(format), m, room)
+    write_opened(cal, &items(format, Use::Writing), m, room)
 }
 
 /// The writer for items that were opened before, or the place of what is bad among them.
@@ -390,7 +451,7 @@ pub fn read(cal: &Calendar, format: &[u8], text: &[u8]) -> Reading {
     if format.len() > 1024 {
         return refused(1, 0);
     }
-    read_opened(cal, &items(format), text)
+    read_opened(cal, &items(format, Use::Reading), text)
 }
 
 /// The reader for items that were opened before, or the place of what is bad among them.
@@ -464,7 +525,7 @@ fn read_items(cal: &Calendar, items: &[Item], text: &[u8]) -> Reading {
                 at += 1;
                 continue;
             }
-            Item::Conversion(l) => l,
+            Item::Conversion(c) => c.letter,
         };
         let (kind, number, length) = if let Some((kind, width, least, greatest)) = numeric(letter) {
             at += spaces(at);

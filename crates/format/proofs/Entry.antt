@@ -1,18 +1,18 @@
 -- Whether an entry is an element, by its parts.
 -- Assumes nothing.
-use Prim.Native.Nat.{ℕ, _/_, _%_, _-_, _≤_, _<_}
+use Prim.Native.Nat.{ℕ, zero, suc, _/_, _%_, _-_, _≤_, _<_}
 use mathlib.Core.Bool.{Bool, true, false, not, cond, _&&_, and-eq-true-iff}
 use mathlib.Core.List.{List, [], _∷_}
 use mathlib.Core.Path.{_≡_, refl, sym, ap, _∙_}
 use native.Mathlib.Decide.{decLe}
 use native.Mathlib.Nat.{lt-of-not-le}
 use native.Mathlib.Omega.{arith}
-use borrow.Author.Tests.{lt-ltb, le-ltb, le-leb, lt-leb, not-true, not-false, leb-true}
+use borrow.Author.Tests.{lt-ltb, le-ltb, le-leb, lt-leb, not-true, not-false, leb-true, ltb-true}
 use lib.Dec.{leb}
 use lib.ListN.{length, getD, List·getD-eq-default}
-use Rattle.laws.proofs.Cases.{clash}
+use Rattle.laws.proofs.Cases.{either, clash}
 use Rattle.format.specs.Conversions.{among, isConversion, conversionOf}
-use Rattle.format.specs.Opening.{flags, letterOf, afterSign, styleOf, takesFlag, hasStyle, isElement, entryPlace}
+use Rattle.format.specs.Opening.{flags, letterOf, afterSign, isPlain, styleOf, takesFlag, hasStyle, isElement, elementsIn, entryPlace}
 use Rattle.format.specs.declared.conversions.Conversion.{Conversion}
 use Rattle.format.specs.declared.opening.Side.{Side}
 use Rattle.format.specs.declared.opening.Side.the-variants.{Writer, Reader}
@@ -78,6 +78,27 @@ plain-is e side h c n l = signed-is e side h c n (λ z. omega arith) (plain-styl
 pub styled-no : (e : ℕ) → 262144 ≤ e → false ≡ hasStyle Reader e
 unfolding hasStyle
 styled-no e h = rw (le-ltb e 262144 h)
+
+-- what the reader takes, the writer takes
+pub reader-writer : (e : ℕ) → isElement Reader e ≡ true → isElement Writer e ≡ true
+unfolding isElement hasStyle
+reader-writer e p =
+    elim (decLe 256 e) [
+      | yes h ↦
+          let u = and-eq-true-iff (isConversion (letterOf e)) (leb 1 (afterSign e) && isPlain e) .0 (rw (le-ltb e 256 h) at p) in
+          let l = ltb-true e 262144 (and-eq-true-iff (leb 1 (afterSign e)) (isPlain e) .0 (u .1) .1) in
+          sym (plain-is e Writer h (sym (u .0)) refl l)
+      | no h ↦ sym (byte-is e Writer (lt-of-not-le h))
+    ]
+
+pub all-plain : (n : ℕ) (es : List ℕ) → elementsIn Reader n es ≡ length es → elementsIn Writer n es ≡ length es
+unfolding elementsIn
+all-plain zero es e = e
+all-plain (suc n) [] e = refl
+all-plain (suc n) (x ∷ es) q =
+    either (λ k. k ≡ suc (length es) → cond (isElement Writer x) (suc (elementsIn Writer n es)) 0 ≡ suc (length es)) (isElement Reader x)
+    (λ t e. rw (reader-writer x t) (ap suc (all-plain n es (omega arith))))
+    (λ t e. absurd (omega arith)) q
 
 -- ---- the place of an entry that the reader refuses
 

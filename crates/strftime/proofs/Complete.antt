@@ -11,6 +11,7 @@ use Rattle.laws.specs.Lists.{every}
 use Rattle.laws.proofs.Stores.{sets-start}
 use Rattle.format.specs.Opening.{opening, longest, mostElements, elementsIn, isByte}
 use Rattle.format.specs.Opening.Ended.{Whole}
+use Rattle.format.specs.declared.opening.Side.the-variants.{Writer}
 use Rattle.format.proofs.Elements.{all-elements}
 use Rattle.values.specs.Moments.{momentOf}
 use Rattle.values.specs.declared.Moment.{Moment}
@@ -19,10 +20,10 @@ use Rattle.strftime.specs.Writing.{Result, text, numbered, put, byFormat
 use Rattle.strftime.specs.declared.Fields.{Fields}
 
 -- a format that opens whole, and fields that are a moment
-module _ (f : List ℕ) (t : Fields) (b : List ℕ) {m : Moment} (short : length f ≤ longest) (whole : opening f .ended ≡ Whole)
+module _ (f : List ℕ) (t : Fields) (b : List ℕ) {m : Moment} (short : length f ≤ longest) (whole : opening Writer f .ended ≡ Whole)
     (valid : momentOf (t .year) (t .month) (t .day) (t .hour) (t .minute) (t .second) ≡ Valid m) where
   abbrev written : List ℕ
-  written = text m (opening f .elements)
+  written = text m (opening Writer f .elements)
 
   -- 4 or 0
   pub puts-text : writing f t b ≡ put written b
@@ -43,15 +44,15 @@ module _ (f : List ℕ) (t : Fields) (b : List ℕ) {m : Moment} (short : length
 
 -- ---- elements opened before
 
-module _ (f : List ℕ) (short : length f ≤ longest) (bytes : every isByte f ≡ true) (whole : opening f .ended ≡ Whole) where
-  by-format : (b : List ℕ) (m : Moment) → byElements (opening f .elements) b m ≡ byFormat f b m
+module _ (f : List ℕ) (short : length f ≤ longest) (bytes : every isByte f ≡ true) (whole : opening Writer f .ended ≡ Whole) where
+  by-format : (b : List ℕ) (m : Moment) → byElements (opening Writer f .elements) b m ≡ byFormat f b m
   unfolding byElements byFormat
   by-format b m =
-      let es = opening f .elements in
-      rw (eq-eqb (elementsIn mostElements es) (length es) (all-elements f short bytes), whole)
+      let es = opening Writer f .elements in
+      rw (eq-eqb (elementsIn Writer mostElements es) (length es) (all-elements Writer f short bytes), whole)
 
   -- a writing by the elements of a format is the writing by the format
-  pub opened-before : (t : Fields) (b : List ℕ) → elementsWriting (opening f .elements) t b ≡ writing f t b
+  pub opened-before : (t : Fields) (b : List ℕ) → elementsWriting (opening Writer f .elements) t b ≡ writing f t b
   unfolding elementsWriting writing
   opened-before t b =
       rw (le-leb (length f) longest short) (ap (λ (rest : Moment → Result). forFields rest b t) (fun-ext (by-format b)))

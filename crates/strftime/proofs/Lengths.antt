@@ -1,79 +1,169 @@
--- What an element writes, and how long that is: at most nine bytes, by one test over the table of conversions.
+-- What an element writes, and how long that is: at most nine bytes without a width, by one test over the table of conversions, and at most
+-- its width or nine with one.
 -- Assumes nothing.
-use Prim.Native.Nat.{ℕ, _+_, _*_, _%_, _≤_, _<_}
+use Prim.Native.Nat.{ℕ, max, _+_, _*_, _/_, _%_, _^_, _≤_, _<_}
+use mathlib.Core.Bool.{Bool, true, cond, _&&_, and-eq-true-iff}
 use mathlib.Core.List.{List, [], _∷_, _++_}
-use mathlib.Core.Path.{_≡_, refl}
+use mathlib.Core.Path.{_≡_, refl, sym, ap, _∙_}
+use native.Mathlib.Decide.{decLe}
+use native.Mathlib.Nat.{lt-of-not-le}
 use native.Mathlib.Numerals.{add-one}
 use native.Mathlib.Omega.{arith}
-use borrow.Author.Tests.{lt-ltb, le-ltb}
-use lib.ListN.{length, drop, getD, replicate, length-append, length-take, length-map, drop-of-length-le}
+use borrow.Author.Tests.{lt-ltb, le-ltb, ltb-true}
+use lib.Dec.{T, eqb, leb, ltb, leb→le, ltb→lt}
+use lib.ListN.{length, drop, getD, replicate, length-append, length-take, drop-of-length-le}
 use lib.Seq.{drop-cons}
-use Rattle.laws.proofs.Cases.{picked}
+use Rattle.laws.specs.Lists.{every}
+use Rattle.laws.proofs.Cases.{either, picked}
+use Rattle.laws.proofs.Table.{both}
+use Rattle.text.specs.Case.{cased}
+use Rattle.text.specs.Digits.{plain, filled}
+use Rattle.text.specs.Fill.{fill}
 use Rattle.text.specs.Names.{nameAt}
 use Rattle.text.specs.Naming.{placeFor, nameFor}
 use Rattle.text.specs.Rows.{padded}
+use Rattle.text.specs.declared.names.Case.{Case}
 use Rattle.text.specs.declared.names.Names.{Names}
-use Rattle.text.proofs.ReadBack.{filled-length}
+use Rattle.text.proofs.Case.{cased-length}
+use Rattle.text.proofs.Fill.{fill-length, fill-below, filled-is-fill, plain-most}
 use Rattle.text.proofs.Rows.{held}
-use Rattle.format.specs.Conversions.{conversionOf}
-use Rattle.format.specs.Opening.{isByte, letterOf}
+use Rattle.format.specs.Conversions.{conversionOf, isNumber, computes as rows-compute}
+use Rattle.format.specs.Opening.{isByte, letterOf, unstyled, styleOf, hasStyle, isElement}
 use Rattle.format.specs.declared.conversions.Conversion.{Conversion}
 use Rattle.format.specs.declared.conversions.Form.{Form}
 use Rattle.format.specs.declared.conversions.Form.the-variants.{Zeros, Blanks, FromSunday, Short, Full, Lower, Unknown}
+use Rattle.format.specs.declared.opening.Side.the-variants.{Reader}
+use Rattle.format.specs.declared.opening.Style.{Style}
+use Rattle.format.proofs.Elements.{element-conversion}
+use Rattle.format.proofs.Rows.{conversion-passes}
 use Rattle.format.proofs.Small.{conversion-small}
 use Rattle.values.specs.Values.{value}
 use Rattle.values.specs.declared.Moment.{Moment}
-use Rattle.strftime.specs.Writing.{formed, converted, element, text}
+use Rattle.values.proofs.Ranges.{highest, no-fault-moment, value-ranged}
+use Rattle.strftime.specs.Private.{IsMoment, HasRoom}
+use Rattle.strftime.specs.Writing.{fillBy, placesBy, number, caseBy, name, formed, converted, element, text}
 
 -- ---- what an element writes
 
-pub by-form : (c : Conversion) (m : Moment) {f : Form} {v : ℕ} → c .form ≡ f → v ≡ value (c .kind) m
-    → converted c m ≡ formed f (c .width) v
+pub by-form : (y : Style) (c : Conversion) (m : Moment) {f : Form} {v : ℕ} → c .form ≡ f → v ≡ value (c .kind) m
+    → converted y c m ≡ formed y f (c .width) v
 unfolding converted
-by-form c m p q = rw (p, q)
+by-form y c m p q = rw (p, q)
 
 module _ (m : Moment) (e : ℕ) where
   pub element-byte : e < 256 → element m e ≡ e ∷ []
   unfolding element
   element-byte h = rw (lt-ltb e 256 h)
 
-  pub element-conversion : {c : Conversion} → 256 ≤ e → c ≡ conversionOf (e % 256) → element m e ≡ converted c m
-  unfolding element
-  element-conversion h p = rw (le-ltb e 256 h, ← p)
+  module _ (h : 256 ≤ e) {c : Conversion} (p : c ≡ conversionOf (e % 256)) where
+    pub element-styled : {y : Style} → y ≡ styleOf e → element m e ≡ converted y c m
+    unfolding element
+    element-styled q = rw (le-ltb e 256 h, ← p, q)
+
+    pub element-plain : e < 262144 → element m e ≡ converted unstyled c m
+    element-plain l =
+        let f : e / 33554432 ≡ 0 = omega arith in
+        let w : e / 262144 % 128 ≡ 0 = omega arith in
+        element-styled (rw (f, w))
 
 pub named : (t : Names) (v : ℕ) {i : ℕ} → i ≡ placeFor t v → nameAt t i ≡ nameFor t v
 unfolding nameFor
 named t v p = rw p
 
--- ---- at most nine bytes
+-- ---- without flag and width
 
+-- a number that has room stands on its own width
+pub number-plain : (own w v : ℕ) → 1 ≤ w → v < 10 ^ w → number unstyled own w v ≡ filled own w v
+unfolding number fillBy placesBy
+number-plain own w v h l = let e : max w 0 ≡ w = omega arith in rw e (sym (filled-is-fill own w v h l))
+
+pub name-plain : (k : Case) (s : List ℕ) → name unstyled k s ≡ cased k s
+unfolding name caseBy
+name-plain k s = fill-below 32 0 (cased k s) (omega arith)
+
+-- ---- how long it is
+
+module _ (y : Style) where
+  pub number-length : (own w v : ℕ) → length (number y own w v) ≡ max (placesBy y w) (length (plain v))
+  unfolding number
+  number-length own w v = fill-length (fillBy (y .flag) own) (placesBy y w) (plain v)
+
+  pub name-length : (k : Case) (s : List ℕ) → length (name y k s) ≡ max (y .width) (length s)
+  unfolding name
+  name-length k s =
+      fill-length 32 (y .width) (cased (caseBy (y .flag) k) s) ∙ ap (max (y .width)) (cased-length (caseBy (y .flag) k) s)
+
+  places-most : (w : ℕ) → placesBy y w ≤ max w (y .width)
+  unfolding placesBy
+  places-most w = picked (λ n. n ≤ max w (y .width)) (eqb (y .flag) 45) (omega arith) (omega arith)
+
+-- no name has more than nine letters
 name-most : (t : Names) (v : ℕ) → length (nameFor t v) ≤ 9
 unfolding nameFor padded
 name-most t v =
     let name = nameAt t (placeFor t v) in
     omega (arith, held t (placeFor t v) refl refl .fits, length-take 9 (name ++ replicate 9 32))
 
-formed-most : (f : Form) (w v : ℕ) → w ≤ 9 → length (formed f w v) ≤ 9
-unfolding formed
-formed-most Zeros w v h = rw filled-length h
-formed-most Blanks w v h = rw filled-length h
-formed-most FromSunday w v h = rw filled-length h
-formed-most (Short t) w v h = rw length-take (omega (arith, name-most t v))
-formed-most (Full t) w v h = name-most t v
-formed-most (Lower t) w v h = rw length-map (name-most t v)
-formed-most Unknown w v h = omega arith
+-- nor has the value of a number more digits than its width: one test over the rows
+roomy : Conversion → Bool
+roomy c = cond (isNumber (c .form)) (leb 1 (c .width) && ltb (getD highest (c .kind) 0) (10 ^ c .width)) true
 
-element-most : (m : Moment) (e : ℕ) → length (element m e) ≤ 9
-unfolding element converted
-element-most m e =
-    let c = conversionOf (letterOf e) in
-    picked (λ (s : List ℕ). length s ≤ 9) (isByte e) (omega arith)
-    (formed-most (c .form) (c .width) (value (c .kind) m) (conversion-small (letterOf e) .width))
+pub has-room : (m : Moment) → IsMoment m → (c : ℕ) → HasRoom (conversionOf c) m
+unfolding roomy
+has-room m i c e =
+    let r = conversionOf c in
+    let t = conversion-passes roomy c (unfold rows-compute highest every in tt) (unfold rows-compute in tt) in
+    let u = both (leb 1 (r .width)) (ltb (getD highest (r .kind) 0) (10 ^ r .width)) (rw e at t) in
+    let v = value-ranged m (no-fault-moment m i) (r .kind) (omega (arith, conversion-small c .kind)) in
+    (leb→le 1 (r .width) (u .0), omega (arith, ltb→lt (getD highest (r .kind) 0) (10 ^ r .width) (u .1), v .1))
 
-pub text-most : (m : Moment) (es : List ℕ) → length (text m es) ≤ 9 * length es
-unfolding text
-text-most m [] = omega arith
-text-most m (e ∷ es) = rw length-append (omega (arith, element-most m e, text-most m es))
+-- a form writes no more than n bytes, which has room for nine and for the width asked for
+formed-most : (n : ℕ) (y : Style) → 9 ≤ n → y .width ≤ n → (f : Form) (w v : ℕ) → w ≤ 9 → (isNumber f ≡ true → (1 ≤ w) × (v < 10 ^ w))
+    → length (formed y f w v) ≤ n
+unfolding formed isNumber
+formed-most n y h k Zeros w v l r =
+    omega (arith, number-length y 48 w v, places-most y w, plain-most w v (r refl .0) (r refl .1))
+formed-most n y h k Blanks w v l r =
+    omega (arith, number-length y 32 w v, places-most y w, plain-most w v (r refl .0) (r refl .1))
+formed-most n y h k FromSunday w v l r =
+    let q = r refl in
+    omega (arith, number-length y 48 w (v % 7), places-most y w, plain-most w (v % 7) (q .0) (omega (arith, q .1)))
+formed-most n y h k (Short t) w v l r = rw name-length (omega (arith, name-most t v, length-take 3 (nameFor t v)))
+formed-most n y h k (Full t) w v l r = rw name-length (omega (arith, name-most t v))
+formed-most n y h k (Lower t) w v l r = rw name-length (omega (arith, name-most t v))
+formed-most n y h k Unknown w v l r = omega arith
+
+-- the width of an element without one
+plain-width : (e : ℕ) → isElement Reader e ≡ true → styleOf e .width ≤ 9
+unfolding hasStyle
+plain-width e p =
+    elim (decLe 256 e) [
+      | yes h ↦ omega (arith, ltb-true e 262144 (element-conversion Reader e p h .1))
+      | no h ↦ omega (arith, lt-of-not-le h)
+    ]
+
+module _ (m : Moment) (i : IsMoment m) where
+  pub element-most : (n e : ℕ) → 9 ≤ n → styleOf e .width ≤ n → length (element m e) ≤ n
+  unfolding element converted
+  element-most n e h k =
+      let c = conversionOf (letterOf e) in
+      picked (λ (s : List ℕ). length s ≤ n) (isByte e) (omega arith)
+      (formed-most n (styleOf e) h k (c .form) (c .width) (value (c .kind) m) (conversion-small (letterOf e) .width)
+      (has-room m i (letterOf e)))
+
+  -- elements without flags and widths: nine bytes each
+  pub text-most : (es : List ℕ) → every (isElement Reader) es ≡ true → length (text m es) ≤ 9 * length es
+  unfolding text every
+  text-most [] p = omega arith
+  text-most (e ∷ es) p =
+      let u = and-eq-true-iff (isElement Reader e) (every (isElement Reader) es) .0 p in
+      rw length-append (omega (arith, element-most 9 e (omega arith) (plain-width e (u .0)), text-most es (u .1)))
+
+  -- any elements
+  pub text-any : (es : List ℕ) → length (text m es) ≤ 127 * length es
+  unfolding text
+  text-any [] = omega arith
+  text-any (e ∷ es) = rw length-append (omega (arith, element-most 127 e (omega arith) (omega arith), text-any es))
 
 -- ---- the elements from a place on
 

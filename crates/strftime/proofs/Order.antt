@@ -2,7 +2,7 @@
 -- Assumes nothing.
 use Prim.Native.Nat.{ℕ, min, _*_, _≤_, _<_}
 use mathlib.Core.List.{List}
-use mathlib.Core.Path.{_≡_, refl, ap}
+use mathlib.Core.Path.{_≡_, refl, sym, ap}
 use native.Mathlib.Nat.{zero-add}
 use native.Mathlib.Omega.{arith}
 use borrow.Author.Tests.{le-leb, lt-leb, eq-eqb, ne-eqb}
@@ -11,8 +11,13 @@ use Rattle.laws.specs.Stores.{Puts}
 use Rattle.format.specs.Opening.{opening, opened, openedInto, longest, mostElements, elementsIn}
 use Rattle.format.specs.declared.opening.Opened.{Opened}
 use Rattle.format.specs.declared.opening.Opened.the-variants.{Done as Opened-to}
+use Rattle.format.specs.declared.opening.Side.{Side}
+use Rattle.format.specs.declared.opening.Side.the-variants.{Writer, Reader}
 use Rattle.format.proofs.Bound.{bound}
+use Rattle.format.proofs.Entries.{counted-within}
+use Rattle.format.proofs.Entry.{all-plain}
 use Rattle.format.proofs.Opened.{Opens, Breaks, opened-done, stored}
+use Rattle.format.proofs.Sides.{same-opening}
 use Rattle.values.specs.Moments.{momentOf}
 use Rattle.values.specs.declared.Moment.{Moment}
 use Rattle.values.specs.declared.MomentFields.{MomentFields}
@@ -23,7 +28,6 @@ use Rattle.strftime.specs.Writing.{forMoment, forFields, writing, elemen
 use Rattle.strftime.specs.declared.Fields.{Fields}
 use Rattle.strftime.specs.declared.Writing.{Writing}
 use Rattle.strftime.specs.declared.Written.the-variants.{Done, FormatTooLong, BadMoment, BadConversion, BufferTooSmall}
-use Rattle.format.proofs.Entries.{counted-within}
 
 -- the answer is a, and the buffer is left as c
 abbrev pub Gives : Writing → List ℕ → Result → Type 0
@@ -43,17 +47,17 @@ module _ (s b : List ℕ) where
 -- ---- a format: 1 and 3
 
 -- the first n entries of ys are the elements of a format f, which opens whole
-pub record Stored (f : List ℕ) (n : ℕ) (ys : List ℕ) : Type 0 where
-  pub opens : Opens f n
+pub record Stored (side : Side) (f : List ℕ) (n : ℕ) (ys : List ℕ) : Type 0 where
+  pub opens : Opens side f n
   pub room : n ≤ length ys
-  pub first : take n ys ≡ opening f .elements
+  pub first : take n ys ≡ opening side f .elements
 
 -- opened into xs, which has room for 13 elements to two bytes
-pub all-stored : (f xs : List ℕ) {r : Opened} {ys : List ℕ} {n : ℕ} → 13 * min longest (length f) ≤ 2 * length xs → r ≡ opened f
-    → ys ≡ openedInto f xs → r ≡ Opened-to n → Stored f n ys
-all-stored f xs {ys = ys} {n = n} h a s e =
-    let o = opened-done f a e in
-    let first = stored f xs s o (omega (arith, o .count, o .short, bound f)) in
+pub all-stored : (side : Side) (f xs : List ℕ) {r : Opened} {ys : List ℕ} {n : ℕ} → 13 * min longest (length f) ≤ 2 * length xs → r ≡ opened side f
+    → ys ≡ openedInto side f xs → r ≡ Opened-to n → Stored side f n ys
+all-stored side f xs {ys = ys} {n = n} h a s e =
+    let o = opened-done side f a e in
+    let first = stored side f xs s o (omega (arith, o .count, o .short, bound side f)) in
     record { opens = o; room = omega (arith, o .count, ap length first, length-take n ys); first = first }
 
 module _ (f : List ℕ) (m : Moment) (b : List ℕ) where
@@ -61,21 +65,40 @@ module _ (f : List ℕ) (m : Moment) (b : List ℕ) where
   unfolding momentWriting refused writingOf
   long-format h = rw (lt-leb (length f) longest h) (refl, refl)
 
-  pub bad-format : {p : ℕ} → Breaks f p → Gives (writingOf (BadConversion p)) b (momentWriting f m b)
+  pub bad-format : {p : ℕ} → Breaks Writer f p → Gives (writingOf (BadConversion p)) b (momentWriting f m b)
   unfolding momentWriting byFormat refused writingOf
   bad-format h = rw (le-leb (length f) longest (h .short), h .bad) (refl, refl)
 
-  pub whole-format : {a : Writing} {c ys : List ℕ} {n : ℕ} → Stored f n ys → Gives a c (put (text m (take n ys)) b)
+  pub whole-format : {a : Writing} {c ys : List ℕ} {n : ℕ} → Stored Writer f n ys → Gives a c (put (text m (take n ys)) b)
       → Gives a c (momentWriting f m b)
   unfolding momentWriting byFormat
   whole-format h g = rw (le-leb (length f) longest (h .opens .short), h .opens .whole) (rw (h .first) at g)
 
+  -- opened as for the reader, whose elements are the writer's
+  pub plain-format : {a : Writing} {c ys : List ℕ} {n : ℕ} → Stored Reader f n ys → Gives a c (put (text m (take n ys)) b)
+      → Gives a c (momentWriting f m b)
+  unfolding momentWriting byFormat
+  plain-format h g =
+      rw (le-leb (length f) longest (h .opens .short), same-opening f (h .opens .whole), h .opens .whole) (rw (h .first) at g)
+
 -- ---- the fields: 2
+
+valid-moment : (y n d h i s : ℕ) {m : Moment} → momentOf y n d h i s ≡ Valid m → IsMoment m
+unfolding momentOf
+valid-moment y n d h i s {m} =
+    either (λ (r : MomentFields). r ≡ Valid m → IsMoment m) (eqb (momentFault y n d h i s) 0) (λ z q. good z q) (λ z q. clash (cc))
+  where
+    good : eqb (momentFault y n d h i s) 0 ≡ true → Valid (record { date = date y n d; hour = h; minute = i; second = s }) ≡ Valid m → IsMoment m
+    good z q = ?
 
 module _ (t : Fields) {r : MomentFields} (e : r ≡ momentOf (t .year) (t .month) (t .day) (t .hour) (t .minute) (t .second)) where
   with-fields : (rest : Moment → Result) (b : List ℕ) {s : MomentFields} → r ≡ s → forFields rest b t ≡ forMoment rest b s
   unfolding forFields
   with-fields rest b q = rw (← e, q)
+
+  -- where they are a moment, that is valid
+  pub is-moment : {m : Moment} → r ≡ Valid m → IsMoment m
+  is-moment q = valid-moment _ _ _ _ _ _ (sym e ∙ q)
 
   module _ (f b : List ℕ) where
     pub too-long : longest < length f → Gives (writingOf FormatTooLong) b (writing f t b)
@@ -97,7 +120,13 @@ module _ (t : Fields) {r : MomentFields} (e : r ≡ momentOf (t .year) (t .month
     unfolding elementsWriting forMoment refused writingOf
     bad-fields q = rw (with-fields (byElements es b) b q) (refl, refl)
 
-    module _ {m : Moment} {good : ℕ} (q : r ≡ Valid m) (k : good ≡ elementsIn mostElements es) where
+    module _ {m : Moment} (q : r ≡ Valid m) (k : length es ≡ elementsIn Reader mostElements es) where
+      pub plain-elements : {a : Writing} {c : List ℕ} → Gives a c (put (text m es) b) → Gives a c (elementsWriting es t b)
+      unfolding elementsWriting forMoment byElements
+      plain-elements g =
+          rw (with-fields (byElements es b) b q, eq-eqb (elementsIn Writer mostElements es) (length es) (all-plain mostElements es (sym k))) g
+
+    module _ {m : Moment} {good : ℕ} (q : r ≡ Valid m) (k : good ≡ elementsIn Writer mostElements es) where
       pub bad-entry : good < length es → Gives (writingOf (BadConversion good)) b (elementsWriting es t b)
       unfolding elementsWriting forMoment byElements refused writingOf
       bad-entry h =
@@ -108,4 +137,4 @@ module _ (t : Fields) {r : MomentFields} (e : r ≡ momentOf (t .year) (t .month
       unfolding elementsWriting forMoment byElements
       all-elements h g =
           rw
-          (with-fields (byElements es b) b q, ← k, eq-eqb good (length es) (omega (arith, k, counted-within mostElements es))) g
+          (with-fields (byElements es b) b q, ← k, eq-eqb good (length es) (omega (arith, k, counted-within Writer mostElements es))) g

@@ -1,10 +1,15 @@
--- What the private functions of the code answer.
-use Prim.Native.Nat.{ℕ}
-use mathlib.Core.Bool.{cond}
+-- What the private functions of the code ask and answer.
+use Prim.Native.Nat.{ℕ, _^_, _≤_, _<_}
+use mathlib.Core.Bool.{true, cond}
 use mathlib.Core.List.{List}
+use mathlib.Core.Path.{_≡_}
 use lib.Dec.{leb}
 use lib.ListN.{length}
+use Rattle.format.specs.Conversions.{isNumber}
 use Rattle.format.specs.Opening.{longest}
+use Rattle.format.specs.declared.conversions.Conversion.{Conversion}
+use Rattle.values.specs.Moments.{momentFault}
+use Rattle.values.specs.Values.{value}
 use Rattle.values.specs.declared.Moment.{Moment}
 use Rattle.strftime.specs.Writing.{Result, refused, byFormat}
 
@@ -13,3 +18,11 @@ unfoldable pub momentWriting : List ℕ → Moment → List ℕ → Result
 momentWriting f m b =
     let rest = byFormat f b m in
     cond (leb (length f) longest) rest (refused 1 0 b)
+
+-- a moment is valid
+abbrev pub IsMoment : Moment → Type 0
+IsMoment m = momentFault (m .date .year) (m .date .month) (m .date .day) (m .hour) (m .minute) (m .second) ≡ 0
+
+-- where a conversion is a number, its value has no more digits than its width
+abbrev pub HasRoom : Conversion → Moment → Type 0
+HasRoom c m = isNumber (c .form) ≡ true → (1 ≤ c .width) × (value (c .kind) m < 10 ^ c .width)

@@ -1,19 +1,25 @@
 -- The writer: what an element writes for a moment (RULES 5), and what a writing answers and leaves in the buffer (RULES 3).
-use Prim.Native.Nat.{ℕ, _%_}
+use Prim.Native.Char.{code}
+use Prim.Native.Nat.{ℕ, max, _%_}
 use mathlib.Core.Bool.{cond}
-use mathlib.Core.List.{List, [], _∷_, _++_, map}
+use mathlib.Core.List.{List, [], _∷_, _++_}
 use lib.Dec.{eqb, leb}
 use lib.ListN.{length}
 use lib.Seq.{sets}
-use Rattle.text.specs.Case.{fold}
-use Rattle.text.specs.Digits.{filled}
+use Rattle.text.specs.Case.{cased}
+use Rattle.text.specs.Digits.{plain}
+use Rattle.text.specs.Fill.{fill}
 use Rattle.text.specs.Names.{short}
 use Rattle.text.specs.Naming.{nameFor}
+use Rattle.text.specs.declared.names.Case.{Case}
+use Rattle.text.specs.declared.names.Case.the-variants.{AsIs, Small, Capital}
 use Rattle.format.specs.Conversions.{conversionOf}
-use Rattle.format.specs.Opening.{Ended, Whole, BadAt, opening, longest, isByte, letterOf, mostElements, elementsIn}
+use Rattle.format.specs.Opening.{Ended, Whole, BadAt, opening, longest, isByte, letterOf, styleOf, mostElements, elementsIn}
 use Rattle.format.specs.declared.conversions.Conversion.{Conversion}
 use Rattle.format.specs.declared.conversions.Form.{Form}
 use Rattle.format.specs.declared.conversions.Form.the-variants.{Zeros, Blanks, FromSunday, Short, Full, Lower, Unknown}
+use Rattle.format.specs.declared.opening.Side.the-variants.{Writer}
+use Rattle.format.specs.declared.opening.Style.{Style}
 use Rattle.values.specs.Moments.{momentOf}
 use Rattle.values.specs.Values.{value}
 use Rattle.values.specs.declared.Moment.{Moment}
@@ -26,22 +32,42 @@ use Rattle.strftime.specs.declared.Written.the-variants.{Done, FormatToo
 
 -- ---- what is written
 
--- a value written by a form and a width
-unfoldable pub formed : Form → ℕ → ℕ → List ℕ
-formed Zeros w v = filled 48 w v
-formed Blanks w v = filled 32 w v
-formed FromSunday w v = filled 48 w (v % 7)
-formed (Short t) w v = short (nameFor t v)
-formed (Full t) w v = nameFor t v
-formed (Lower t) w v = map fold (nameFor t v)
-formed Unknown w v = []
+-- the byte that fills a number: a blank by _, a zero by 0, otherwise its own
+unfoldable pub fillBy : ℕ → ℕ → ℕ
+fillBy flag own = cond (eqb flag (code "_")) 32 (cond (eqb flag (code "0")) 48 own)
 
-unfoldable pub converted : Conversion → Moment → List ℕ
-converted c m = formed (c .form) (c .width) (value (c .kind) m)
+-- the places that a number is filled to: none by -, otherwise the larger of its own width and the one asked for
+unfoldable pub placesBy : Style → ℕ → ℕ
+placesBy y own = cond (eqb (y .flag) (code "-")) 0 (max own (y .width))
+
+-- a number: its digits, filled on the left
+unfoldable pub number : Style → ℕ → ℕ → ℕ → List ℕ
+number y own w v = fill (fillBy (y .flag) own) (placesBy y w) (plain v)
+
+-- the case of a name: capitals by ^, otherwise its own
+unfoldable pub caseBy : ℕ → Case → Case
+caseBy flag own = cond (eqb flag (code "^")) Capital own
+
+-- a name, filled on the left with blanks
+unfoldable pub name : Style → Case → List ℕ → List ℕ
+name y own s = fill 32 (y .width) (cased (caseBy (y .flag) own) s)
+
+-- a value written by a form and its width, with a flag and a width asked for
+unfoldable pub formed : Style → Form → ℕ → ℕ → List ℕ
+formed y Zeros w v = number y 48 w v
+formed y Blanks w v = number y 32 w v
+formed y FromSunday w v = number y 48 w (v % 7)
+formed y (Short t) w v = name y AsIs (short (nameFor t v))
+formed y (Full t) w v = name y AsIs (nameFor t v)
+formed y (Lower t) w v = name y Small (nameFor t v)
+formed y Unknown w v = []
+
+unfoldable pub converted : Style → Conversion → Moment → List ℕ
+converted y c m = formed y (c .form) (c .width) (value (c .kind) m)
 
 -- what an element writes: a byte itself, a conversion its value
 unfoldable pub element : Moment → ℕ → List ℕ
-element m e = cond (isByte e) (e ∷ []) (converted (conversionOf (letterOf e)) m)
+element m e = cond (isByte e) (e ∷ []) (converted (styleOf e) (conversionOf (letterOf e)) m)
 
 -- what elements write, one after the other
 unfoldable pub text : Moment → List ℕ → List ℕ
@@ -78,16 +104,16 @@ put s b =
 
 -- 3, then 4: by a format
 unfoldable pub byFormat : List ℕ → List ℕ → Moment → Result
-byFormat f b m = go (opening f .ended)
+byFormat f b m = go (opening Writer f .ended)
   where
     go : Ended → Result
-    go Whole = put (text m (opening f .elements)) b
+    go Whole = put (text m (opening Writer f .elements)) b
     go (BadAt p) = refused 3 p b
 
 -- the same by the elements of a format that was opened before: 3 at the first entry that no format opens to
 unfoldable pub byElements : List ℕ → List ℕ → Moment → Result
 byElements es b m =
-    let good = elementsIn mostElements es in
+    let good = elementsIn Writer mostElements es in
     cond (eqb good (length es)) (put (text m es) b) (refused 3 good b)
 
 -- 2 for fields that are no moment, else the rest of the order
@@ -110,5 +136,5 @@ elementsWriting es t b = forFields (byElements es b) b t
 
 -- everything here, for proofs that compute
 unfoldable pub computes : Unit {0}
-unfolding formed converted element text writingOf refused put byFormat byElements forMoment forFields writing elementsWriting
+unfolding fillBy placesBy number caseBy name formed converted element text writingOf refused put byFormat byElements forMoment forFields writing elementsWriting
 computes = tt

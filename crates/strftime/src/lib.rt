@@ -9,6 +9,7 @@ use format::MOST_ELEMENTS;
 use format::Opened;
 use format::SHORT_BYTES;
 use format::SHORT_ELEMENTS;
+use format::Side;
 use format::elements_in;
 use format::open;
 use measuring::measure;
@@ -17,10 +18,12 @@ use values::Moment;
 use values::MomentFields;
 ghost use mathlib.Core.Path.{_≡_};
 ghost use Prim.Native.Nat.{min, _*_, _≤_};
+ghost use mathlib.Core.Bool.{true};
 ghost use lib.ListN.{length};
-ghost use Rattle.format.specs.Opening.{longest, mostElements};
+ghost use Rattle.laws.specs.Lists.{every};
+ghost use Rattle.format.specs.Opening.{longest, mostElements, isElement};
 ghost use Rattle.values.specs.Moments.{momentOf};
-ghost use Rattle.strftime.specs.Private.{momentWriting};
+ghost use Rattle.strftime.specs.Private.{momentWriting, IsMoment};
 ghost use Rattle.strftime.specs.Writing.{text, put, writingOf, writing, elementsWriting};
 
 pub struct Fields {
@@ -74,7 +77,7 @@ pub fn writing_of(w: Written) -> Writing
     }
 }
 
-// The most bytes that an element writes.
+// The most bytes that an element without flag and width writes.
 const WIDEST: usize = 9;
 
 // Writes a moment by a format over the start of the buffer. The format is opened into the smallest of three arrays that has room for it.
@@ -113,11 +116,14 @@ pub fn write_elements(elements: &[u32], fields: Fields, out: &mut [u8]) -> Writt
     match moment_of(fields) {
         MomentFields::Bad(field) => Written::BadMoment { field },
         MomentFields::Valid(moment) => {
-            let good = elements_in(elements);
+            if elements_in(Side::Reader, elements) == elements.len() {
+                return write_plain(elements, moment, out);
+            }
+            let good = elements_in(Side::Writer, elements);
             if good < elements.len() {
                 return Written::BadConversion { at: good };
             }
-            write_opened(elements, moment, out)
+            write_measured(elements, moment, out)
         }
     }
 }
@@ -129,31 +135,59 @@ fn moment_of(t: Fields) -> MomentFields
     Moment::from_fields(t.year, t.month, t.day, t.hour, t.minute, t.second)
 }
 
-// Opens the format into `elements`, which has room for 13 to two bytes, and writes those.
+// Opens the format into `elements`, which has room for 13 to two bytes, and writes those. It is opened as for the reader first: most formats
+// have neither flags nor widths, and what their elements write has a bound that is known without looking at them.
 fn write_format(format: &[u8], moment: Moment, elements: &mut [u32], out: &mut [u8]) -> Written
     requires { ⌜ 13 * min longest (length (now format)) ≤ 2 * length (now elements) ⌝ }
+    requires { ⌜ IsMoment moment ⌝ }
     ensures { λ r. ⌜ writingOf r ≡ momentWriting (now (format .entry)) moment (now (out .entry)) .answer ⌝ }
     ensures { λ _. ⌜ now (out .exit) ≡ momentWriting (now (format .entry)) moment (now (out .entry)) .buffer ⌝ }
 {
-    match open(format, elements) {
-        Opened::Done { count } => write_opened(&elements[..count], moment, out),
+    match open(Side::Reader, format, elements) {
+        Opened::Done { count } => write_plain(&elements[..count], moment, out),
+        Opened::TooLong => Written::FormatTooLong,
+        Opened::Bad { at: _ } => write_styled(format, moment, elements, out),
+    }
+}
+
+// The same by a format with flags or widths.
+fn write_styled(format: &[u8], moment: Moment, elements: &mut [u32], out: &mut [u8]) -> Written
+    requires { ⌜ 13 * min longest (length (now format)) ≤ 2 * length (now elements) ⌝ }
+    requires { ⌜ IsMoment moment ⌝ }
+    ensures { λ r. ⌜ writingOf r ≡ momentWriting (now (format .entry)) moment (now (out .entry)) .answer ⌝ }
+    ensures { λ _. ⌜ now (out .exit) ≡ momentWriting (now (format .entry)) moment (now (out .entry)) .buffer ⌝ }
+{
+    match open(Side::Writer, format, elements) {
+        Opened::Done { count } => write_measured(&elements[..count], moment, out),
         Opened::TooLong => Written::FormatTooLong,
         Opened::Bad { at } => Written::BadConversion { at },
     }
 }
 
-// Writes a moment by elements. Their text is measured first, unless the buffer has room whatever they write: nothing is put before it
-// is known to fit.
-fn write_opened(elements: &[u32], moment: Moment, out: &mut [u8]) -> Written
-    requires { ⌜ length (now elements) ≤ mostElements ⌝ }
+// Writes a moment by elements without flags and widths. Where the buffer has room whatever they write, they are not measured.
+fn write_plain(elements: &[u32], moment: Moment, out: &mut [u8]) -> Written
+    requires { ⌜ (length (now elements) ≤ mostElements) × (every (isElement Side.Reader) (now elements) ≡ true) ⌝ }
+    requires { ⌜ IsMoment moment ⌝ }
     ensures { λ r. ⌜ writingOf r ≡ put (text moment (now (elements .entry))) (now (out .entry)) .answer ⌝ }
     ensures { λ _. ⌜ now (out .exit) ≡ put (text moment (now (elements .entry))) (now (out .entry)) .buffer ⌝ }
 {
     if out.len() < WIDEST * elements.len() {
-        let needed = measure(elements, moment);
-        if out.len() < needed {
-            return Written::BufferTooSmall { needed };
-        }
+        return write_measured(elements, moment, out);
+    }
+    let n = put_elements(out, elements, moment);
+    Written::Done { count: n }
+}
+
+// Writes a moment by elements, whose text is measured first: nothing is put before it is known to fit.
+fn write_measured(elements: &[u32], moment: Moment, out: &mut [u8]) -> Written
+    requires { ⌜ length (now elements) ≤ mostElements ⌝ }
+    requires { ⌜ IsMoment moment ⌝ }
+    ensures { λ r. ⌜ writingOf r ≡ put (text moment (now (elements .entry))) (now (out .entry)) .answer ⌝ }
+    ensures { λ _. ⌜ now (out .exit) ≡ put (text moment (now (elements .entry))) (now (out .entry)) .buffer ⌝ }
+{
+    let needed = measure(elements, moment);
+    if out.len() < needed {
+        return Written::BufferTooSmall { needed };
     }
     let n = put_elements(out, elements, moment);
     Written::Done { count: n }

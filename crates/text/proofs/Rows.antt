@@ -7,8 +7,7 @@ use native.Mathlib.Numerals.{add-one}
 use native.Mathlib.Omega.{arith}
 use borrow.Author.Tests.{leb-true, not-true, not-false}
 use lib.Dec.{eqb, leb}
-use lib.ListN.{length, getD, take, drop, set, replicate, length-append, length-take, length-map, length-replicate}
-use lib.ListN.{drop-of-length-le}
+use lib.ListN.{length, getD, take, drop, set, replicate, length-append, length-take, length-map, length-replicate, drop-of-length-le}
 use lib.Seq.{sets, drop-cons, take-take, take-append-seam}
 use Rattle.laws.specs.Lists.{every}
 use Rattle.laws.proofs.Lists.{each}

@@ -164,7 +164,7 @@ fn cased(case: Case, b: u8) -> u8
     }
 }
 
-// Copies the first bytes of `name` over `out`, as many as both have.
+// Copies the first bytes of `name` over `out`, as many as both have, in a letter case.
 fn overlay(out: &mut [u8], name: &[u8], case: Case)
     ensures { λ _. ⌜ now (out .exit) ≡ sets (now (out .entry)) 0 (cased case (now (name .entry))) ⌝ }
 {
@@ -178,7 +178,7 @@ fn overlay(out: &mut [u8], name: &[u8], case: Case)
     }
 }
 
-// Copies a name's first bytes over `out`, as many as both have: a slice of three bytes takes the short form.
+// Copies a name's first bytes over `out`, as many as both have, in a letter case: a slice of three bytes takes the short form.
 // Says how long the name is.
 pub fn write_name(out: &mut [u8], t: Names, i: usize, case: Case) -> usize
     ensures { λ r. ⌜ r ≡ length (nameAt t i) ⌝ }

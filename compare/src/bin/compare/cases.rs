@@ -1,7 +1,7 @@
 //! Random formats, moments and texts: well formed, damaged, contradictory, and nonsense.
 use crate::elements::LETTERS;
 use compare::random::Random;
-use compare::rules::{month_length, written, Calendar, Item, Moment, PAIRS};
+use compare::rules::{month_length, numeric, written, Calendar, Item, Moment, NAMED, PAIRS};
 
 const DATES: &[u8] = b"YCymdejuwaAbBhUWGgV";
 const TIMES: &[u8] = b"HkIlpPMS";
@@ -70,13 +70,11 @@ fn token(random: &mut Random, out: &mut Vec<u8>) {
         87..=92 => out.push(random.next() as u8),
         93..=98 => conversion(out, *random.pick(b"nt%")),
         _ => {
-            // bad: an unknown letter, a wrong pair, a flag or a width, an unfinished conversion
-            match random.below(6) {
+            // bad: an unknown letter, a wrong pair, an unfinished conversion
+            match random.below(4) {
                 0 => out.extend([b'%', random.next() as u8]),
                 1 => out.extend([b'%', b'E', random.next() as u8]),
                 2 => out.extend([b'%', b'O', random.next() as u8]),
-                3 => out.extend(b"%-d"),
-                4 => out.extend(b"%5Y"),
                 _ => out.push(b'%'),
             }
         }
@@ -141,30 +139,117 @@ pub fn format(random: &mut Random) -> Vec<u8> {
             }
         }
         _ => {
-            // long: up to and past the longest
-            let length = if random.chance(50) { 1020 + random.below(10) } else { random.below(2500) };
             let unit = format(random);
-            while out.len() < length {
-                if unit.is_empty() || unit.len() > length - out.len() {
-                    out.push(*random.pick(b"ab 1"));
-                } else {
-                    out.extend_from_slice(&unit);
-                }
-            }
+            out = long(random, &unit);
         }
     }
     out
 }
 
-/// An entry of a list of elements: a byte, a conversion of any offset, or what no opening makes.
+/// The same again and again, up to and past the longest format.
+fn long(random: &mut Random, unit: &[u8]) -> Vec<u8> {
+    let mut out = Vec::new();
+    let length = if random.chance(50) { 1020 + random.below(10) } else { random.below(2500) };
+    while out.len() < length {
+        if unit.is_empty() || unit.len() > length - out.len() {
+            out.push(*random.pick(b"ab 1"));
+        } else {
+            out.extend_from_slice(unit);
+        }
+    }
+    out
+}
+
+/// The flags that belong to a letter; none to a composite, a byte or an unknown one.
+fn flags(letter: u8) -> &'static [u8] {
+    match letter {
+        l if NAMED.contains(&l) => b"^",
+        l if numeric(l).is_some() => b"_-0",
+        _ => b"",
+    }
+}
+
+/// A flag, a width or both, mostly such as a letter takes.
+fn column(random: &mut Random, letter: u8, out: &mut Vec<u8>) {
+    if random.chance(96) {
+        if flags(letter).is_empty() {
+            return;
+        }
+        if random.chance(70) {
+            out.push(*random.pick(flags(letter)));
+        }
+        match random.below(10) {
+            0..=2 => {}
+            3..=6 => out.extend(random.from(1, 9).to_string().bytes()),
+            _ => out.extend(random.from(1, 99).to_string().bytes()),
+        }
+        return;
+    }
+    // any flag, none, two, or another byte; then any width, with zeros before it or a flag after it
+    match random.below(6) {
+        0..=2 => out.push(*random.pick(b"_-0^")),
+        3 => out.extend([*random.pick(b"_-0^"), *random.pick(b"_-0^")]),
+        4 => out.push(*random.pick(b"+#:,.*' /1EO%")),
+        _ => {}
+    }
+    let width = random.from(0, 120);
+    match random.below(6) {
+        0 => {}
+        1 => out.extend(format!("{width:03}").bytes()),
+        2 => out.extend([b'0' + (width % 10) as u8, *random.pick(b"_-0^")]),
+        _ => out.extend(width.to_string().bytes()),
+    }
+}
+
+/// The format with flags and widths after some of its %, in a few cases after the E or O there, or with its end lost.
+pub fn with_columns(random: &mut Random, format: &[u8]) -> Vec<u8> {
+    let odds = *random.pick(&[20, 60, 100]);
+    let mut out = Vec::new();
+    let mut rest = format;
+    while let [b, after @ ..] = rest {
+        out.push(*b);
+        rest = after;
+        if *b != b'%' {
+            continue;
+        }
+        let paired = matches!(rest, [b'E' | b'O', ..]);
+        let letter = rest.get(paired as usize).copied().unwrap_or(0);
+        if paired && random.chance(5) {
+            out.push(rest[0]);
+            rest = &rest[1..];
+        }
+        if random.chance(odds) {
+            column(random, letter, &mut out);
+        }
+        if let [b'%', after @ ..] = rest {
+            out.push(b'%');
+            rest = after;
+        }
+    }
+    match random.below(100) {
+        0..=2 => out = long(random, &out),
+        3..=4 => out.truncate(random.below(out.len() + 1)),
+        _ => {}
+    }
+    out
+}
+
+/// An entry of a list of elements: a byte, a conversion of any offset, flag and width, or what no opening makes.
 pub fn entry(random: &mut Random) -> u32 {
-    let letter = *random.pick(LETTERS) as u32;
-    match random.below(10) {
+    let letter = *random.pick(LETTERS);
+    let plain = 256 * random.from(1, 1023) + letter as u32;
+    let wide = (1 << 18) * random.from(0, 99);
+    match random.below(16) {
         0 | 1 => random.from(0, 255),
-        2 | 3 => 256 * random.from(1, 1023) + letter,
-        4 => 256 * *random.pick(&[1, 2, 1022, 1023]) + letter,
-        5 => 256 * *random.pick(&[1024, 1025, 2048, 65536, 0xff_ffff]) + letter,
+        2 | 3 => plain,
+        4 => 256 * *random.pick(&[1, 2, 1022, 1023]) + letter as u32,
+        5 => 256 * *random.pick(&[1024, 1025, 2048, 65536, 0xff_ffff]) + letter as u32,
         6 | 7 => 256 * random.from(1, 1023) + random.from(0, 255),
+        8 => plain + wide,
+        9 | 10 => plain + wide + (1 << 25) * *random.pick(flags(letter)) as u32,
+        11 => plain + wide + (1 << 25) * *random.pick(b"_-0^+#1ad\x01\x7f") as u32,
+        12 => plain + (1 << 18) * random.from(98, 127),
+        13 => letter as u32 + wide + (1 << 25) * *random.pick(b"\x00_-0^") as u32,
         _ => random.next() as u32 >> random.below(24),
     }
 }
@@ -258,7 +343,7 @@ pub fn text(random: &mut Random, cal: &Calendar, items: &[Item]) -> Vec<u8> {
             // numbers of any length, with white space before and without leading zeros
             for item in items {
                 match item {
-                    Item::Conversion(l) if !b"aAbBhpP".contains(l) => {
+                    Item::Conversion(c) if numeric(c.letter).is_some() => {
                         for _ in 0..random.below(2) {
                             out.push(*random.pick(b"\t\n\x0b\x0c\r "));
                         }

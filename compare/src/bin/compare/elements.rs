@@ -1,32 +1,43 @@
 //! The elements of an opened format as numbers (RULES 10).
-use compare::rules::{self, Item};
+use compare::rules::{self, Conversion, Item, Use};
 
 /// The most elements that a format opens to.
 pub const MOST: usize = 6656;
 /// The letters of the conversions that are neither composites nor bytes.
 pub const LETTERS: &[u8] = b"YCymbhBdejuwaAUWGgVHkIlpPMS";
 
-/// A byte stands for itself; a conversion is its letter and 256 times one more than the offset of its % in the format.
+/// A byte stands for itself. A conversion is its letter, 256 times one more than the offset of its % in the format, 2^18 times its width
+/// and 2^25 times its flag.
 fn element(item: &Item, offset: usize) -> u32 {
     match *item {
         Item::Byte(b) | Item::Space(b) => b as u32,
-        Item::Conversion(l) => 256 * (offset as u32 + 1) + l as u32,
+        Item::Conversion(c) => c.letter as u32 + 256 * (offset as u32 + 1) + (1 << 18) * c.width as u32 + (1 << 25) * c.flag as u32,
     }
 }
 
-/// What an entry stands for, if an opening can make it: the last % of a format has offset 1,022 at most.
-fn item(entry: u32) -> Option<Item> {
-    let low = entry as u8;
-    match entry / 256 {
-        0 => Some(rules::byte(low)),
-        1..=1023 if LETTERS.contains(&low) => Some(Item::Conversion(low)),
-        _ => None,
+/// What an entry stands for, if it is an element: a % has offset 1,022 at most. With it the offset of its %, 0 for a byte.
+fn item(entry: u32) -> Option<(Item, usize)> {
+    let letter = (entry % 256) as u8;
+    if entry < 256 {
+        return Some((rules::byte(letter), 0));
     }
+    let offset = (entry / 256 % 1024).checked_sub(1)? as usize;
+    let conversion = Conversion { letter, flag: (entry / (1 << 25)) as u8, width: (entry / (1 << 18) % 128) as usize };
+    conversion.is_known().then_some((Item::Conversion(conversion), offset))
 }
 
-/// What a list's entries stand for, or the index of the first that no opening makes.
-pub fn items(entries: &[u32]) -> Result<Vec<Item>, usize> {
-    entries.iter().enumerate().map(|(i, e)| item(*e).filter(|_| i < MOST).ok_or(i)).collect()
+/// What a list's entries stand for, or the place of the first that no opening for this use makes: the offset of its % where it is a
+/// conversion with a flag or a width, to read by, else its index.
+pub fn items(entries: &[u32], side: Use) -> Result<Vec<Item>, usize> {
+    let mut out = Vec::new();
+    for (i, entry) in entries.iter().enumerate() {
+        let (item, offset) = item(*entry).filter(|_| i < MOST).ok_or(i)?;
+        match item {
+            Item::Conversion(c) if side == Use::Reading && !c.is_plain() => return Err(offset),
+            _ => out.push(item),
+        }
+    }
+    Ok(out)
 }
 
 /// A format opened: its elements, or those before its first bad %.
@@ -39,10 +50,10 @@ pub struct Opened {
 }
 
 impl Opened {
-    pub fn new(format: &[u8]) -> Opened {
-        let (placed, bad) = match rules::placed_items(format) {
+    pub fn new(format: &[u8], side: Use) -> Opened {
+        let (placed, bad) = match rules::placed_items(format, side) {
             Ok(placed) => (placed, None),
-            Err(at) => (rules::placed_items(&format[..at]).unwrap(), Some(at)),
+            Err(at) => (rules::placed_items(&format[..at], side).unwrap(), Some(at)),
         };
         Opened {
             items: placed.iter().map(|(item, _)| *item).collect(),

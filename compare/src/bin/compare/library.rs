@@ -32,7 +32,13 @@ mod raw {
             text_length: usize,
             reading: *mut u32,
         ) -> u64;
-        pub fn larusqem_open_words(format: *const u8, format_length: usize, elements: *mut u32, elements_length: usize) -> u64;
+        pub fn larusqem_open_words(
+            format: *const u8,
+            format_length: usize,
+            for_writing: u32,
+            elements: *mut u32,
+            elements_length: usize,
+        ) -> u64;
         pub fn larusqem_days() -> u32;
         pub fn larusqem_day_number(year: u32, month: u32, day: u32) -> u32;
         pub fn larusqem_weekday(year: u32, month: u32, day: u32) -> u32;
@@ -66,8 +72,9 @@ pub fn read(elements: &[u32], text: &[u8], reading: &mut [u32]) -> (u32, u32) {
     split(unsafe { raw::larusqem_read_words(elements.as_ptr(), elements.len(), text.as_ptr(), text.len(), reading.as_mut_ptr()) })
 }
 
-pub fn open(format: &[u8], elements: &mut [u32]) -> (u32, u32) {
-    split(unsafe { raw::larusqem_open_words(format.as_ptr(), format.len(), elements.as_mut_ptr(), elements.len()) })
+/// For reading where `for_writing` is 0, and for writing where it is any other number.
+pub fn open(format: &[u8], for_writing: u32, elements: &mut [u32]) -> (u32, u32) {
+    split(unsafe { raw::larusqem_open_words(format.as_ptr(), format.len(), for_writing, elements.as_mut_ptr(), elements.len()) })
 }
 
 pub fn days() -> u32 {

@@ -1,18 +1,24 @@
-//! Compares the proved library with an independent implementation of the rules (`rules.rs`) on random cases, its writer with the C
-//! library's strftime on every day of the years 1000 to 9999, and its white space with isspace on every byte. Usage: compare SECONDS [SEED]
+//! Compares the proved library with an independent implementation of the rules (`rules.rs`) on random cases and on every flag and width,
+//! its writer with the C library's strftime on every day of the years 1000 to 9999 and on flags and widths, and its white space with
+//! isspace on every byte. Usage: compare SECONDS [SEED]
+mod c_columns;
 mod c_days;
 mod c_spaces;
 mod cases;
+mod columns;
 mod elements;
 mod library;
 mod speed;
 
 use compare::random::Random;
-use compare::rules::{self, Calendar, Item, Reading};
+use compare::rules::{self, Calendar, Item, Reading, Use};
 use elements::Opened;
 use library::{Lent, WORDS};
 use std::collections::BTreeMap;
 use std::time::{Duration, Instant};
+
+/// What tells the writings by a format with flags and widths apart.
+const COLUMNS: &str = "flags and widths";
 
 /// How often each outcome came: a function, a number, and what tells its cases apart.
 #[derive(Default)]
@@ -22,8 +28,8 @@ struct Tally {
 }
 
 impl Tally {
-    fn count(&mut self, function: &'static str, number: u32) {
-        *self.counts.entry((function, number, "")).or_insert(0) += 1;
+    fn count(&mut self, function: &'static str, number: u32, which: &'static str) {
+        *self.counts.entry((function, number, which)).or_insert(0) += 1;
     }
 
     fn count_reading(&mut self, function: &'static str, r: &Reading) {
@@ -85,29 +91,29 @@ fn room(random: &mut Random, needed: usize) -> usize {
 }
 
 /// `larusqem_strftime_words` by a format.
-fn compare_strftime(random: &mut Random, cal: &Calendar, tally: &mut Tally, format: &[u8]) {
+fn compare_strftime(random: &mut Random, cal: &Calendar, tally: &mut Tally, format: &[u8], which: &'static str) {
     let m = cases::fields(random);
     let needed = rules::write(cal, format, &m, usize::MAX).2.len();
     let room = room(random, needed);
     let (number, place, bytes) = rules::write(cal, format, &m, room);
     let mut out = Lent::new(random, room, |n| n as u8);
     let found = library::strftime(format, &m, out.slice());
-    tally.count("strftime", number);
+    tally.count("strftime", number, which);
     if found != (number, place) || !out.is(&bytes) {
         tally.differs("larusqem_strftime_words", &(format, m, room, found, (number, place)));
     }
 }
 
 /// `larusqem_write_words` by elements, or by any entries.
-fn compare_write(random: &mut Random, cal: &Calendar, tally: &mut Tally, function: &'static str, entries: &[u32]) {
+fn compare_write(random: &mut Random, cal: &Calendar, tally: &mut Tally, function: &'static str, entries: &[u32], which: &'static str) {
     let m = cases::fields(random);
-    let opened = elements::items(entries);
+    let opened = elements::items(entries, Use::Writing);
     let needed = rules::write_opened(cal, &opened, &m, usize::MAX).2.len();
     let room = room(random, needed);
     let (number, place, bytes) = rules::write_opened(cal, &opened, &m, room);
     let mut out = Lent::new(random, room, |n| n as u8);
     let found = library::write(entries, &m, out.slice());
-    tally.count(function, number);
+    tally.count(function, number, which);
     if found != (number, place) || !out.is(&bytes) {
         tally.differs("larusqem_write_words", &(entries, m, room, found, (number, place)));
     }
@@ -128,7 +134,7 @@ fn skipped(random: &mut Random, items: &[Item]) -> bool {
 }
 
 fn names(items: &[Item], letters: &[u8]) -> bool {
-    items.iter().any(|i| matches!(i, Item::Conversion(l) if letters.contains(l)))
+    items.iter().any(|i| matches!(i, Item::Conversion(c) if letters.contains(&c.letter)))
 }
 
 /// `larusqem_read_words` by elements, or by any entries.
@@ -141,7 +147,8 @@ fn compare_read(random: &mut Random, tally: &mut Tally, function: &'static str, 
     }
 }
 
-/// Both readers on a text.
+/// Both readers on a text: by the format, and by the elements that it opens to for writing, which without flags and widths are those for
+/// reading.
 fn compare_reading(random: &mut Random, cal: &Calendar, tally: &mut Tally, format: &[u8], opened: &Opened) {
     let text = cases::text(random, cal, &opened.items);
     let reading = rules::read(cal, format, &text);
@@ -164,57 +171,84 @@ fn compare_reading(random: &mut Random, cal: &Calendar, tally: &mut Tally, forma
     }
 }
 
-fn compare_opening(random: &mut Random, tally: &mut Tally, format: &[u8], opened: &Opened) {
+fn compare_opening(random: &mut Random, tally: &mut Tally, format: &[u8], opened: &Opened, side: Use) {
+    let (for_writing, which) = match side {
+        Use::Reading => (0, "to read"),
+        Use::Writing => (*random.pick(&[1, 2, 256, 1 << 16, 1 << 31, u32::MAX]), "to write"),
+    };
     let all = &opened.elements;
     let room = if random.chance(10) { random.below(all.len() + 1) } else { all.len() + random.below(3) };
     let mut lent = Lent::new(random, room, |n| n as u32);
-    let found = library::open(format, lent.slice());
+    let found = library::open(format, for_writing, lent.slice());
     let (expected, stored) = match opened.bad {
         _ if format.len() > 1024 => ((1, 0), 0),
         Some(at) => ((3, at as u32), all.len().min(room)),
         None if all.len() > room => ((4, all.len() as u32), room),
         None => ((0, all.len() as u32), all.len()),
     };
-    tally.count("open", expected.0);
+    tally.count("open", expected.0, which);
     if found != expected || !lent.is(&all[..stored]) {
-        tally.differs("larusqem_open_words", &(format, room, found, expected));
+        tally.differs("larusqem_open_words", &(format, for_writing, room, found, expected));
     }
 }
 
-/// One format: opened, written for some moments, read on some texts.
-fn compare_format(random: &mut Random, cal: &Calendar, tally: &mut Tally) {
-    let format = cases::format(random);
-    let opened = Opened::new(&format);
-    compare_opening(random, tally, &format, &opened);
-    for _ in 0..2 {
-        compare_strftime(random, cal, tally, &format);
+/// One format: opened for both uses, written for some moments, read on some texts.
+fn compare_format(
+    random: &mut Random,
+    cal: &Calendar,
+    tally: &mut Tally,
+    format: &[u8],
+    which: &'static str,
+    writings: u32,
+    readings: u32,
+) {
+    let opened = Opened::new(format, Use::Writing);
+    compare_opening(random, tally, format, &opened, Use::Writing);
+    compare_opening(random, tally, format, &Opened::new(format, Use::Reading), Use::Reading);
+    for _ in 0..writings {
+        compare_strftime(random, cal, tally, format, which);
         if opened.whole {
-            compare_write(random, cal, tally, "write", &opened.elements);
+            compare_write(random, cal, tally, "write", &opened.elements, which);
         }
     }
-    for _ in 0..4 {
-        compare_reading(random, cal, tally, &format, &opened);
+    for _ in 0..readings {
+        compare_reading(random, cal, tally, format, &opened);
+    }
+}
+
+/// A format, and the same with flags and widths, which no reading takes.
+fn compare_formats(random: &mut Random, cal: &Calendar, tally: &mut Tally) {
+    let plain = cases::format(random);
+    compare_format(random, cal, tally, &plain, "", 2, 4);
+    let columned = cases::with_columns(random, &plain);
+    if columned != plain {
+        compare_format(random, cal, tally, &columned, COLUMNS, 8, 1);
     }
 }
 
 /// Entries that no format opens to, among those of a format: bytes and conversions in other places, what no opening makes, and as many as
 /// there can be or more. The text is one that the entries before the first bad one can read.
 fn compare_strange(random: &mut Random, cal: &Calendar, tally: &mut Tally) {
-    let mut entries = Opened::new(&cases::format(random)).elements;
+    let plain = cases::format(random);
+    let format = if random.chance(25) { cases::with_columns(random, &plain) } else { plain };
+    let mut entries = Opened::new(&format, Use::Writing).elements;
     for _ in 0..random.below(4) {
         let at = random.below(entries.len() + 1);
-        entries.insert(at, cases::entry(random));
+        match entries.get_mut(at) {
+            Some(entry) if random.chance(20) => *entry ^= 1 << random.below(32),
+            _ => entries.insert(at, cases::entry(random)),
+        }
     }
     if random.chance(5) {
         let fill = if random.chance(50) { b' ' as u32 } else { cases::entry(random) };
         entries.resize(elements::MOST - 6 + random.below(20), fill);
     }
-    compare_write(random, cal, tally, "write, strange", &entries);
+    compare_write(random, cal, tally, "write, strange", &entries, "");
 
-    let opened = elements::items(&entries);
-    let good = match &opened {
-        Ok(items) => items.clone(),
-        Err(at) => elements::items(&entries[..*at]).unwrap(),
+    let opened = elements::items(&entries, Use::Reading);
+    let good = match elements::items(&entries, Use::Writing) {
+        Ok(items) => items,
+        Err(at) => elements::items(&entries[..at], Use::Writing).unwrap(),
     };
     let mut text = cases::text(random, cal, &good);
     if random.chance(50) {
@@ -247,7 +281,7 @@ fn compare_days(random: &mut Random, cal: &Calendar, tally: &mut Tally) {
     let mut no_date = |year: u32, month: u32, day: u32| {
         if rules::bad_field(&[year, month, day, 0, 0, 0]).is_some() {
             let found = library::of_date(year, month, day);
-            tally.count("no date", 0);
+            tally.count("no date", 0, "");
             if found != [0; 5] {
                 tally.differs("the functions of a date that is none", &(year, month, day, found));
             }
@@ -314,24 +348,37 @@ fn main() {
     c_spaces::compare(|case| tally.differs("white space against the C library", case));
     println!("{:6.1} s  the C library's isspace: 256 bytes, in formats, in texts and before numbers", began.elapsed().as_secs_f64());
 
+    let pairs = c_columns::compare(&mut random, &cal, |case| tally.differs("larusqem_strftime_words against the C library", case));
+    println!("{:6.1} s  the C library's strftime: {pairs} writings with flags and widths", began.elapsed().as_secs_f64());
+
+    let formats = columns::compare(&mut random, &cal, |case| tally.differs("flags and widths", case));
+    println!(
+        "{:6.1} s  every flag and width before every letter: {} formats, {} of them taken",
+        began.elapsed().as_secs_f64(),
+        formats.all,
+        formats.taken
+    );
+
     let cases_began = Instant::now();
     let mut formats = 0u64;
     while cases_began.elapsed() < Duration::from_secs(seconds) {
         for _ in 0..200 {
-            compare_format(&mut random, &cal, &mut tally);
+            compare_formats(&mut random, &cal, &mut tally);
             formats += 1;
         }
         for _ in 0..40 {
             compare_strange(&mut random, &cal, &mut tally);
         }
     }
-    println!("{:6.1} s  {formats} random formats", began.elapsed().as_secs_f64());
+    println!("{:6.1} s  {formats} random formats, and with flags and widths", began.elapsed().as_secs_f64());
 
     println!("\ncases by function and number:");
     for ((function, number, which), n) in &tally.counts {
-        println!("  {function:<17} {number:>2} {which:<11} {n:>10}");
+        println!("  {function:<17} {number:>2} {which:<16} {n:>10}");
     }
     let total: u64 = tally.counts.values().sum();
+    let columned = |number| tally.counts.iter().filter(|((_, n, w), _)| (*n, *w) == (number, COLUMNS)).map(|(_, n)| n).sum::<u64>();
+    println!("\nwritings with flags and widths: {} taken, {} refused", columned(0) + columned(4), columned(3));
     println!("\nspeed of the library alone, one thread:");
     speed::measure();
     println!("\n{total} cases, {} differences", tally.differences);

@@ -17,7 +17,7 @@ fn rate(name: &str, mut once: impl FnMut(u32)) {
 
 fn write(format: &str) {
     let mut elements = [0; 6656];
-    let (_, count) = library::open(format.as_bytes(), &mut elements);
+    let (_, count) = library::open(format.as_bytes(), 1, &mut elements);
     let elements = &elements[..count as usize];
     let mut out = [0u8; 128];
     let moment = |n: u32| [1900 + n % 200, 1 + n % 12, 1 + n % 28, n % 24, n % 60, n % 60];
@@ -31,7 +31,7 @@ fn write(format: &str) {
 
 fn read(format: &str, text: &str) {
     let mut elements = [0; 6656];
-    let (_, count) = library::open(format.as_bytes(), &mut elements);
+    let (_, count) = library::open(format.as_bytes(), 0, &mut elements);
     let elements = &elements[..count as usize];
     let mut words = [0; library::WORDS];
     rate(&format!("read \"{text}\" by \"{format}\""), |_| {
@@ -45,6 +45,7 @@ fn read(format: &str, text: &str) {
 pub fn measure() {
     write("%Y-%m-%d %H:%M:%S");
     write("%c");
+    write("%-d %^b %_5Y");
     read("%Y-%m-%d %H:%M:%S", "1934-03-05 07:08:09");
     read("%c", "Mon Mar  5 07:08:09 1934");
     read("%d %b", "5 mar");

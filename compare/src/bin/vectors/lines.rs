@@ -89,6 +89,7 @@ fn cases() -> Vec<(&'static str, Vec<u8>)> {
         // every number that a line can have: the other fields are then unsaid
         ("number_1", cat(&[&b"%H".repeat(512), b"x\n7\n", &b"7".repeat(1025), b"\n\n"])),
         ("number_3", b"at %Q\n7\nat \n\n".to_vec()),
+        ("number_3_flag_and_width", b"%d %^b %5Y\n5 Mar 1934\n5 MAR  1934\n\n".to_vec()),
         ("number_3_place_last", cat(&[&FULL[1..], b"%\n7\n"])),
         ("number_5", cat(&[b"%H%n%%\n7", FULL, b"\n", &FULL[1..], b"\n7%", &FULL[2..], b"\n7 %", &FULL[2..], b"\n"])),
         ("number_5_before_3", cat(&[b"%Q\n", FULL, b"x\n", FULL, b"\n"])),

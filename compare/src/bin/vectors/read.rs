@@ -417,6 +417,14 @@ impl Cases<'_> {
                 self.add(format!("{before}{bad}"), "1934 x");
             }
         }
+        // flags and widths, which the writer takes, or does not
+        for bad in ["%_d", "%0d", "%^b", "%^P", "%5a", "%1j", "%05Y", "%_5Ey", "%-Oe", "%99S", "%10p", "%5c", "%^x", "%-%", "%5n"] {
+            for before in ["", "%Y ", "%%%c"] {
+                self.add(format!("{before}{bad}"), "1934 x");
+            }
+        }
+        self.add("%M:%-d%Q", "8:5");
+        self.add("%M:%Q%-d", "8:5");
         for byte in (0..=255).filter(|b| *b != b'\n') {
             self.add([b'%', byte], "1");
             self.add([b'%', b'E', byte], "1");

@@ -8,7 +8,7 @@
 use crate::{cat, Counts};
 use compare::c_library;
 use compare::random::Random;
-use compare::rules::{month_length, write, Calendar, Moment, PAIRS};
+use compare::rules::{month_length, numeric, write, Calendar, Moment, NAMED, PAIRS};
 use std::fs;
 use std::path::Path;
 
@@ -16,7 +16,20 @@ use std::path::Path;
 const PLAIN: &[u8] = b"YGCygmdHMSeklIjuwUWVaAbBhpPt%DFRTcxXr";
 /// The bytes of a buffer, at most.
 const MOST: usize = 200;
+/// The bytes of the input that write_cases takes.
+const MOST_INPUT: usize = 300_000;
 const MORNING: Moment = [1934, 3, 5, 7, 8, 9];
+/// Moments with numbers of few digits and of many, with short names and long ones.
+const APART: [Moment; 3] = [MORNING, [7, 1, 1, 0, 0, 0], [2022, 9, 28, 12, 59, 60]];
+
+/// The flags that belong to a letter, none of them first.
+fn flags_of(letter: u8) -> &'static [&'static str] {
+    match letter {
+        l if NAMED.contains(&l) => &["", "^"],
+        l if numeric(l).is_some() => &["", "_", "-", "0"],
+        _ => &[],
+    }
+}
 
 struct Case {
     moment: Moment,
@@ -80,10 +93,10 @@ impl Cases<'_> {
         let every = moments(self.cal);
         let plain: Vec<String> = PLAIN.iter().map(|l| format!("%{}", *l as char)).collect();
         let pairs: Vec<String> = PAIRS.iter().map(|p| format!("%{p}")).collect();
-        // every conversion on every moment, several in a line
+        // every conversion on every moment, several in a line, and every pair on every fourth
         let lines = [plain[..30].join("|"), plain[30..].join("|"), pairs.join(" ")];
-        for m in &every {
-            for format in &lines {
+        for (place, m) in every.iter().enumerate() {
+            for format in if place % 4 == 0 { &lines[..] } else { &lines[..2] } {
                 self.add(*m, self.needed(m, format.as_bytes()) + 5, format);
             }
         }
@@ -112,6 +125,73 @@ impl Cases<'_> {
         for some in [0..=127, 128..=255] {
             let format: Vec<u8> = some.filter(|b| !b"%\n".contains(b)).collect();
             self.add(MORNING, MOST, format);
+        }
+    }
+
+    /// Flags and widths: each flag that a conversion takes, with no width and with widths about its own, and the widest.
+    fn columns(&mut self) {
+        let plain = PLAIN.iter().map(|l| (*l as char).to_string());
+        for tail in plain.chain(PAIRS.iter().map(|p| p.to_string())) {
+            let letter = tail.as_bytes()[tail.len() - 1];
+            for flag in flags_of(letter) {
+                for m in APART {
+                    let own = self.needed(&m, format!("%{tail}").as_bytes());
+                    let widths = ["".to_string(), "1".to_string(), own.to_string(), (own + 1).to_string()];
+                    let format = widths.map(|width| format!("%{flag}{width}{tail}")).join("|");
+                    let just = self.needed(&m, format.as_bytes());
+                    self.add(m, just + 2, &format);
+                    self.add(m, just - 1, &format);
+                }
+                let format = format!("%{flag}99{tail}");
+                let just = self.needed(&MORNING, format.as_bytes());
+                self.add(MORNING, just, &format);
+                self.add(MORNING, just - 1, &format);
+            }
+        }
+        for format in ["%_5d %^12A %-H", "%5m|%_5m", "%-d.%-m.%-Y %-k:%M", "%^p%^P%3p%_3H", "%010Y%_10Y%-10Y", "%c %^c", "%20c"] {
+            for m in APART {
+                self.add(m, 40, format);
+            }
+        }
+    }
+
+    /// Flags and widths that are refused: those of others, on composites and bytes, in another order, unfinished; and each byte after some.
+    fn refused_columns(&mut self) {
+        let plain = PLAIN.iter().map(|l| (*l as char).to_string());
+        for tail in plain.chain(["n", "Ec", "Ex", "EX", "Ey", "Od"].map(String::from)) {
+            let letter = tail.as_bytes()[tail.len() - 1];
+            for flag in ["_", "-", "0", "^"] {
+                if !flags_of(letter).contains(&flag) {
+                    self.add(MORNING, 20, format!("%{flag}{tail}"));
+                }
+            }
+            if flags_of(letter).is_empty() {
+                self.add(MORNING, 20, format!("%5{tail}"));
+            } else {
+                self.add(MORNING, 20, format!("%00{tail}"));
+                self.add(MORNING, 20, format!("%100{tail}"));
+            }
+        }
+        for bad in [
+            "%_", "%-", "%0", "%^", "%5", "%99", "%05", "%^5", "%5E", "%_O", "%-5E", "%5^a", "%_-d", "%-_d", "%__d", "%00d", "%005d",
+            "%_05d", "%^05a", "%100d", "%0100d", "%E5y", "%E_y", "%O-d", "%O5d", "%5EQ", "%^Ey", "%_Ec", "%5Oc", "%+d", "%#a", "%+5Y",
+            "%5 d", "%5%d", "%_%d", "%^5d", "%_5a", "%-5Q", "%5s", "%_N", "%5+",
+        ] {
+            for before in ["", "%5d%^a%%", "margin %_5e "] {
+                self.add(MORNING, 50, format!("{before}{bad}"));
+            }
+        }
+        // before 4 and after 2, and only the first
+        self.add(MORNING, 0, "%5d%^d%_a");
+        self.add([1934, 3, 32, 7, 8, 9], 20, "%5d%^d");
+        for head in ["%^", "%_5"] {
+            for byte in (0..=255).filter(|b| *b != b'\n') {
+                self.add(MORNING, 12, cat(&[head.as_bytes(), &[byte]]));
+            }
+        }
+        // formats of just 1,024 bytes: the longest writing, and a conversion that they cut
+        for format in [b"%99d".repeat(256), cat(&[&b"%-9d".repeat(255), b"x%_5"])] {
+            self.add(MORNING, MOST, &format);
         }
     }
 
@@ -147,7 +227,7 @@ impl Cases<'_> {
                 self.add(MORNING, 30, cat(&[head.as_bytes(), &[byte]]));
             }
         }
-        for bad in ["%", "%E", "%O", "%Ed", "%Oc", "%Q", "%5m", "%-d", "%_d", "%EE", "%OO", "%E%", "%s", "%z", "%Z", "%+", "%N", "%EQy"] {
+        for bad in ["%", "%E", "%O", "%Ed", "%Oc", "%Q", "%EE", "%OO", "%E%", "%s", "%z", "%Z", "%+", "%N", "%EQy"] {
             for before in ["", "x", "%%", "%d", "%Od%Ey", "margin %c ", &"%".repeat(40)] {
                 self.add(MORNING, MOST, format!("{before}{bad}"));
                 self.add(MORNING, 0, format!("{before}{bad} %Y"));
@@ -198,6 +278,8 @@ pub fn make(cal: &Calendar, input_path: &Path, output_path: &Path) -> std::io::R
     let mut cases = Cases { cal, all: Vec::new() };
     cases.written();
     cases.refused();
+    cases.columns();
+    cases.refused_columns();
     let (mut input, mut output) = (Vec::new(), Vec::new());
     let mut counts = Counts::default();
     for Case { moment: m, room, format } in &cases.all {
@@ -213,6 +295,7 @@ pub fn make(cal: &Calendar, input_path: &Path, output_path: &Path) -> std::io::R
         input.extend(cat(&[fields.join(" ").as_bytes(), format!(" {room} ").as_bytes(), format, b"\n"]));
         output.extend(cat(&[format!("{number} {place} [").as_bytes(), &buffer, b"]\n"]));
     }
+    assert!(input.len() <= MOST_INPUT, "{} bytes are more than write_cases takes", input.len());
     fs::write(input_path, &input)?;
     fs::write(output_path, &output)?;
     println!("write_cases: {} cases, {} and {} bytes", cases.all.len(), input.len(), output.len());

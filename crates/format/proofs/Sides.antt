@@ -1,0 +1,270 @@
+-- A format opened for the writer and for the reader: the two are the same, or the reader's ends at the first flag or width.
+-- Assumes nothing.
+use Prim.Native.Char.{code}
+use Prim.Native.Nat.{ℕ, zero, suc, _+_, _-_, _≤_, _<_}
+use mathlib.Core.Bool.{Bool, true, false, cond, _||_, and-eq-true-iff}
+use mathlib.Core.List.{List, [], _∷_, _++_, map, append-assoc}
+use mathlib.Core.Path.{_≡_, refl, ap}
+use native.Mathlib.Decide.{decLe}
+use native.Mathlib.Nat.{zero-add, lt-of-not-le}
+use native.Mathlib.Omega.{arith}
+use borrow.Author.Tests.{lt-leb, le-leb, eqb-true}
+use lib.Dec.{T, eqb}
+use lib.ListN.{length, getD, drop}
+use Rattle.laws.proofs.Cases.{either, picked, clash}
+use Rattle.laws.proofs.Table.{at}
+use Rattle.text.specs.Digits.{isDigit, digitRun, decimal}
+use Rattle.format.specs.Conversions.{Composite, among, isConversion, conversionOf, composites, formatOf, ownFormat}
+use Rattle.format.specs.Conversions.{computes as rows-compute}
+use Rattle.format.specs.Opening.{Ended, Opening, unstyled, conversionAt, conversion, flags, flagRun, widthRun, styleFrom, takesFlag}
+use Rattle.format.specs.Opening.{isUnstyled, withStyle, styled, signed, pieceOf, nothing, before, composed, acted, signAt}
+use Rattle.format.specs.Opening.{openFrom, compositeTo, openTo, opening, computes}
+use Rattle.format.specs.Opening.Ended.{Whole, BadAt}
+use Rattle.format.specs.declared.opening.Act.{Act}
+use Rattle.format.specs.declared.opening.Act.the-variants.{Byte, Convert, Open, Refuse}
+use Rattle.format.specs.declared.opening.Piece.{Piece}
+use Rattle.format.specs.declared.opening.Side.the-variants.{Writer, Reader}
+use Rattle.format.specs.declared.opening.Sign.the-variants.{Own, Of}
+use Rattle.format.specs.declared.opening.Style.{Style}
+use Rattle.format.proofs.Letters.{among-past}
+use Rattle.format.proofs.Pieces.{Unstyled, conversion-unstyled, Follows, follows}
+use Rattle.format.proofs.Styles.{flag-run, width-run}
+
+-- ---- a byte that begins a flag or a width begins no conversion
+
+abbrev begins : ℕ → Bool
+begins b = among b flags || isDigit b
+
+abbrev refuses : Act → Bool
+refuses (Byte b) = false
+refuses (Convert c y) = false
+refuses (Open c) = false
+refuses Refuse = true
+
+is-refused : (a : Act) → T (refuses a) → a ≡ Refuse
+is-refused (Byte b) t = absurd t
+is-refused (Convert c y) t = absurd t
+is-refused (Open c) t = absurd t
+is-refused Refuse t = refl
+
+begins-past : (b : ℕ) → 128 ≤ b → begins b ≡ false
+unfolding isDigit
+begins-past b h = rw (among-past 128 flags (unfold rows-compute flags in tt) b h, le-leb 48 b (omega arith), lt-leb b 57 (omega arith))
+
+begins-none : (b : ℕ) (s : List ℕ) → begins b ≡ true → conversion (b ∷ s) .act ≡ Refuse
+begins-none b s e =
+    elim (decLe 128 b) [
+      | yes h ↦ let f = begins-past b h in clash (cc)
+      | no h ↦
+          let test : ℕ → Bool = λ k. cond (begins k) (refuses (conversion (k ∷ s) .act)) true in
+          is-refused (conversion (b ∷ s) .act) (rw e at (at test 128 (unfold rows-compute computes in tt) b (lt-of-not-le h)))
+    ]
+
+-- ---- what stands first
+
+-- The writer's and the reader's: the same; refused by both; or a conversion with a flag or a width, which the reader refuses.
+data Pieces (w r : Piece) : Type 0 where
+  same : w ≡ r → Pieces w r
+  neither : w .act ≡ Refuse → r .act ≡ Refuse → Pieces w r
+  writer : (c : ℕ) (y : Style) → isUnstyled y ≡ false → isConversion c ≡ true → w .act ≡ Convert c y → r .act ≡ Refuse → Pieces w r
+
+-- nothing stands before the conversion
+no-style : (y : Style) → y ≡ unstyled → (a : Act) → Unstyled a → withStyle y a ≡ a
+unfolding withStyle isUnstyled takesFlag
+no-style y e (Byte b) u = rw e
+no-style y e (Convert c x) u = rw (e, u .1)
+no-style y e (Open c) u = rw e
+no-style y e Refuse u = refl
+
+module _ (b : ℕ) (s : List ℕ) where
+  no-flag : among b flags ≡ false → flagRun (b ∷ s) ≡ []
+  unfolding flagRun
+  no-flag e = rw e
+
+  no-width : isDigit b ≡ false → widthRun (b ∷ s) ≡ []
+  unfolding widthRun digitRun
+  no-width d = rw d (picked (λ (x : List ℕ). x ≡ []) (eqb b (code "0")) refl refl)
+
+  unmarked : begins b ≡ false → styled (b ∷ s) ≡ conversion (b ∷ s)
+  unfolding styled styleFrom decimal
+  unmarked e =
+      let p = conversion (b ∷ s) in
+      let f = no-flag (neither-of (among b flags) (isDigit b) e .0) in
+      let w = no-width (neither-of (among b flags) (isDigit b) e .1) in
+      rw (f, w, no-style unstyled refl (p .act) (conversion-unstyled (b ∷ s)), zero-add (p .length))
+    where
+      neither-of : (x y : Bool) → (x || y) ≡ false → (x ≡ false) × (y ≡ false)
+      neither-of false y e = (refl, e)
+      neither-of true y e = clash (cc)
+
+-- a flag or a width stands before what the reader refuses
+marked-with : (y : Style) (w r : Piece) → isUnstyled y ≡ false → r .act ≡ Refuse → (a : Act) → Unstyled a → w .act ≡ withStyle y a
+    → Pieces w r
+unfolding withStyle
+marked-with y w r e q (Byte b) u h = neither (rw e at h) q
+marked-with y w r e q (Convert c x) u h =
+    either (λ z. w .act ≡ z → Pieces w r) (takesFlag (y .flag) (conversionOf c .form)) (λ _ k. writer c y e (u .0) k q)
+    (λ _ k. neither k q)
+    h
+marked-with y w r e q (Open c) u h = neither (rw e at h) q
+marked-with y w r e q Refuse u h = neither h q
+
+module _ (s : List ℕ) (q : conversion s .act ≡ Refuse) where
+  abbrev flag : List ℕ
+  flag = flagRun s
+
+  abbrev width : List ℕ
+  width = widthRun (drop (length flag) s)
+
+  abbrev rest : List ℕ
+  rest = drop (length flag + length width) s
+
+  marked : Pieces (styled s) (conversion s)
+  unfolding styled isUnstyled styleFrom withStyle
+  marked = go (isUnstyled (styleFrom flag width)) refl
+    where
+      go : (t : Bool) → isUnstyled (styleFrom flag width) ≡ t → Pieces (styled s) (conversion s)
+      go true e =
+          let u = and-eq-true-iff (eqb (getD flag 0 0) 0) (eqb (decimal 0 width) 0) .0 e in
+          let n : length flag ≡ 0 = flag-run s .none (eqb-true (getD flag 0 0) 0 (u .0)) in
+          let m : length width ≡ 0 = width-run (drop (length flag) s) .none (eqb-true (decimal 0 width) 0 (u .1)) in
+          neither (rw (m, n, q)) q
+      go false e = marked-with (styleFrom flag width) (styled s) (conversion s) e q (conversion rest .act) (conversion-unstyled rest) refl
+
+pieces : (s : List ℕ) → Pieces (styled s) (conversion s)
+unfolding styled flagRun widthRun styleFrom withStyle conversion
+pieces [] = same refl
+pieces (b ∷ s) = go (begins b) refl
+  where
+    go : (t : Bool) → begins b ≡ t → Pieces (styled (b ∷ s)) (conversion (b ∷ s))
+    go true e = marked (b ∷ s) (begins-none b s e)
+    go false e = same (unmarked b s e)
+
+first : (b : ℕ) (s : List ℕ) → Pieces (pieceOf Writer b s) (pieceOf Reader b s)
+unfolding pieceOf signed
+first b s = go (eqb b (code "%")) refl
+  where
+    go : (t : Bool) → eqb b (code "%") ≡ t → Pieces (pieceOf Writer b s) (pieceOf Reader b s)
+    go true e = rw e (pieces s)
+    go false e = rw e (same refl)
+
+-- ---- a composite is opened alike for both
+
+own-alike : (f g : List ℕ → Opening) (c : ℕ) (xs : List Composite)
+    → map (λ (x : Composite). f (x .format)) xs ≡ map (λ (x : Composite). g (x .format)) xs → f [] ≡ g []
+    → f (formatOf c xs) ≡ g (formatOf c xs)
+unfolding formatOf
+own-alike f g c [] e n = n
+own-alike f g c (x ∷ xs) e n =
+    let more : map (λ (x : Composite). f (x .format)) xs ≡ map (λ (x : Composite). g (x .format)) xs = cc in
+    picked (λ (s : List ℕ). f s ≡ g s) (eqb c (x .letter)) (cc) (own-alike f g c xs more n)
+
+composites-alike : (sign c : ℕ) → compositeTo Writer 2 sign c ≡ compositeTo Reader 2 sign c
+unfolding compositeTo ownFormat
+composites-alike sign c =
+    own-alike (λ s. openFrom Writer (compositeTo Writer 1) (Of sign) 0 0 s) (λ s. openFrom Reader (compositeTo Reader 1) (Of sign) 0 0 s) c
+    composites
+    (unfold rows-compute computes in refl)
+    (unfold computes in refl)
+
+-- ---- the whole format
+
+-- the reader's opening ends at a conversion with a flag or a width, whose % is followed by a byte within n, and the writer's goes on
+pub record Apart (n : ℕ) (w r : Opening) : Type 0 where
+  pub sign : ℕ
+  pub style : Style
+  pub letter : ℕ
+  pub more : List ℕ
+  pub within : sign + 1 < n
+  pub styled : isUnstyled style ≡ false
+  pub known : isConversion letter ≡ true
+  pub width : style .width ≤ 99
+  pub ended : r .ended ≡ BadAt sign
+  pub elements : w .elements ≡ r .elements ++ (conversionAt sign style letter ∷ more)
+
+pub data Sides (n : ℕ) (w r : Opening) : Type 0 where
+  together : w ≡ r → Sides n w r
+  apart : Apart n w r → Sides n w r
+
+sides-before : (n : ℕ) (e : List ℕ) {w r : Opening} → Sides n w r → Sides n (before e w) (before e r)
+unfolding before
+sides-before n e (together q) = together (ap (before e) q)
+sides-before n e {w} {r} (apart a) =
+    apart (record {
+      sign = a .sign;
+      style = a .style;
+      letter = a .letter;
+      more = a .more;
+      within = a .within;
+      styled = a .styled;
+      known = a .known;
+      width = a .width;
+      ended = a .ended;
+      elements = rw append-assoc (ap (λ (x : List ℕ). e ++ x) (a .elements));
+    })
+
+sides-composed : (n : ℕ) (e : List ℕ) (d : Ended) {w r : Opening} → Sides n w r
+    → Sides n (composed (record { elements = e; ended = d }) w) (composed (record { elements = e; ended = d }) r)
+unfolding composed
+sides-composed n e Whole h = sides-before n e h
+sides-composed n e (BadAt p) h = together refl
+
+acted-sides : (n sign : ℕ) {w r : Opening} → Sides n w r → (a : Act)
+    → Sides n (acted (compositeTo Writer 2) sign w a) (acted (compositeTo Reader 2) sign r a)
+unfolding acted
+acted-sides n sign h (Byte b) = sides-before n (b ∷ []) h
+acted-sides n sign h (Convert c y) = sides-before n (conversionAt sign y c ∷ []) h
+acted-sides n sign h (Open c) =
+    let o = compositeTo Reader 2 sign c in
+    rw (composites-alike sign c) (sides-composed n (o .elements) (o .ended) h)
+acted-sides n sign h Refuse = together refl
+
+-- what stands first, whose % is at `sign` with m bytes after it, before the rest, which begins where it ends
+turn : (n m sign : ℕ) → (1 ≤ m → sign + 1 < n) → (w r : ℕ → Opening) → ((k : ℕ) → Sides n (w k) (r k)) → (p q : Piece)
+    → Follows m (p .length) (p .act) → Pieces p q
+    → Sides n (acted (compositeTo Writer 2) sign (w (p .length - 1)) (p .act))
+    (acted (compositeTo Reader 2) sign (r (q .length - 1)) (q .act))
+unfolding acted before nothing
+turn n m sign l w r h p q f (same e) = rw e (acted-sides n sign (h (q .length - 1)) (q .act))
+turn n m sign l w r h p q f (neither a b) = rw (a, b) (together refl)
+turn n m sign l w r h p q f (writer c y u k a b) =
+    let v : Follows m (p .length) (Convert c y) = rw a at f in
+    rw (a, b)
+    (apart (record {
+      sign = sign;
+      style = y;
+      letter = c;
+      more = w (p .length - 1) .elements;
+      within = l (v .0);
+      styled = u;
+      known = k;
+      width = v .2 .width;
+      ended = refl;
+      elements = refl;
+    }))
+
+open-sides : (n : ℕ) (s : List ℕ) (i past : ℕ) → i + length s ≤ n
+    → Sides n (openFrom Writer (compositeTo Writer 2) Own i past s) (openFrom Reader (compositeTo Reader 2) Own i past s)
+unfolding openFrom signAt
+open-sides n [] i past h = together refl
+open-sides n (b ∷ s) i (suc past) h = open-sides n s (i + 1) past (omega arith)
+open-sides n (b ∷ s) i zero h =
+    turn n (length s) i (λ m. omega arith) (λ k. openFrom Writer (compositeTo Writer 2) Own (i + 1) k s)
+    (λ k. openFrom Reader (compositeTo Reader 2) Own (i + 1) k s)
+    (λ k. open-sides n s (i + 1) k (omega arith))
+    (pieceOf Writer b s)
+    (pieceOf Reader b s)
+    (follows Writer b s)
+    (first b s)
+
+pub sides : (f : List ℕ) → Sides (length f) (opening Writer f) (opening Reader f)
+unfolding opening openTo
+sides f = open-sides (length f) f 0 0 (omega arith)
+
+-- a format that opens whole for the reader opens alike for the writer
+pub same-opening : (f : List ℕ) → opening Reader f .ended ≡ Whole → opening Writer f ≡ opening Reader f
+same-opening f e = go (sides f)
+  where
+    go : Sides (length f) (opening Writer f) (opening Reader f) → opening Writer f ≡ opening Reader f
+    go (together q) = q
+    go (apart a) = let g = a .ended in clash (cc)
