@@ -10,7 +10,11 @@ int main(int count, char **words)
     static char out[LARUSQEM_WIDEST];
     struct larusqem_moment day = {0, 0, 0, 0, 0, 0};
 
-    while (count == 2 && scanf("%" SCNu32 "-%" SCNu32 "-%" SCNu32, &day.year, &day.month, &day.day) == 3) {
+    if (count != 2) {
+        fprintf(stderr, "usage: label FORMAT\n");
+        return 1;
+    }
+    while (scanf("%" SCNu32 "-%" SCNu32 "-%" SCNu32, &day.year, &day.month, &day.day) == 3) {
         struct larusqem_answer written = larusqem_strftime(words[1], strlen(words[1]), day, out, sizeof out);
 
         if (written.number != LARUSQEM_DONE) {
@@ -20,5 +24,9 @@ int main(int count, char **words)
         fwrite(out, 1, written.place, stdout);
         putchar('\n');
     }
-    return count != 2;
+    if (!feof(stdin)) {
+        fprintf(stderr, "label: what follows is no date\n");
+        return 1;
+    }
+    return 0;
 }

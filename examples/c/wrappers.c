@@ -186,7 +186,8 @@ static void limits(void)
     CHECK(answers(larusqem_strftime(format, sizeof format, moment, out, LARUSQEM_WIDEST - 1), LARUSQEM_BUFFER_TOO_SMALL, LARUSQEM_WIDEST));
     CHECK(untouched(0));
     CHECK(answers(larusqem_strftime(format, sizeof format, moment, out, sizeof out), LARUSQEM_DONE, LARUSQEM_WIDEST));
-    for (i = 0; i < sizeof out && out[i] == (i % 99 == 98 ? '5' : '0');)
+    i = 0;
+    while (i < sizeof out && out[i] == (i % 99 == 98 ? '5' : '0'))
         i++;
     CHECK(i == LARUSQEM_WIDEST);
 }
