@@ -24,6 +24,9 @@
  *   %n %t %%, which are a newline, a tab and the sign
  *   %c %x %X %D %F %R %T %r, composites of the others
  *   %Ec %EC %Ex %EX %Ey %EY %Od %Oe %OH %OI %Om %OM %OS %Ou %OU %OV %Ow %OW %Oy, which mean the plain conversion.
+ * The writer takes a flag and a width, 1 to 99, after the %, and the reader neither. A number is filled on the left with blanks by _, with
+ * zeros by 0, not at all by -, else with its own fill; a name, %p or %P with blanks, and ^ makes it capitals. Nothing is cut. So the label
+ * %_3d%^11B%_6Y has columns of 3, 11 and 6 places: 1934-03-05 is "  5      MARCH  1934" (RULES 4.4 and RULES 5).
  *
  * White space is the bytes 9 to 13 and 32, as for isspace() in the POSIX locale. To the reader each such byte of a format, and so %n and
  * %t, takes all the white space that stands at its place in the text, or none. A number skips white space before it; a name does not. Any
@@ -45,8 +48,8 @@ extern "C" {
 #define LARUSQEM_LONGEST 1024
 /* the most elements that a format opens to: 13 for two bytes, as %c does */
 #define LARUSQEM_ELEMENTS 6656
-/* the bytes of a buffer that is enough for every writing: 9 for each element. By a format as it stands 12,288 are enough, 512 times %c. */
-#define LARUSQEM_WIDEST 59904
+/* the bytes of a buffer that is enough for every writing by a format, or by the elements that it opens to: 256 times %99d has as many */
+#define LARUSQEM_WIDEST 25344
 /* the words of a moment and of a reading, for the functions on words */
 #define LARUSQEM_MOMENT_WORDS 6
 #define LARUSQEM_READING_WORDS 15
@@ -59,7 +62,8 @@ extern "C" {
  *   1    format over 1,024 bytes             0
  *   2    moment not valid                    first bad field: 1 year, 2 month, 3 day,
  *                                            4 hour, 5 minute, 6 second
- *   3    unknown or unfinished conversion    offset of the first bad % in the format
+ *   3    conversion unknown or unfinished,   offset of the first bad % in the format
+ *        or its flag or width not taken
  *   4    output longer than the buffer       bytes needed
  *   5    text over 1,024 bytes               0
  *   6    text does not match                 text offset
@@ -97,7 +101,7 @@ static inline const char *larusqem_sentence(uint32_t number)
     case LARUSQEM_BAD_MOMENT:
         return "the moment is not valid";
     case LARUSQEM_BAD_CONVERSION:
-        return "a conversion of the format is unknown or unfinished";
+        return "a conversion of the format is unknown or unfinished, or its flag or width is not taken";
     case LARUSQEM_BUFFER_TOO_SMALL:
         return "the output is longer than the buffer";
     case LARUSQEM_TEXT_TOO_LONG:
@@ -177,13 +181,15 @@ struct larusqem_reading {
 /* ---- The functions of the library, on words
  *
  * They are what is proved; the functions below hand them structs. As these they take a moment and leave a reading, as words in the order of
- * the members, all of which are written. Every result is number * 2^32 + place (larusqem_answer_of takes it apart). No pointer may be NULL.
+ * the members, all of which are written. A format is opened for reading by 0, and for writing by any other number. Every result is
+ * number * 2^32 + place (larusqem_answer_of takes it apart). No pointer may be NULL.
  */
 uint64_t larusqem_strftime_words(const uint8_t *format, size_t format_length, const uint32_t moment[LARUSQEM_MOMENT_WORDS], uint8_t *out,
                                  size_t out_length);
 uint64_t larusqem_strptime_words(const uint8_t *format, size_t format_length, const uint8_t *text, size_t text_length,
                                  uint32_t reading[LARUSQEM_READING_WORDS]);
-uint64_t larusqem_open_words(const uint8_t *format, size_t format_length, uint32_t *elements, size_t elements_length);
+uint64_t larusqem_open_words(const uint8_t *format, size_t format_length, uint32_t for_writing, uint32_t *elements,
+                             size_t elements_length);
 uint64_t larusqem_write_words(const uint32_t *elements, size_t elements_length, const uint32_t moment[LARUSQEM_MOMENT_WORDS], uint8_t *out,
                               size_t out_length);
 uint64_t larusqem_read_words(const uint32_t *elements, size_t elements_length, const uint8_t *text, size_t text_length,
@@ -274,29 +280,39 @@ static inline struct larusqem_reading larusqem_strptime(const char *format, size
 /* ---- Formats opened once (RULES 10)
  *
  * An element of an opened format is a number. A byte stands for itself; %n, %t and %% open to the bytes 10, 9 and 37. A conversion is
- * 256 * (p + 1) + its letter, one of
+ *   letter + 256 * (p + 1) + 2^18 * width + 2^25 * flag
+ * with a letter of
  *   Y C y m b h B d e j u w a A U W G g V H k I l p P M S
- * where p is the offset of its % in the format. Composites are opened: their conversions have the p of the composite. No opening makes any
- * other entry, nor one of 2^18 or more, nor an entry past the first LARUSQEM_ELEMENTS.
+ * where p is the offset of its % in the format, 0 to 1022, and where a width, 1 to 99, or a flag's byte, _ - 0 or ^ as belongs to the
+ * letter, is 0 if there is none. Composites are opened: their conversions have the p of the composite. No other entry is an element, nor
+ * is any past the first LARUSQEM_ELEMENTS. The elements for reading are those below 2^18, with neither width nor flag.
  */
 
+/* what a format is opened for: flags and widths are taken for writing, and refused for reading */
+enum larusqem_use {
+    LARUSQEM_FOR_READING = 0,
+    LARUSQEM_FOR_WRITING = 1
+};
+
 /*
- * Opens a format into elements, once, for any number of calls of larusqem_write and larusqem_read. LARUSQEM_ELEMENTS entries are enough for
- * every format, and 13 for every two bytes of this one. Answers, judged in this order: 1 with 0; 3 with the offset of the first bad %;
- * 4 with the number of elements where they do not all fit; 0 with their number. On 0 and 4 the elements are stored, on 3 those before the
- * bad %, each as many as fit, and on 1 none. Every other entry is as it came.
+ * Opens a format into elements, once, for any number of calls of larusqem_write, and of larusqem_read where it is opened for reading.
+ * Without flags and widths it opens to the same for both. LARUSQEM_ELEMENTS entries are enough for every format, and 13 for every two
+ * bytes of this one. Answers, judged in this order: 1 with 0; 3 with the offset of the first bad %; 4 with the number of elements where
+ * they do not all fit; 0 with their number. On 0 and 4 the elements are stored, on 3 those before the bad %, each as many as fit, and on 1
+ * none. Every other entry is as it came.
  */
-static inline struct larusqem_answer larusqem_open(const char *format, size_t format_length, uint32_t *elements, size_t elements_length)
+static inline struct larusqem_answer larusqem_open(const char *format, size_t format_length, enum larusqem_use use, uint32_t *elements,
+                                                   size_t elements_length)
 {
     uint32_t none = 0;
 
-    return larusqem_answer_of(
-        larusqem_open_words(larusqem_bytes(format, format_length), format_length, elements_length ? elements : &none, elements_length));
+    return larusqem_answer_of(larusqem_open_words(larusqem_bytes(format, format_length), format_length, (uint32_t)use,
+                                                  elements_length ? elements : &none, elements_length));
 }
 
 /*
  * As larusqem_strftime, by elements that larusqem_open stored. Answers, judged in this order: 2 with the first bad field; 3 with the index
- * of the first entry that no opening makes; 4 with the bytes needed; 0 with the bytes written.
+ * of the first entry that is no element; 4 with the bytes needed; 0 with the bytes written.
  */
 static inline struct larusqem_answer larusqem_write(const uint32_t *elements, size_t elements_length, struct larusqem_moment moment,
                                                     char *out, size_t out_length)
@@ -308,7 +324,10 @@ static inline struct larusqem_answer larusqem_write(const uint32_t *elements, si
                                                    out_length ? (uint8_t *)out : &none, out_length));
 }
 
-/* As larusqem_strptime, by elements that larusqem_open stored. Answers 0, 3 or 5 to 10: 5, then 3 as larusqem_write, then the others. */
+/*
+ * As larusqem_strptime, by elements that larusqem_open stored. Answers 0, 3 or 5 to 10: 5, then 3, then the others. 3 is for the first
+ * entry that is no element for reading; its place is the p of an element that has a width or a flag, and otherwise the entry's index.
+ */
 static inline struct larusqem_reading larusqem_read(const uint32_t *elements, size_t elements_length, const char *text, size_t text_length)
 {
     struct larusqem_reading reading;

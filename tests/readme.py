@@ -1,9 +1,9 @@
 #!/usr/bin/env python3
-"""Runs the examples of README: python3 tests/readme.py PROGRAM
+"""Runs the examples of README: python3 tests/readme.py PROGRAM PREFIX
 
-A block ```text FILE is examples/FILE. A block ```sh that a block ```text follows is run by bash in a copy of examples/, with PROGRAM as
-date_lines, and must write what that block says. A row of a text, a format and a date is read so. The recipe for a long list is run on one
-made here, and its report looked at line by line.
+A block ```text FILE or ```c FILE is examples/FILE. A block ```sh that a block ```text follows is run by bash in a copy of examples/, with
+PROGRAM as date_lines and the library that is installed under PREFIX, and must write what that block says. A row of a text, a format and a
+date is read so. The recipe for a long list is run on one made here, and its report looked at line by line.
 """
 import datetime
 import os
@@ -34,8 +34,9 @@ def long_list(folder):
     return "".join("0 11 %s --:--:--\n" % day for day in days)
 
 
-def main(program):
+def main(program, prefix):
     failed = count = 0
+    library = os.path.join(os.path.abspath(prefix), "lib")
     with open(os.path.join(ROOT, "README.md"), encoding="utf-8") as file:
         found = blocks(file.read())
     with tempfile.TemporaryDirectory() as folder:
@@ -44,9 +45,10 @@ def main(program):
         os.symlink(os.path.abspath(program), os.path.join(folder, "bin", "date_lines"))
         expected_report = long_list(folder)
         env = dict(os.environ, PATH=os.path.join(folder, "bin") + ":" + os.environ["PATH"], LC_ALL="C")
+        env.update(PKG_CONFIG_PATH=os.path.join(library, "pkgconfig"), LD_LIBRARY_PATH=library)
         for (kind, text), (next_kind, expected) in zip(found, found[1:] + [("", "")]):
             words = kind.split()
-            if words[:1] == ["text"] and len(words) == 2:
+            if len(words) == 2 and words[0] in ("text", "c"):
                 with open(os.path.join(EXAMPLES, words[1]), encoding="utf-8") as file:
                     right, written = text == file.read(), "another file"
             elif kind == "sh" and next_kind == "text":
@@ -71,6 +73,6 @@ def main(program):
 
 
 if __name__ == "__main__":
-    if len(sys.argv) != 2 or not os.access(sys.argv[1], os.X_OK):
-        sys.exit("usage: python3 tests/readme.py PROGRAM")
-    sys.exit(main(sys.argv[1]))
+    if len(sys.argv) != 3 or not os.access(sys.argv[1], os.X_OK):
+        sys.exit("usage: python3 tests/readme.py PROGRAM PREFIX")
+    sys.exit(main(*sys.argv[1:]))

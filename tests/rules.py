@@ -1,9 +1,12 @@
 #!/usr/bin/env python3
-"""Runs the readings that docs/RULES.md shows: python3 tests/rules.py PROGRAM
+"""Runs the readings and writings that docs/RULES.md shows: python3 tests/rules.py PROGRAM PREFIX
 
 Each row of its tables of texts, formats and answers is run as a list of one text; the number, the place and, with 0, the date must be the
-program's. The input and the report of the section on the program must be what the program makes of it.
+program's. The input and the report of the section on the program must be what the program makes of it. Each row of its table of moments,
+formats and answers is run by the library that is installed under PREFIX; all of the buffer must be as the row says.
 """
+import ctypes
+import itertools
 import os
 import re
 import subprocess
@@ -11,32 +14,77 @@ import sys
 
 ROOT = os.path.dirname(os.path.dirname(os.path.abspath(__file__)))
 ROW = r"(?m)^\| (`[^|]*`|any text[^|`]*?)(?: \*)? \| (`[^|]*`|empty) \| (\d+), place (\d+)([^|\n]*)"
+BLANKS = {"": 0, "a blank and ": 1, "two blanks and ": 2, "three blanks and ": 3, "seven blanks and ": 7}
 
 
-def written(program, text):
+def rows(rules, head):
+    """The rows of all tables whose first columns are these."""
+    tables = re.findall(rf"(?m)^{re.escape(head)} .*\n\|[-|]*\n((?:\|.*\n)*)", rules)
+    return [row for table in tables for row in table.splitlines()]
+
+
+def reported(program, text):
     return subprocess.run([program], input=text.encode(), capture_output=True, check=True).stdout.decode()
 
 
-def main(program):
-    with open(os.path.join(ROOT, "docs", "RULES.md"), encoding="utf-8") as file:
-        rules = file.read()
-    tried = [(*re.search(r"(?ms)^The input\n\n```\n(.*?)^```\n\ngets the report\n\n```\n(.*?)^```$", rules).groups(),)]
+def readings(rules):
+    """Lists, each with its report."""
+    yield re.search(r"(?ms)^The input\n\n```\n(.*?)^```\n\ngets the report\n\n```\n(.*?)^```$", rules).groups()
     for text, form, number, place, rest in re.findall(ROW, rules):
         text, form = (quoted[1:-1] if quoted[0] == "`" else "" for quoted in (text, form))
         date = re.search(r"\d{4}-\d\d-\d\d", rest) if number == "0" else None
-        tried.append((f"{form}\n{text}\n", f"number place date time\n{number} {place} {date.group() if date else '-'} --:--:--\n"))
-    wrong = [(text, expected) for text, expected in tried if written(program, text) != expected]
-    for text, expected in wrong:
-        print(f"docs/RULES.md says of\n{text}that the report is\n{expected}and it is\n{written(program, text)}")
-    print(f"{len(tried)} readings of docs/RULES.md tried, {len(wrong)} not as it says")
-    tables = re.findall(r"(?m)^\| text \| format \| answer .*\n\|[-|]*\n((?:\|.*\n)*)", rules)
-    if len(tried) != 1 + sum(table.count("\n") for table in tables):
+        yield f"{form}\n{text}\n", f"number place date time\n{number} {place} {date.group() if date else '-'} --:--:--\n"
+
+
+def written(library, form, moment, room):
+    """The number, the place and the buffer, of which each byte was a #."""
+    buffer = ctypes.create_string_buffer(b"#" * room, room)
+    fields = (ctypes.c_uint32 * 6)(*moment)
+    result = library.larusqem_strftime_words(form.encode(), ctypes.c_size_t(len(form)), fields, buffer, ctypes.c_size_t(room))
+    return result >> 32, result & 0xFFFFFFFF, buffer.raw.decode()
+
+
+def writings(rules):
+    """A format, a moment and the bytes of a buffer, each with the number, the place and the buffer that they get."""
+    moments = []
+    for row in rows(rules, "| moment | format | answer"):
+        given, formats, answer = row.strip("|").split("|")
+        if "the same" not in given:
+            dates = re.findall(r"(\d+)-(\d+)-(\d+)(?: (\d+):(\d+):(\d+))?", given) or [("1", "1", "1", "", "", "")]
+            moments = [[int(field or 0) for field in date] for date in dates]
+        asked = list(itertools.product(moments, re.findall(r"`([^`]*)`", formats) or [""]))
+        room = int((re.search(r"a buffer of (\d+) bytes", given) or [0, 64])[1])
+        refused = re.search(r"([1-9]\d*), place (\d+)", answer)
+        texts = [" " * BLANKS[blanks] + text for blanks, text in re.findall(r"((?:\w+ blanks? and )?)`([^`]*)`", answer)] or [""]
+        if refused:
+            answers = [(int(refused[1]), int(refused[2]), "#" * room)] * len(asked)
+        else:
+            answers = [(0, len(text), text.ljust(room, "#")) for text in texts]
+            place = re.search(r"0, place (\d+)", answer)
+            if len(answers) != len(asked) or place and int(place[1]) != len(texts[0]):
+                sys.exit(f"docs/RULES.md has a row of a moment, a format and an answer that was not understood: {row}")
+        yield from (((form, moment, room), given) for (moment, form), given in zip(asked, answers))
+
+
+def main(program, prefix):
+    with open(os.path.join(ROOT, "docs", "RULES.md"), encoding="utf-8") as file:
+        rules = file.read()
+    library = ctypes.CDLL(os.path.join(os.path.abspath(prefix), "lib", "liblarusqem.so"))
+    library.larusqem_strftime_words.restype = ctypes.c_uint64
+    read, wrote = list(readings(rules)), list(writings(rules))
+    wrong = [(text, expected, reported(program, text)) for text, expected in read]
+    wrong += [(asked, expected, written(library, *asked)) for asked, expected in wrote]
+    wrong = [case for case in wrong if case[1] != case[2]]
+    for asked, expected, got in wrong:
+        print(f"docs/RULES.md says of\n{asked}\nthat the answer is\n{expected}\nand it is\n{got}")
+    print(f"{len(read)} readings and {len(wrote)} writings of docs/RULES.md tried, {len(wrong)} not as it says")
+    if len(read) != 1 + len(rows(rules, "| text | format | answer")) or not wrote:
         print("docs/RULES.md has a row of a text, a format and an answer that was not understood")
         return 1
     return 1 if wrong else 0
 
 
 if __name__ == "__main__":
-    if len(sys.argv) != 2 or not os.access(sys.argv[1], os.X_OK):
-        sys.exit("usage: python3 tests/rules.py PROGRAM")
-    sys.exit(main(sys.argv[1]))
+    if len(sys.argv) != 3 or not os.access(sys.argv[1], os.X_OK):
+        sys.exit("usage: python3 tests/rules.py PROGRAM PREFIX")
+    sys.exit(main(*sys.argv[1:]))

@@ -70,21 +70,45 @@ static void read_one(const char *format, const char *text)
     print_reading(text, larusqem_strptime(format, strlen(format), text, strlen(text)));
 }
 
-/* A format is opened once, then used for many lines. */
-static void read_list(const char *format, const char *const *texts, size_t count)
+/* A format is opened once, then used for many lines: how many elements it has, 0 where it is refused. */
+static uint32_t open_one(const char *format, enum larusqem_use use, uint32_t elements[LARUSQEM_ELEMENTS])
 {
-    static uint32_t elements[LARUSQEM_ELEMENTS];
-    struct larusqem_answer opened = larusqem_open(format, strlen(format), elements, LARUSQEM_ELEMENTS);
+    struct larusqem_answer opened = larusqem_open(format, strlen(format), use, elements, LARUSQEM_ELEMENTS);
 
-    printf("open \"%s\": ", format);
+    printf("open \"%s\" for %s: ", format, use == LARUSQEM_FOR_WRITING ? "writing" : "reading");
     if (opened.number != LARUSQEM_DONE) {
         print_refusal(opened.number, opened.place);
         printf("\n");
-        return;
+        return 0;
     }
     printf("%" PRIu32 " elements\n", opened.place);
-    for (size_t i = 0; i < count; i++)
-        print_reading(texts[i], larusqem_read(elements, opened.place, texts[i], strlen(texts[i])));
+    return opened.place;
+}
+
+static void read_list(const char *format, const char *const *texts, size_t count)
+{
+    static uint32_t elements[LARUSQEM_ELEMENTS];
+    uint32_t length = open_one(format, LARUSQEM_FOR_READING, elements);
+
+    for (size_t i = 0; length != 0 && i < count; i++)
+        print_reading(texts[i], larusqem_read(elements, length, texts[i], strlen(texts[i])));
+}
+
+static void write_labels(const char *format, const struct larusqem_moment *moments, size_t count)
+{
+    static uint32_t elements[LARUSQEM_ELEMENTS];
+    static char out[LARUSQEM_WIDEST];
+    uint32_t length = open_one(format, LARUSQEM_FOR_WRITING, elements);
+
+    for (size_t i = 0; length != 0 && i < count; i++) {
+        struct larusqem_answer written = larusqem_write(elements, length, moments[i], out, sizeof out);
+
+        if (written.number == LARUSQEM_DONE)
+            printf("|%.*s|", (int)written.place, out);
+        else
+            print_refusal(written.number, written.place);
+        printf("\n");
+    }
 }
 
 int main(void)
@@ -93,6 +117,7 @@ int main(void)
     struct larusqem_moment spring = {1934, 3, 5, 7, 8, 9};
     struct larusqem_moment new_year = {2017, 1, 1, 0, 0, 0};
     struct larusqem_moment no_day = {1900, 2, 29, 0, 0, 0};
+    struct larusqem_moment labels[] = {{1934, 3, 5, 7, 8, 9}, {1934, 11, 30, 12, 0, 0}, {987, 9, 1, 23, 59, 60}};
     uint32_t number = larusqem_day_number(1934, 3, 5);
     struct larusqem_date next = larusqem_date_of(number + 1);
 
@@ -111,6 +136,10 @@ int main(void)
 
     read_list("%d %b %Y %H:%M", margins, sizeof margins / sizeof *margins);
     read_list("%d %b %Q", margins, 1);
+    read_list("%_3d%^11B%_6Y", margins, 1);
+    write_labels("%_3d%^11B%_6Y", labels, sizeof labels / sizeof *labels);
+    write_labels("%-d.%-m.%-Y, %-I %^P", labels, sizeof labels / sizeof *labels);
+    write_labels("%d %5c", labels, 1);
 
     printf("1934-03-05 is day %" PRIu32 " of the calendar and %" PRIu32 " of its year,", number, larusqem_day_of_year(1934, 3, 5));
     printf(" weekday %" PRIu32 " of week %" PRIu32, larusqem_weekday(1934, 3, 5), larusqem_iso_week(1934, 3, 5));

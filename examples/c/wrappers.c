@@ -41,7 +41,7 @@ static struct larusqem_answer write_by(const char *format, struct larusqem_momen
 
 static struct larusqem_answer write_opened(const char *format, struct larusqem_moment m, size_t room)
 {
-    struct larusqem_answer opened = larusqem_open(format, strlen(format), elements, LARUSQEM_ELEMENTS);
+    struct larusqem_answer opened = larusqem_open(format, strlen(format), LARUSQEM_FOR_WRITING, elements, LARUSQEM_ELEMENTS);
 
     fresh();
     return larusqem_write(elements, opened.place, m, out, room);
@@ -85,32 +85,111 @@ static void writing(void)
     CHECK(answers(larusqem_write(elements, 2, moment, out, sizeof out), LARUSQEM_BAD_CONVERSION, 1));
 }
 
+/* the number of a conversion whose % has the offset p */
+static uint32_t styled(char letter, uint32_t p, uint32_t width, char flag)
+{
+    return (uint32_t)letter + 256 * (p + 1) + (1u << 18) * width + (1u << 25) * (uint32_t)flag;
+}
+
+/* a format with the text that it writes, both ways */
+static void writes(const char *format, const char *text, int line)
+{
+    uint32_t length = (uint32_t)strlen(text);
+
+    check(answers(write_by(format, moment, sizeof out), LARUSQEM_DONE, length) && memcmp(out, text, length) == 0, format, line);
+    check(untouched(length), format, line);
+    check(answers(write_opened(format, moment, length), LARUSQEM_DONE, length) && memcmp(out, text, length) == 0, format, line);
+    check(untouched(length), format, line);
+}
+
+static void flags_and_widths(void)
+{
+    static const char *const bad[] = {"%00d", "%100d", "%5^a",  "%_-d", "%E5y", "%E_y", "%5",  "%_",  "%5E", "%^d",
+                                      "%_a",  "%-B",   "%0p",   "%5c",  "%^x",  "%-D",  "%5n", "%0t", "%5%", "%_5Ed"};
+    static const char *const taken[] = {"%5m", "%_m", "%-d", "%0e", "%^a", "%3p", "%^P", "%_5Ey", "%-Od"};
+    const uint32_t columns[4] = {256 * 1 + 'H', styled('d', 2, 3, '_'), styled('B', 6, 11, '^'), styled('Y', 11, 0, '-')};
+    /* a width over 99, no flag, no flag of a number, none of a name, no %, no letter */
+    const uint32_t none[6] = {styled('d', 0, 100, 0),  styled('d', 0, 5, '+'), styled('d', 0, 0, '^'),
+                              styled('a', 0, 5, '_'), (1u << 18) * 5 + 'd',   styled('%', 0, 5, 0)};
+    struct larusqem_reading r;
+    size_t i;
+
+    writes("%5m %_5m %-5m %05m", "00003     3 3 00003", __LINE__);
+    writes("%-d|%_d|%0e|%1e|%3e|%010Y|%2Y", "5| 5|05| 5|  5|0000001934|1934", __LINE__);
+    writes("%3u %_3w %-H:%M", "001   1 7:08", __LINE__);
+    writes("%^a|%12B|%^12B|%2B|%P|%^P|%4P|%^4p", "MON|       March|       MARCH|March|am|AM|  am|  AM", __LINE__);
+    writes("%_5Ey|%-Oe", "   34|5", __LINE__);
+    writes("%_3d%^11B%_6Y", "  5      MARCH  1934", __LINE__);
+    for (i = 0; i < sizeof bad / sizeof *bad; i++) {
+        CHECK(answers(write_by(bad[i], moment, sizeof out), LARUSQEM_BAD_CONVERSION, 0) && untouched(0));
+        CHECK(answers(larusqem_open(bad[i], strlen(bad[i]), LARUSQEM_FOR_WRITING, elements, 8), LARUSQEM_BAD_CONVERSION, 0));
+        r = larusqem_strptime(bad[i], strlen(bad[i]), "5", 1);
+        CHECK(r.number == LARUSQEM_BAD_CONVERSION && r.place == 0);
+    }
+    for (i = 0; i < sizeof taken / sizeof *taken; i++) {
+        CHECK(write_by(taken[i], moment, sizeof out).number == LARUSQEM_DONE);
+        CHECK(answers(larusqem_open(taken[i], strlen(taken[i]), LARUSQEM_FOR_WRITING, elements, 8), LARUSQEM_DONE, 1));
+        CHECK(answers(larusqem_open(taken[i], strlen(taken[i]), LARUSQEM_FOR_READING, elements, 8), LARUSQEM_BAD_CONVERSION, 0));
+        r = larusqem_strptime(taken[i], strlen(taken[i]), "5", 1);
+        CHECK(r.number == LARUSQEM_BAD_CONVERSION && r.place == 0);
+    }
+    CHECK(larusqem_open_words((const uint8_t *)"%_3d", 4, UINT32_MAX, elements, 8) == 1 && elements[0] == styled('d', 0, 3, '_'));
+
+    elements[4] = 77;
+    CHECK(answers(larusqem_open("%H%_3d%^11B%-Y", 14, LARUSQEM_FOR_WRITING, elements, 8), LARUSQEM_DONE, 4));
+    CHECK(memcmp(elements, columns, sizeof columns) == 0 && elements[4] == 77);
+    CHECK(answers(larusqem_open("%H%_3d%^11B%-Y", 14, LARUSQEM_FOR_READING, elements, 8), LARUSQEM_BAD_CONVERSION, 2));
+    r = larusqem_strptime("%H%_3d", 6, "07  5", 5);
+    CHECK(r.number == LARUSQEM_BAD_CONVERSION && r.place == 2);
+    r = larusqem_read(columns, 4, "07  5      MARCH1934", 20);
+    CHECK(r.number == LARUSQEM_BAD_CONVERSION && r.place == 2);
+    elements[0] = 'a';
+    for (i = 0; i < sizeof none / sizeof *none; i++) {
+        elements[1] = none[i];
+        CHECK(answers(larusqem_write(elements, 2, moment, out, sizeof out), LARUSQEM_BAD_CONVERSION, 1));
+        r = larusqem_read(elements, 2, "a", 1);
+        CHECK(r.number == LARUSQEM_BAD_CONVERSION && r.place == 1);
+    }
+}
+
 static void opening(void)
 {
     static const uint32_t expected[8] = {10, 9, 37, 256 * 7 + 'd', 256 * 10 + 'y', 256 * 13 + 'H', ':', 256 * 13 + 'M'};
+    static const enum larusqem_use uses[2] = {LARUSQEM_FOR_READING, LARUSQEM_FOR_WRITING};
 
-    elements[8] = 77;
-    CHECK(answers(larusqem_open("%n%t%%%Od%Ey%R", 14, elements, 8), LARUSQEM_DONE, 8));
-    CHECK(memcmp(elements, expected, sizeof expected) == 0 && elements[8] == 77);
-    CHECK(answers(larusqem_open("%R%R%R", 6, elements, 8), LARUSQEM_BUFFER_TOO_SMALL, 9) && elements[8] == 77);
-    CHECK(answers(larusqem_open("%R%Q", 4, elements, 8), LARUSQEM_BAD_CONVERSION, 2));
-    CHECK(answers(larusqem_open(longer, sizeof longer, elements, 8), LARUSQEM_FORMAT_TOO_LONG, 0));
+    for (int i = 0; i < 2; i++) {
+        memset(elements, 0, 8 * sizeof *elements);
+        elements[8] = 77;
+        CHECK(answers(larusqem_open("%n%t%%%Od%Ey%R", 14, uses[i], elements, 8), LARUSQEM_DONE, 8));
+        CHECK(memcmp(elements, expected, sizeof expected) == 0 && elements[8] == 77);
+        CHECK(answers(larusqem_open("%R%R%R", 6, uses[i], elements, 8), LARUSQEM_BUFFER_TOO_SMALL, 9) && elements[8] == 77);
+        CHECK(answers(larusqem_open("%R%Q", 4, uses[i], elements, 8), LARUSQEM_BAD_CONVERSION, 2));
+        CHECK(answers(larusqem_open(longer, sizeof longer, uses[i], elements, 8), LARUSQEM_FORMAT_TOO_LONG, 0));
+    }
 }
 
 static void limits(void)
 {
     static char format[LARUSQEM_LONGEST];
-    const struct larusqem_moment wednesday = {1934, 3, 7, 7, 8, 9};
     size_t i;
 
     for (i = 0; i < sizeof format; i++)
-        format[i] = i % 2 == 0 ? '%' : 'c';
-    CHECK(answers(larusqem_open(format, sizeof format, elements, LARUSQEM_ELEMENTS), LARUSQEM_DONE, LARUSQEM_ELEMENTS));
-    CHECK(answers(larusqem_strftime(format, sizeof format, wednesday, out, sizeof out), LARUSQEM_DONE, 12288));
-    for (i = 0; i < LARUSQEM_ELEMENTS + 1; i++)
-        elements[i] = 256 + 'A';
-    CHECK(answers(larusqem_write(elements, LARUSQEM_ELEMENTS, wednesday, out, sizeof out), LARUSQEM_DONE, LARUSQEM_WIDEST));
-    CHECK(answers(larusqem_write(elements, LARUSQEM_ELEMENTS + 1, wednesday, out, sizeof out), LARUSQEM_BAD_CONVERSION, LARUSQEM_ELEMENTS));
+        format[i] = "%c"[i % 2];
+    CHECK(answers(larusqem_open(format, sizeof format, LARUSQEM_FOR_READING, elements, LARUSQEM_ELEMENTS), LARUSQEM_DONE,
+                  LARUSQEM_ELEMENTS));
+    CHECK(answers(larusqem_write(elements, LARUSQEM_ELEMENTS, moment, out, sizeof out), LARUSQEM_DONE, 512 * 24));
+    elements[LARUSQEM_ELEMENTS] = ' ';
+    CHECK(answers(larusqem_write(elements, LARUSQEM_ELEMENTS + 1, moment, out, sizeof out), LARUSQEM_BAD_CONVERSION, LARUSQEM_ELEMENTS));
+    for (i = 0; i < sizeof format; i++)
+        format[i] = "%99d"[i % 4];
+    fresh();
+    CHECK(answers(larusqem_strftime(format, sizeof format, moment, out, LARUSQEM_WIDEST - 1), LARUSQEM_BUFFER_TOO_SMALL, LARUSQEM_WIDEST));
+    CHECK(untouched(0));
+    CHECK(answers(larusqem_strftime(format, sizeof format, moment, out, sizeof out), LARUSQEM_DONE, LARUSQEM_WIDEST));
+    i = 0;
+    while (i < sizeof out && out[i] == (i % 99 == 98 ? '5' : '0'))
+        i++;
+    CHECK(i == LARUSQEM_WIDEST);
 }
 
 /* a text with the reading that its format shall give it, both ways and on words */
@@ -118,7 +197,7 @@ static void reads(const char *format, const char *text, struct larusqem_reading 
 {
     size_t format_length = strlen(format), text_length = strlen(text);
     struct larusqem_reading anew = larusqem_strptime(format, format_length, text, text_length), opened;
-    struct larusqem_answer answer = larusqem_open(format, format_length, elements, LARUSQEM_ELEMENTS);
+    struct larusqem_answer answer = larusqem_open(format, format_length, LARUSQEM_FOR_READING, elements, LARUSQEM_ELEMENTS);
     uint32_t words[LARUSQEM_READING_WORDS];
 
     check(memcmp(&anew, &expected, sizeof expected) == 0, text, line);
@@ -183,8 +262,8 @@ static void nulls(void)
 
     CHECK(answers(larusqem_strftime(NULL, 0, moment, NULL, 0), LARUSQEM_DONE, 0));
     CHECK(answers(larusqem_strftime("%F", 2, moment, NULL, 0), LARUSQEM_BUFFER_TOO_SMALL, 10));
-    CHECK(answers(larusqem_open(NULL, 0, NULL, 0), LARUSQEM_DONE, 0));
-    CHECK(answers(larusqem_open("%F", 2, NULL, 0), LARUSQEM_BUFFER_TOO_SMALL, 5));
+    CHECK(answers(larusqem_open(NULL, 0, LARUSQEM_FOR_READING, NULL, 0), LARUSQEM_DONE, 0));
+    CHECK(answers(larusqem_open("%F", 2, LARUSQEM_FOR_READING, NULL, 0), LARUSQEM_BUFFER_TOO_SMALL, 5));
     CHECK(answers(larusqem_write(NULL, 0, moment, NULL, 0), LARUSQEM_DONE, 0));
     elements[0] = 256 + 'd';
     CHECK(answers(larusqem_write(elements, 1, moment, NULL, 0), LARUSQEM_BUFFER_TOO_SMALL, 2));
@@ -229,6 +308,7 @@ int main(void)
     memset(longer, 'x', sizeof longer);
     sentences();
     writing();
+    flags_and_widths();
     opening();
     limits();
     reading();

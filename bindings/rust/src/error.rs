@@ -118,7 +118,7 @@ impl From<FieldError> for ParseError {
 pub enum FormatError {
     /// 1: it has more than 1,024 bytes.
     TooLong,
-    /// 3: a conversion is unknown or unfinished.
+    /// 3: a conversion is unknown or unfinished, or its flag or width is not taken.
     BadConversion {
         /// Where its `%` stands in the format.
         offset: usize,
@@ -147,7 +147,9 @@ impl fmt::Display for FormatError {
     fn fmt(&self, f: &mut fmt::Formatter) -> fmt::Result {
         match self {
             FormatError::TooLong => write!(f, "the format has more than 1024 bytes"),
-            FormatError::BadConversion { offset } => write!(f, "unknown or unfinished conversion at byte {offset} of the format"),
+            FormatError::BadConversion { offset } => {
+                write!(f, "unknown or unfinished conversion, or a flag or width that is not taken, at byte {offset} of the format")
+            }
         }
     }
 }

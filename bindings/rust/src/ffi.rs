@@ -7,6 +7,13 @@ pub type MomentWords = [u32; 6];
 /// Number, place, the day, said and number of hour, minute and second, the other day, the other hour.
 pub type ReadingWords = [u32; 15];
 
+/// What a format is opened for: flags and widths are taken for writing, and refused for reading.
+#[derive(Clone, Copy)]
+pub enum Use {
+    Reading = 0,
+    Writing = 1,
+}
+
 mod c {
     use super::{MomentWords, ReadingWords};
 
@@ -25,7 +32,13 @@ mod c {
             text_length: usize,
             reading: *mut ReadingWords,
         ) -> u64;
-        pub fn larusqem_open_words(format: *const u8, format_length: usize, elements: *mut u32, elements_length: usize) -> u64;
+        pub fn larusqem_open_words(
+            format: *const u8,
+            format_length: usize,
+            for_writing: u32,
+            elements: *mut u32,
+            elements_length: usize,
+        ) -> u64;
         pub fn larusqem_write_words(
             elements: *const u32,
             elements_length: usize,
@@ -69,8 +82,8 @@ pub fn strptime(format: &[u8], text: &[u8]) -> ReadingWords {
     reading
 }
 
-pub fn open(format: &[u8], elements: &mut [u32]) -> (u32, usize) {
-    split(unsafe { c::larusqem_open_words(format.as_ptr(), format.len(), elements.as_mut_ptr(), elements.len()) })
+pub fn open(format: &[u8], side: Use, elements: &mut [u32]) -> (u32, usize) {
+    split(unsafe { c::larusqem_open_words(format.as_ptr(), format.len(), side as u32, elements.as_mut_ptr(), elements.len()) })
 }
 
 pub fn write(elements: &[u32], moment: &MomentWords, out: &mut [u8]) -> (u32, usize) {

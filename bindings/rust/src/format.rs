@@ -9,7 +9,49 @@ use alloc::vec;
 use alloc::vec::Vec;
 use core::str::FromStr;
 
-/// A format (RULES 4) that was opened once, for any number of writings and readings.
+/// The elements of an opened format (RULES 10).
+#[derive(Clone, PartialEq, Eq, Hash, Debug)]
+struct Elements(Box<[u32]>);
+
+impl Elements {
+    fn open(format: &[u8], side: ffi::Use) -> Result<Elements, FormatError> {
+        // an entry for each byte is enough where there are no composites, and no format is opened that has more bytes
+        let mut elements = vec![0; format.len().min(1024)];
+        let opened = match ffi::open(format, side, &mut elements) {
+            (4, needed) => {
+                elements.resize(needed, 0);
+                ffi::open(format, side, &mut elements)
+            }
+            opened => opened,
+        };
+        match opened {
+            (0, count) => {
+                elements.truncate(count);
+                Ok(Elements(elements.into()))
+            }
+            (1, _) => Err(FormatError::TooLong),
+            (3, offset) => Err(FormatError::BadConversion { offset }),
+            (number, _) => unreachable!("a format with room for its elements is not refused by {number}"),
+        }
+    }
+
+    fn write_to(&self, moment: Moment, out: &mut [u8]) -> Result<usize, WriteError> {
+        WriteError::judge(ffi::write(&self.0, &moment.words(), out))
+    }
+
+    fn write(&self, moment: Moment) -> Vec<u8> {
+        let mut out = vec![0; 64];
+        let written = self.write_to(moment, &mut out).or_else(|refused| {
+            out.resize(refused.place(), 0);
+            self.write_to(moment, &mut out)
+        });
+        out.truncate(written.expect("an opened format is refused only for room, and says how much"));
+        out
+    }
+}
+
+/// A format (RULES 4) that was opened once, for any number of writings and readings. It has no flags and no widths, since a text is not
+/// read by them: a [`WriteFormat`] takes them.
 ///
 /// ```
 /// use larusqem::{Date, Format, FormatError, Moment};
@@ -22,34 +64,17 @@ use core::str::FromStr;
 ///     assert_eq!(format.read(&text).unwrap().date, Some(date));
 /// }
 /// assert_eq!(Format::new("100%").unwrap_err(), FormatError::BadConversion { offset: 3 });
+/// assert_eq!(Format::new("%Y %-d").unwrap_err(), FormatError::BadConversion { offset: 3 });
 /// ```
 #[derive(Clone, PartialEq, Eq, Hash, Debug)]
 pub struct Format {
-    elements: Box<[u32]>,
+    elements: Elements,
 }
 
 impl Format {
     /// Opens a format.
     pub fn new(format: impl AsRef<[u8]>) -> Result<Format, FormatError> {
-        let format = format.as_ref();
-        // an entry for each byte is enough where there are no composites, and no format is opened that has more bytes
-        let mut elements = vec![0; format.len().min(1024)];
-        let opened = match ffi::open(format, &mut elements) {
-            (4, needed) => {
-                elements.resize(needed, 0);
-                ffi::open(format, &mut elements)
-            }
-            opened => opened,
-        };
-        match opened {
-            (0, count) => {
-                elements.truncate(count);
-                Ok(Format { elements: elements.into() })
-            }
-            (1, _) => Err(FormatError::TooLong),
-            (3, offset) => Err(FormatError::BadConversion { offset }),
-            (number, _) => unreachable!("a format with room for its elements is not refused by {number}"),
-        }
+        Ok(Format { elements: Elements::open(format.as_ref(), ffi::Use::Reading)? })
     }
 
     /// Writes a moment over the start of `out`, and says how many bytes that is. A refusal leaves all of `out` as it came; the only one
@@ -66,7 +91,7 @@ impl Format {
     /// assert_eq!(format.write_to(moment, &mut out[..4]), Err(WriteError::BufferTooSmall { needed: 5 }));
     /// ```
     pub fn write_to(&self, moment: Moment, out: &mut [u8]) -> Result<usize, WriteError> {
-        WriteError::judge(ffi::write(&self.elements, &moment.words(), out))
+        self.elements.write_to(moment, out)
     }
 
     /// Writes a moment.
@@ -78,13 +103,7 @@ impl Format {
     /// assert_eq!(format.write(Moment::midnight(Date::new(2017, 1, 1).unwrap())), b"2016-W52-7");
     /// ```
     pub fn write(&self, moment: Moment) -> Vec<u8> {
-        let mut out = vec![0; 64];
-        let written = self.write_to(moment, &mut out).or_else(|refused| {
-            out.resize(refused.place(), 0);
-            self.write_to(moment, &mut out)
-        });
-        out.truncate(written.expect("an opened format is refused only for room, and says how much"));
-        out
+        self.elements.write(moment)
     }
 
     /// Writes a moment as a `String`. This fails only where the format itself is not UTF-8, since its bytes are copied.
@@ -113,7 +132,7 @@ impl Format {
     /// assert!(!format.read(text).unwrap().is_whole(text));
     /// ```
     pub fn read(&self, text: impl AsRef<[u8]>) -> Result<Reading, ReadError> {
-        Reading::from_words(ffi::read(&self.elements, text.as_ref()))
+        Reading::from_words(ffi::read(&self.elements.0, text.as_ref()))
     }
 }
 
@@ -123,5 +142,71 @@ impl FromStr for Format {
 
     fn from_str(format: &str) -> Result<Format, FormatError> {
         Format::new(format)
+    }
+}
+
+/// A format for writing alone, which takes flags and widths (RULES 4.4), and was opened once for any number of writings.
+///
+/// After the `%` may stand a flag and then a width, 1 to 99. A number is filled on the left with blanks by `_`, with zeros by `0`, not at
+/// all by `-`, and otherwise with its own fill; a name, `%p` or `%P` with blanks, and `^` makes it capitals. Nothing is cut. A label in
+/// three columns, of 3, 11 and 6 places:
+///
+/// ```
+/// use larusqem::{Date, FormatError, Moment, WriteFormat};
+///
+/// let label = WriteFormat::new("%_3d%^11B%_6Y").unwrap();
+/// let write = |year, month, day| label.write_string(Moment::midnight(Date::new(year, month, day).unwrap())).unwrap();
+/// assert_eq!(write(1934, 3, 5), "  5      MARCH  1934");
+/// assert_eq!(write(1934, 11, 30), " 30   NOVEMBER  1934");
+/// assert_eq!(write(987, 9, 1), "  1  SEPTEMBER   987");
+///
+/// assert_eq!(WriteFormat::new("%Y %^d").unwrap_err(), FormatError::BadConversion { offset: 3 });
+/// ```
+///
+/// The compiler keeps it from a reading, which would be refused:
+///
+/// ```compile_fail
+/// larusqem::WriteFormat::new("%_3d").unwrap().read("  5");
+/// ```
+#[derive(Clone, PartialEq, Eq, Hash, Debug)]
+pub struct WriteFormat {
+    elements: Elements,
+}
+
+impl WriteFormat {
+    /// Opens a format.
+    pub fn new(format: impl AsRef<[u8]>) -> Result<WriteFormat, FormatError> {
+        Ok(WriteFormat { elements: Elements::open(format.as_ref(), ffi::Use::Writing)? })
+    }
+
+    /// As [`Format::write_to`].
+    pub fn write_to(&self, moment: Moment, out: &mut [u8]) -> Result<usize, WriteError> {
+        self.elements.write_to(moment, out)
+    }
+
+    /// As [`Format::write`].
+    pub fn write(&self, moment: Moment) -> Vec<u8> {
+        self.elements.write(moment)
+    }
+
+    /// As [`Format::write_string`].
+    pub fn write_string(&self, moment: Moment) -> Result<String, FromUtf8Error> {
+        String::from_utf8(self.write(moment))
+    }
+}
+
+/// As [`WriteFormat::new`].
+impl FromStr for WriteFormat {
+    type Err = FormatError;
+
+    fn from_str(format: &str) -> Result<WriteFormat, FormatError> {
+        WriteFormat::new(format)
+    }
+}
+
+/// A format without flags and widths writes the same.
+impl From<Format> for WriteFormat {
+    fn from(format: Format) -> WriteFormat {
+        WriteFormat { elements: format.elements }
     }
 }

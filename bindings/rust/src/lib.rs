@@ -52,12 +52,17 @@
 //! assert!(strptime("%d %b %Y%n", line).unwrap().is_whole(line));
 //! ```
 //!
+//! # Flags and widths
+//!
+//! A [`WriteFormat`] takes them, and so does [`strftime`]: `%-d` writes no zero in front, `%_3d` fills to three places with blanks, `%^a`
+//! writes capitals. A [`Format`], which also reads, refuses them, and so does [`strptime`].
+//!
 //! # What is proved
 //!
 //! The C functions of the repository's library. This crate gives them types, and is tested. A [`Date`] or a [`Moment`] that exists is
 //! valid, by the proved functions.
 //!
-//! Every call is pure: no locale, time zone, clock or global state, and any number of threads may share a [`Format`].
+//! Every call is pure: no locale, time zone, clock or global state, and any number of threads may share a [`Format`] or [`WriteFormat`].
 //!
 //! Without the feature `std` (on by default) the crate needs only `alloc`, and the errors are not `std::error::Error`.
 #![no_std]
@@ -79,12 +84,16 @@ mod shape;
 
 pub use date::{Date, Weekday};
 pub use error::{Field, FieldError, FormatError, ParseError, ReadError, WriteError};
-pub use format::Format;
+pub use format::{Format, WriteFormat};
 pub use moment::Moment;
 pub use reading::Reading;
 
+/// The bytes of the longest writing: `%99d`, 256 times. No format writes more, and a buffer of as many bytes is never too small.
+pub const LONGEST_WRITING: usize = 25_344;
+
 /// Writes a moment by a format (RULES 5) over the start of `out`, and says how many bytes that is. A refusal leaves all of `out` as it
-/// came. For many moments, or where the length is not known, open a [`Format`].
+/// came. The format may have flags and widths. For many moments, or where the length is not known, open a [`WriteFormat`] or a [`Format`];
+/// [`LONGEST_WRITING`] bytes are enough for any.
 ///
 /// ```
 /// use larusqem::{strftime, FormatError, Moment, WriteError};
@@ -94,13 +103,16 @@ pub use reading::Reading;
 /// assert_eq!(strftime("%c", moment, &mut out), Ok(24));
 /// assert_eq!(&out, b"Mon Mar  5 07:08:09 1934......");
 /// assert_eq!(strftime("%c", moment, &mut out[..23]), Err(WriteError::BufferTooSmall { needed: 24 }));
+/// assert_eq!(strftime("%-d. %^b", moment, &mut out), Ok(6));
+/// assert_eq!(&out[..6], b"5. MAR");
 /// assert_eq!(strftime("at %Q", moment, &mut out), Err(WriteError::Format(FormatError::BadConversion { offset: 3 })));
 /// ```
 pub fn strftime(format: impl AsRef<[u8]>, moment: Moment, out: &mut [u8]) -> Result<usize, WriteError> {
     WriteError::judge(ffi::strftime(format.as_ref(), &moment.words(), out))
 }
 
-/// Reads a text by a format (RULES 6 to 8). Text left over is no refusal: [`Reading::is_whole`] tells. For many texts, open a [`Format`].
+/// Reads a text by a format (RULES 6 to 8), which has no flags and no widths. Text left over is no refusal: [`Reading::is_whole`] tells.
+/// For many texts, open a [`Format`].
 ///
 /// ```
 /// use larusqem::strptime;

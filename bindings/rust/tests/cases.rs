@@ -1,5 +1,6 @@
 //! Worked cases through the Rust types, by a format that is opened once and by one that is not.
 use larusqem::{strftime, strptime, Date, Field, Format, FormatError, Moment, ParseError, ReadError, Reading, Weekday, WriteError};
+use larusqem::{WriteFormat, LONGEST_WRITING};
 
 fn date(year: u32, month: u32, day: u32) -> Date {
     Date::new(year, month, day).unwrap()
@@ -14,10 +15,21 @@ fn midnight(year: u32, month: u32, day: u32) -> Moment {
 }
 
 fn write(format: &str, m: Moment) -> String {
-    let mut out = [0; 64];
-    let n = strftime(format, m, &mut out).unwrap();
     let opened = Format::new(format).unwrap();
+    let text = write_styled(format, m);
+    assert_eq!(opened.write(m), text.as_bytes());
+    assert_eq!(opened.write_string(m).unwrap(), text);
+    assert_eq!(WriteFormat::from(opened), WriteFormat::new(format).unwrap());
+    text
+}
+
+/// By a format that may have flags and widths.
+fn write_styled(format: &str, m: Moment) -> String {
+    let mut out = [0; 128];
+    let n = strftime(format, m, &mut out).unwrap();
+    let opened: WriteFormat = format.parse().unwrap();
     assert_eq!(opened.write(m), &out[..n]);
+    assert_eq!(opened.write_to(m, &mut [0; 128]), Ok(n));
     let text = opened.write_string(m).unwrap();
     assert_eq!(text.as_bytes(), &out[..n]);
     text
@@ -40,6 +52,42 @@ fn writing() {
     assert_eq!(write("%A", midnight(2000, 2, 29)), "Tuesday");
     assert_eq!(write("", midnight(1, 1, 1)), "");
     assert_eq!(write("%d\x0b%b\x0c%Y\r%n", midnight(1934, 3, 5)), "05\x0bMar\x0c1934\r\n");
+}
+
+#[test]
+fn flags_and_widths() {
+    let spring = moment("1934-03-05 07:08:09");
+    for (format, text) in [
+        ("%5m %_5m %-5m %05m", "00003     3 3 00003"),
+        ("%-d|%-5d|%_d|%3e|%03e|%1d", "5|5| 5|  5|005|05"),
+        ("%010Y|%_6Y|%2Y|%_5Ey", "0000001934|  1934|1934|   34"),
+        ("%^a|%12B|%^12B|%2B", "MON|       March|       MARCH|March"),
+        ("%^P|%P|%4P|%^p", "AM|am|  am|AM"),
+        ("%3u %_3w %-w %-j %_4H", "001   1 1 64    7"),
+        ("%_3d%^11B%_6Y", "  5      MARCH  1934"),
+    ] {
+        assert_eq!(write_styled(format, spring), text);
+        assert_eq!(Format::new(format), Err(FormatError::BadConversion { offset: 0 }));
+    }
+    assert_eq!(write_styled("%5m|%_5m", midnight(1934, 11, 5)), "00011|   11");
+}
+
+#[test]
+fn refused_flags_and_widths() {
+    let spring = moment("1934-03-05 07:08:09");
+    let bad = FormatError::BadConversion { offset: 3 };
+    let not_written = ["%00d", "%100d", "%5^a", "%_-d", "%E5y", "%E_y", "%5", "%_", "%5E", "%^d", "%_a", "%-p", "%0P"];
+    for conversion in not_written.into_iter().chain(["%5c", "%^x", "%-n", "%0t", "%5%"]) {
+        let format = format!("%d {conversion}");
+        assert_eq!(WriteFormat::new(&format), Err(bad), "{format}");
+        assert_eq!(format.parse::<WriteFormat>(), Err(bad), "{format}");
+        assert_eq!(strftime(&format, spring, &mut [0; 64]), Err(WriteError::Format(bad)), "{format}");
+    }
+    for conversion in not_written.into_iter().chain(["%5d", "%_d", "%-d", "%0d", "%^a", "%^P", "%_5Ey"]) {
+        let format = format!("%d {conversion}");
+        assert_eq!(Format::new(&format), Err(bad), "{format}");
+        assert_eq!(strptime(&format, "5 5"), Err(ReadError::Format(bad)), "{format}");
+    }
 }
 
 #[test]
@@ -93,8 +141,17 @@ fn refused_writing() {
 
 #[test]
 fn longest() {
+    let spring = midnight(1934, 3, 5);
     let format = Format::new("%c".repeat(512)).unwrap();
-    assert_eq!(format.write(midnight(1934, 3, 5)).len(), 24 * 512);
+    assert_eq!(format.write(spring).len(), 24 * 512);
+    let widest = "%99d".repeat(256);
+    let mut out = [b'.'; LONGEST_WRITING];
+    let refused = Err(WriteError::BufferTooSmall { needed: LONGEST_WRITING });
+    assert_eq!(strftime(&widest, spring, &mut out[1..]), refused);
+    assert_eq!(out, [b'.'; LONGEST_WRITING]);
+    assert_eq!(strftime(&widest, spring, &mut out), Ok(LONGEST_WRITING));
+    assert_eq!(WriteFormat::new(&widest).unwrap().write(spring), out);
+    assert_eq!(WriteFormat::new(widest + "%"), Err(FormatError::TooLong));
     let format = Format::new(vec![b' '; 1024]).unwrap();
     assert_eq!(format.read(vec![b' '; 1024]).unwrap().unread, 1024);
     assert_eq!(format.read(vec![b' '; 1025]), Err(ReadError::TextTooLong));
@@ -218,7 +275,7 @@ fn errors_have_sources() {
     use std::error::Error;
 
     let source = |error: &dyn Error| error.source().map(|source| source.to_string());
-    let unknown = Some("unknown or unfinished conversion at byte 0 of the format".to_string());
+    let unknown = Some("unknown or unfinished conversion, or a flag or width that is not taken, at byte 0 of the format".to_string());
     assert_eq!(source(&strptime("%Q", "").unwrap_err()), unknown);
     assert_eq!(source(&strftime("%Q", Moment::midnight(Date::FIRST), &mut []).unwrap_err()), unknown);
     assert_eq!(source(&"1934-13-01".parse::<Date>().unwrap_err()), Some("the month is not 1 to 12".to_string()));
@@ -237,4 +294,5 @@ fn versions_agree() {
 fn formats_are_shared_by_threads() {
     fn shared<T: Send + Sync>() {}
     shared::<Format>();
+    shared::<WriteFormat>();
 }
