@@ -189,6 +189,6 @@ fn write_measured(elements: &[u32], moment: Moment, out: &mut [u8]) -> Written
     if out.len() < needed {
         return Written::BufferTooSmall { needed };
     }
-    let count = put_elements(out, elements, moment);
-    Written::Done { count }
+    let n = put_elements(out, elements, moment);
+    Written::Done { count: n }
 }
