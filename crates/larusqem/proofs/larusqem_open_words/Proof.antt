@@ -26,8 +26,9 @@ same-length c = search needs
 returns : tie.Need-returns
 returns c =
     let o = c .before .before .before .before .before .before .before in
+    let e = o .«open» .ensures in
     rw (← o .before .before .side-of .ensures)
-    (too-many _ _ _ (o .«open» .ensures .0) (c .before .before .before .count .given .1) (omega arith) (c .packed .ensures), o .«open» .ensures .1)
+    (too-many _ _ _ (e .0) (c .before .before .before .count .given .1) (omega arith) (c .packed .ensures), e .1)
 
 packed-requires-2 : tie.Need-packed-requires-2
 packed-requires-2 c κs =
@@ -55,8 +56,9 @@ same-length-2 c = search needs
 returns-2 : tie.Need-returns-2
 returns-2 c =
     let o = c .before .before .before .before .before .before .before in
+    let e = o .«open» .ensures in
     rw (← o .before .before .side-of .ensures)
-    (all-fit _ _ _ (o .«open» .ensures .0) (c .before .before .before .count .given .1) (omega arith) (c .packed2 .ensures), o .«open» .ensures .1)
+    (all-fit _ _ _ (e .0) (c .before .before .before .count .given .1) (omega arith) (c .packed2 .ensures), e .1)
 
 same-length-3 : tie.Need-same-length-3
 same-length-3 c = search needs
@@ -64,8 +66,9 @@ same-length-3 c = search needs
 returns-3 : tie.Need-returns-3
 returns-3 c =
     let o = c .before .before .before .before .before in
+    let e = o .«open» .ensures in
     rw (← o .before .before .side-of .ensures)
-    (too-long _ _ _ (o .«open» .ensures .0) (c .before .enum-told .given .1) (c .packed3 .ensures), o .«open» .ensures .1)
+    (too-long _ _ _ (e .0) (c .before .enum-told .given .1) (c .packed3 .ensures), e .1)
 
 same-length-4 : tie.Need-same-length-4
 same-length-4 c = search needs
@@ -73,8 +76,9 @@ same-length-4 c = search needs
 returns-4 : tie.Need-returns-4
 returns-4 c =
     let o = c .before .before .before .before .before .before in
+    let e = o .«open» .ensures in
     rw (← o .before .before .side-of .ensures)
-    (bad-conversion _ _ _ (o .«open» .ensures .0) (c .before .before .at .given .1) (c .packed4 .ensures), o .«open» .ensures .1)
+    (bad-conversion _ _ _ (e .0) (c .before .before .at .given .1) (c .packed4 .ensures), e .1)
 
 pub larusqem-open-words-spec : {M : Type 1} → statement M
 larusqem-open-words-spec =
