@@ -4,18 +4,17 @@ use Prim.Native.Char.{code}
 use Prim.Native.Nat.{ℕ, suc, _+_, _-_, _≤_, _<_}
 use mathlib.Core.Bool.{true, cond}
 use mathlib.Core.List.{List, [], _∷_}
-use mathlib.Core.Path.{_≡_, refl, sym, _∙_}
-use native.Mathlib.Nat.{zero-add}
+use mathlib.Core.Path.{_≡_, refl}
 use native.Mathlib.Omega.{arith}
 use lib.Dec.{eqb, lit≤, lit<}
 use lib.ListN.{length, getD, take, drop, length-drop}
 use lib.Seq.{take-all}
 use Rattle.laws.proofs.Cases.{picked, either}
 use Rattle.text.specs.Digits.{decimal}
+use Rattle.text.specs.declared.digits.Digits.{Digits}
 use Rattle.format.specs.Conversions.{among, isConversion, isComposite, conversionOf}
 use Rattle.format.specs.Opening.{after-E, after-O, letter, piece, paired, conversion, flagRun, widthRun, styleFrom, takesFlag}
 use Rattle.format.specs.Opening.{unstyled, isByte, isUnstyled, withStyle, styled, signed, pieceOf}
-use Rattle.format.specs.Private.{widthAfter, styleFor, bytesFor}
 use Rattle.format.specs.declared.opening.Act.{Act}
 use Rattle.format.specs.declared.opening.Act.the-variants.{Byte, Convert, Open, Refuse}
 use Rattle.format.specs.declared.opening.Piece.{Piece}
@@ -191,46 +190,11 @@ unfolding pieceOf
 follows side b s =
     picked (λ (p : Piece). Follows (length s) (p .length) (p .act)) (eqb b (code "%")) (signed-follows side s) tt
 
--- ---- after a %, for either side: the flag and the width that it takes, and what follows them
+-- ---- with a flag and a width, by its parts
 
--- without them it is what it is
-pub no-style : (a : Act) → Unstyled a → withStyle unstyled a ≡ a
-unfolding withStyle isUnstyled takesFlag
-no-style (Byte b) u = refl
-no-style (Convert c x) u = rw (u .1)
-no-style (Open c) u = refl
-no-style Refuse u = refl
-
-pub marks-few : (side : Side) (s : List ℕ) → (bytesFor side s ≤ 3) × (bytesFor side s ≤ length s)
-unfolding bytesFor widthAfter
-marks-few Writer s =
-    let f = flag-run s in
-    let w = width-run (drop (length (flagRun s)) s) in
-    (omega (arith, f .few, w .few), omega (arith, f .within, w .within, length-drop (length (flagRun s)) s))
-marks-few Reader s = (omega arith, omega arith)
-
-module _ (s : List ℕ) where
-  pub signed-with : (side : Side) {n : ℕ} {y : Style} {p : Piece} {a : Act} → y ≡ styleFor side s → n ≡ bytesFor side s
-      → p ≡ conversion (drop n s) → a ≡ withStyle y (p .act) → record { act = a; length = n + p .length } ≡ signed side s
-  unfolding signed styled styleFor bytesFor widthAfter
-  signed-with Writer e q h g = rw (g, h, e, q)
-  signed-with Reader e q h g = rw (g, h, e, q, no-style (conversion s .act) (conversion-unstyled s), zero-add (conversion s .length))
-
-  -- no bytes, no flag and no width
-  alone-style : (side : Side) → bytesFor side s ≡ 0 → styleFor side s ≡ unstyled
-  unfolding bytesFor styleFor widthAfter styleFrom decimal
-  alone-style Writer e =
-      let f = none (flagRun s) (omega arith) in
-      let w = none (widthRun (drop (length (flagRun s)) s)) (omega arith) in
-      rw (w, f)
-    where
-      none : (x : List ℕ) → length x ≡ 0 → x ≡ []
-      none [] h = refl
-      none (b ∷ x) h = absurd (omega arith)
-  alone-style Reader e = refl
-
-  pub signed-alone : (side : Side) {n : ℕ} {p : Piece} → n ≡ bytesFor side s → n ≡ 0 → p ≡ conversion (drop n s) → p ≡ signed side s
-  signed-alone side {n} {p} q z h =
-      let a : p .act ≡ withStyle unstyled (p .act) = sym (no-style (p .act) (rw h (conversion-unstyled (drop n s)))) in
-      let k : n + p .length ≡ p .length = omega arith in
-      rw k at (signed-with side (sym (alone-style side (sym q ∙ z))) q h a)
+pub styled-is : (s : List ℕ) {f n : ℕ} {w : Digits} {p : Piece} {a : Act} → f ≡ getD (flagRun s) 0 0 → n ≡ length (flagRun s)
+    → (w .value ≡ decimal 0 (widthRun (drop n s))) × (w .count ≡ length (widthRun (drop n s)))
+    → p ≡ conversion (drop (n + w .count) s) → a ≡ withStyle (record { flag = f; width = w .value }) (p .act)
+    → record { act = a; length = n + w .count + p .length } ≡ styled s
+unfolding styled styleFrom
+styled-is s e q d h g = rw (g, h, d .0, d .1, e, q)

@@ -34,7 +34,7 @@ use Rattle.format.proofs.Bound.{bound}
 use Rattle.format.proofs.Elements.{elements, element-at}
 use Rattle.format.proofs.Entry.{signed-is, styled-no}
 use Rattle.format.proofs.Letters.{among-past}
-use Rattle.format.proofs.Pieces.{Unstyled, conversion-unstyled, no-style, Follows, follows}
+use Rattle.format.proofs.Pieces.{Unstyled, conversion-unstyled, Follows, follows}
 use Rattle.format.proofs.Styles.{flag-run, width-run}
 
 -- ---- a byte that begins a flag or a width begins no conversion
@@ -74,6 +74,13 @@ data Pieces (w r : Piece) : Type 0 where
   same : w ≡ r → Pieces w r
   neither : w .act ≡ Refuse → r .act ≡ Refuse → Pieces w r
   writer : (c : ℕ) (y : Style) → isUnstyled y ≡ false → isConversion c ≡ true → w .act ≡ Convert c y → r .act ≡ Refuse → Pieces w r
+
+no-style : (a : Act) → Unstyled a → withStyle unstyled a ≡ a
+unfolding withStyle isUnstyled takesFlag
+no-style (Byte b) u = refl
+no-style (Convert c x) u = rw (u .1)
+no-style (Open c) u = refl
+no-style Refuse u = refl
 
 -- after a % stands a byte that begins neither flag nor width
 module _ (b : ℕ) (s : List ℕ) where

@@ -4,14 +4,12 @@ use mathlib.Core.Bool.{Bool, false, cond}
 use mathlib.Core.List.{List}
 use mathlib.Core.Path.{_≡_}
 use lib.Dec.{eqb, ltb}
-use lib.ListN.{length, drop}
+use lib.ListN.{length}
 use Rattle.format.specs.Conversions.{among}
-use Rattle.format.specs.Opening.{Opening, longest, mostElements, unstyled, flagRun, widthRun, styleFrom, signAt, openTo, closed}
+use Rattle.format.specs.Opening.{Opening, longest, mostElements, signAt, openTo, closed}
 use Rattle.format.specs.declared.opening.Opened.{Opened}
 use Rattle.format.specs.declared.opening.Side.{Side}
-use Rattle.format.specs.declared.opening.Side.the-variants.{Writer, Reader}
 use Rattle.format.specs.declared.opening.Sign.{Sign}
-use Rattle.format.specs.declared.opening.Style.{Style}
 
 -- a set of letters is a number whose bit at 64 less than its byte says whether a letter is in
 unfoldable pub holds : ℕ → ℕ → Bool
@@ -20,18 +18,6 @@ holds set b = cond (ltb b 64) false (cond (ltb 127 b) false (eqb (set / 2 ^ (b -
 -- a number is the set of these letters
 abbrev pub SetOf : ℕ → List ℕ → Type 0
 SetOf set letters = (b : ℕ) → holds set b ≡ among b letters
-
--- the flag and the width that a side takes after a %, and how many bytes they have: the reader takes none
-unfoldable pub widthAfter : List ℕ → List ℕ
-widthAfter s = widthRun (drop (length (flagRun s)) s)
-
-unfoldable pub styleFor : Side → List ℕ → Style
-styleFor Writer s = styleFrom (flagRun s) (widthAfter s)
-styleFor Reader s = unstyled
-
-unfoldable pub bytesFor : Side → List ℕ → ℕ
-bytesFor Writer s = length (flagRun s) + length (widthAfter s)
-bytesFor Reader s = 0
 
 -- a format can be opened where n elements stand already: it is not too long, nor is the one that holds the composite's %, and the
 -- elements can be counted

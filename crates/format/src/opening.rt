@@ -12,9 +12,9 @@ ghost use lib.Seq.{sets};
 ghost use Rattle.text.specs.Digits.{decimal};
 ghost use Rattle.format.specs.Conversions.{among, isNumber, ownFormat};
 ghost use Rattle.format.specs.Opening.{longest, conversionAt, letter, paired, conversion, flags, flagRun, widthRun, takesFlag, isUnstyled};
-ghost use Rattle.format.specs.Opening.{withStyle, signed, pieceOf, signAt, openTo, opened, openedInto, mostElements};
+ghost use Rattle.format.specs.Opening.{withStyle, styled, signed, pieceOf, signAt, openTo, opened, openedInto, mostElements};
 ghost use Rattle.format.specs.Opening.{styleOf, hasStyle, isElement, elementsIn, entryPlace};
-ghost use Rattle.format.specs.Private.{holds, SetOf, styleFor, bytesFor, CanOpen, answered};
+ghost use Rattle.format.specs.Private.{holds, SetOf, CanOpen, answered};
 
 // The most bytes of a format, and of a text.
 pub const LONGEST: usize = 1024;
@@ -268,55 +268,33 @@ fn flag_length(flag: u8) -> usize
     if flag == 0 { 0 } else { 1 }
 }
 
-// A flag and a width as they stand in a format: what they ask for, and how many bytes they have.
-struct Marks {
-    style: Style,
-    length: usize,
-}
-
-// The flag and the width that stand first.
-fn marks_at(s: &[u8]) -> Marks
-    ensures { λ r. ⌜ (r .style ≡ styleFor Side.Writer (now (s .entry))) × (r .length ≡ bytesFor Side.Writer (now (s .entry))) ⌝ }
+// A flag, a width and what follows them.
+fn styled(s: &[u8]) -> Piece
+    ensures { λ r. ⌜ r ≡ styled (now (s .entry)) ⌝ }
 {
     let flag = flag_at(s);
     let from = flag_length(flag);
-    let digits = width_at(&s[from..]);
-    let width = digits.value as u8;
-    let length = from + digits.count;
-    Marks {
-        style: Style { flag, width },
-        length,
+    let width = width_at(&s[from..]);
+    let n = from + width.count;
+    let piece = conversion(&s[n..]);
+    let act = piece.act;
+    let style = Style {
+        flag,
+        width: width.value as u8,
+    };
+    Piece {
+        act: with_style(style, act),
+        length: n + piece.length,
     }
 }
 
-// Those that a side takes: the reader none.
-fn marks_for(side: Side, s: &[u8]) -> Marks
-    ensures { λ r. ⌜ (r .style ≡ styleFor side (now (s .entry))) × (r .length ≡ bytesFor side (now (s .entry))) ⌝ }
-{
-    match side {
-        Side::Writer => marks_at(s),
-        Side::Reader => Marks {
-            style: Style { flag: 0, width: 0 },
-            length: 0,
-        },
-    }
-}
-
-// What stands after %. `conversion` is called at one place for both sides, so that the compiler puts it there.
+// What stands after %.
 fn signed(side: Side, s: &[u8]) -> Piece
     ensures { λ r. ⌜ r ≡ signed side (now (s .entry)) ⌝ }
 {
-    let marks = marks_for(side, s);
-    let n = marks.length;
-    let piece = conversion(&s[n..]);
-    if n == 0 {
-        return piece;
-    }
-    let act = piece.act;
-    let length = n + piece.length;
-    Piece {
-        act: with_style(marks.style, act),
-        length,
+    match side {
+        Side::Writer => styled(s),
+        Side::Reader => conversion(s),
     }
 }
 
