@@ -10,15 +10,14 @@ use native.Mathlib.Nat.{lt-of-not-le}
 use native.Mathlib.Numerals.{add-one}
 use native.Mathlib.Omega.{arith}
 use borrow.Author.Tests.{lt-ltb, le-ltb, ltb-true}
-use lib.Dec.{T, eqb, leb, ltb, leb→le, ltb→lt}
+use lib.Dec.{eqb, leb, ltb, leb→le, ltb→lt}
 use lib.ListN.{length, drop, getD, replicate, length-append, length-take, drop-of-length-le}
 use lib.Seq.{drop-cons}
 use Rattle.laws.specs.Lists.{every}
-use Rattle.laws.proofs.Cases.{either, picked}
+use Rattle.laws.proofs.Cases.{picked}
 use Rattle.laws.proofs.Table.{both}
 use Rattle.text.specs.Case.{cased}
 use Rattle.text.specs.Digits.{plain, filled}
-use Rattle.text.specs.Fill.{fill}
 use Rattle.text.specs.Names.{nameAt}
 use Rattle.text.specs.Naming.{placeFor, nameFor}
 use Rattle.text.specs.Rows.{padded}
@@ -135,8 +134,8 @@ abbrev pub formMost : Form → ℕ → ℕ
 formMost f w = cond (isNumber f) w 9
 
 -- a form writes no more than n bytes, which has room for that and for the width asked for
-formed-most : (n : ℕ) (y : Style) → y .width ≤ n → (f : Form) (w v : ℕ) → formMost f w ≤ n → (isNumber f ≡ true → (1 ≤ w) × (v < 10 ^ w))
-    → length (formed y f w v) ≤ n
+formed-most : (n : ℕ) (y : Style) → y .width ≤ n → (f : Form) (w v : ℕ) → formMost f w ≤ n
+    → (isNumber f ≡ true → (1 ≤ w) × (v < 10 ^ w)) → length (formed y f w v) ≤ n
 unfolding formed isNumber
 formed-most n y k Zeros w v l r =
     omega (arith, number-length y 48 w v, places-most y w, plain-most w v (r refl .0) (r refl .1))

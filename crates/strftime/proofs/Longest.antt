@@ -1,29 +1,29 @@
--- The longest writing: no format of the longest length writes more than `longestWriting` bytes, and one writes as many. What stands first in
--- a format writes at most 99 bytes to four of its own.
+-- The longest writing: no format that is not too long writes more than `longestWriting` bytes, and one writes as many. What stands first
+-- in a format writes at most 99 bytes to four of its own.
 -- Assumes nothing.
 use Prim.Native.Char.{code}
 use Prim.Native.Nat.{ℕ, zero, suc, max, _+_, _-_, _*_, _/_, _%_, _≤_, _<_}
-use mathlib.Core.Bool.{Bool, true, false, cond, and-eq-true-iff}
+use mathlib.Core.Bool.{true}
 use mathlib.Core.List.{List, [], _∷_, _++_, map}
-use mathlib.Core.Path.{_≡_, refl, ap, _∙_}
+use mathlib.Core.Path.{_≡_, refl}
 use native.Mathlib.Decide.{decLe}
 use native.Mathlib.Nat.{sub-zero, lt-of-not-le}
 use native.Mathlib.Omega.{arith}
-use borrow.Author.Tests.{leb-true, eqb-true, eq-eqb, le-leb, ltb-true}
-use lib.Dec.{T, eqb, leb, leb→le}
+use borrow.Author.Tests.{eqb-true, leb-true, le-leb, lt-leb, ltb-true}
+use lib.Dec.{T, eqb, leb, leb→le, ltb→lt}
 use lib.ListN.{length, drop, length-append, length-drop}
 use Rattle.laws.specs.Bytes.{bytes}
 use Rattle.laws.specs.Lists.{every}
 use Rattle.laws.proofs.Cases.{either, picked, clash}
-use Rattle.text.specs.Digits.{plain}
+use Rattle.laws.proofs.Table.{both}
 use Rattle.text.proofs.Fill.{plain-most}
 use Rattle.calendar.specs.Calendar.{date}
-use Rattle.format.specs.Conversions.{Row, Composite, rows, conversionOf, isConversion, isNumber, ownFormat, computes as rows-compute}
+use Rattle.format.specs.Conversions.{Row, rows, conversionOf, isConversion, isNumber, ownFormat, computes as rows-compute}
 use Rattle.format.specs.Opening.{Ended, Opening, longest, conversionAt, isByte, letterOf, styleOf, flagRun, widthRun, styleFrom, takesFlag}
-use Rattle.format.specs.Opening.{after-E, after-O, paired, conversion, isUnstyled, withStyle, styled, signed, pieceOf, nothing, before, composed, acted, signAt, openFrom}
-use Rattle.format.specs.Opening.{compositeTo, openTo, opening, mostElements, elementsIn, computes as opening-computes}
+use Rattle.format.specs.Opening.{after-E, after-O, paired, conversion, isUnstyled, withStyle, styled, signed, pieceOf}
+use Rattle.format.specs.Opening.{nothing, before, composed, acted, signAt, openFrom, compositeTo, openTo, opening}
+use Rattle.format.specs.Opening.{mostElements, elementsIn, computes as opening-computes}
 use Rattle.format.specs.Opening.Ended.{Whole, BadAt}
-use Rattle.format.specs.declared.conversions.Conversion.{Conversion}
 use Rattle.format.specs.declared.opening.Act.{Act}
 use Rattle.format.specs.declared.opening.Act.the-variants.{Byte, Convert, Open, Refuse}
 use Rattle.format.specs.declared.opening.Piece.{Piece}
@@ -42,8 +42,8 @@ use Rattle.values.specs.declared.Moment.{Moment}
 use Rattle.values.specs.declared.MomentFields.{MomentFields}
 use Rattle.values.specs.declared.MomentFields.the-variants.{Valid}
 use Rattle.strftime.specs.Private.{IsMoment}
-use Rattle.strftime.specs.Writing.{Result, longestWriting, numbered, placesBy, formed, converted, element, text, refused, put, byFormat, byElements}
-use Rattle.strftime.specs.Writing.{forMoment, forFields, writing, elementsWriting}
+use Rattle.strftime.specs.Writing.{Result, longestWriting, numbered, placesBy, formed, converted, element, text}
+use Rattle.strftime.specs.Writing.{refused, put, byFormat, byElements, forMoment, forFields, writing, elementsWriting}
 use Rattle.strftime.specs.declared.Fields.{Fields}
 use Rattle.strftime.proofs.Complete.{puts-text}
 use Rattle.strftime.proofs.Lengths.{formMost, number-length, has-room, converted-most, element-byte, element-styled}
@@ -107,22 +107,24 @@ module _ (m : Moment) (i : IsMoment m) where
       rw (widest-opens inner n k, length-append)
       (omega (arith, ninety-nine k (omega arith), widest-text inner n (k + 1 + 1 + 1 + 1) (omega arith)))
 
--- whatever the moment
-pub longest-needed : (t : Fields) → momentFault (t .year) (t .month) (t .day) (t .hour) (t .minute) (t .second) ≡ 0
-    → writing (widest 256) t [] .answer ≡ numbered 4 longestWriting
+-- whatever the moment, and every shorter buffer is too small
+pub longest-needed : (t : Fields) (b : List ℕ) → momentFault (t .year) (t .month) (t .day) (t .hour) (t .minute) (t .second) ≡ 0
+    → length b < longestWriting → writing (widest 256) t b .answer ≡ numbered 4 longestWriting
 unfolding momentOf put refused opening openTo
-longest-needed t v =
+longest-needed t b v h =
     let m : Moment = record { date = date (t .year) (t .month) (t .day); hour = t .hour; minute = t .minute; second = t .second } in
     let inner = compositeTo Writer 2 in
     let valid : momentOf (t .year) (t .month) (t .day) (t .hour) (t .minute) (t .second) ≡ Valid m = rw v in
     let needed : length (text m (opening Writer (widest 256) .elements)) ≡ longestWriting = widest-text m v inner 256 0 (omega arith) in
-    rw (puts-text (widest 256) t [] (omega (arith, widest-length 256)) (widest-whole inner 256 0) valid, needed)
+    let all : writing (widest 256) t b ≡ put (text m (opening Writer (widest 256) .elements)) b =
+    puts-text (widest 256) t b (omega (arith, widest-length 256)) (widest-whole inner 256 0) valid in
+    rw (all, needed, lt-leb longestWriting (length b) h)
 
 -- ---- no more: what each piece of a format can write
 
--- the letter of a conversion is a byte, and a byte is one
+-- a byte is below 256, and a conversion's letter is
 abbrev Lettered : Act → Type 0
-Lettered (Byte b) = isByte b ≡ true
+Lettered (Byte b) = b < 256
 Lettered (Convert c y) = c < 256
 Lettered (Open c) = Unit {0}
 Lettered Refuse = Unit {0}
@@ -137,20 +139,20 @@ letter-below c e =
 
 style-lettered : (y : Style) (a : Act) → Unstyled a → Lettered (withStyle y a)
 unfolding withStyle
-style-lettered y (Byte b) u = picked Lettered (isUnstyled y) u tt
+style-lettered y (Byte b) u = picked Lettered (isUnstyled y) (ltb-true b 256 u) tt
 style-lettered y (Convert c x) u = picked Lettered (takesFlag (y .flag) (conversionOf c .form)) (letter-below c (u .0)) tt
 style-lettered y (Open c) u = picked Lettered (isUnstyled y) tt tt
 style-lettered y Refuse u = tt
 
-piece-lettered : (b : ℕ) (s : List ℕ) → isByte b ≡ true → Lettered (pieceOf Writer b s .act)
+piece-lettered : (b : ℕ) (s : List ℕ) → b < 256 → Lettered (pieceOf Writer b s .act)
 unfolding pieceOf signed styled
-piece-lettered b s e =
+piece-lettered b s h =
     let f = flagRun s in
     let w = widthRun (drop (length f) s) in
     let rest = drop (length f + length w) s in
     picked (λ (p : Piece). Lettered (p .act)) (eqb b (code "%"))
     (style-lettered (styleFrom f w) (conversion rest .act) (conversion-unstyled rest))
-    e
+    h
 
 -- it ends within the format
 paired-within : (letters s : List ℕ) → paired letters s .length ≤ 2 + length s
@@ -206,21 +208,17 @@ compositeMost (suc depth) c = formatMost (compositeMost depth) 0 (ownFormat c)
 
 -- ---- what they write is no more
 
-own-bytes : (c : ℕ) → every isByte (ownFormat c) ≡ true
-own-bytes c = T→eq (every isByte (ownFormat c)) (own-passes (every isByte) c (unfold rows-compute every in tt) (unfold every in tt))
-  where
-    T→eq : (a : Bool) → T a → a ≡ true
-    T→eq true t = refl
-    T→eq false t = absurd t
-
 module _ (m : Moment) where
   text-append : (xs ys : List ℕ) → length (text m (xs ++ ys)) ≡ length (text m xs) + length (text m ys)
   unfolding text
   text-append [] ys = omega arith
-  text-append (x ∷ xs) ys = omega (arith, text-append xs ys, length-append (element m x) (text m xs), length-append (element m x) (text m (xs ++ ys)))
+  text-append (x ∷ xs) ys =
+      let first = element m x in
+      omega (arith, text-append xs ys, length-append first (text m xs), length-append first (text m (xs ++ ys)))
 
   composed-text : (es : List ℕ) (d : Ended) (rest : Opening)
-      → length (text m (composed (record { elements = es; ended = d }) rest .elements)) ≤ length (text m es) + length (text m (rest .elements))
+      → length (text m (composed (record { elements = es; ended = d }) rest .elements))
+      ≤ length (text m es) + length (text m (rest .elements))
   unfolding composed before
   composed-text es Whole rest = omega (arith, text-append es (rest .elements))
   composed-text es (BadAt p) rest = omega arith
@@ -231,7 +229,7 @@ module _ (m : Moment) where
       acted-text : (n k sign : ℕ) (rest : Opening) → (1 ≤ n → sign + 1 < longest) → (a : Act) → Follows n k a → Lettered a
           → length (text m (acted inner sign rest a .elements)) ≤ actMost most a + length (text m (rest .elements))
       unfolding acted actMost before nothing text
-      acted-text n k sign rest h (Byte b) f l = rw (element-byte m b (ltb-true b 256 l)) (omega arith)
+      acted-text n k sign rest h (Byte b) f l = rw (element-byte m b l) (omega arith)
       acted-text n k sign rest h (Convert c y) f l =
           let r = conversionOf c in
           let w = max (y .width) (formMost (r .form) (r .width)) in
@@ -242,19 +240,21 @@ module _ (m : Moment) where
           omega (arith, few sign c (h (f .0)), composed-text (o .elements) (o .ended) rest)
       acted-text n k sign rest h Refuse f l = omega arith
 
-      open-text : (s : List ℕ) (k past : ℕ) → every isByte s ≡ true → ((j : ℕ) → j + 1 < k + length s → signAt g j + 1 < longest)
+      open-text : (s : List ℕ) (k past : ℕ) → T (every isByte s) → ((j : ℕ) → j + 1 < k + length s → signAt g j + 1 < longest)
           → length (text m (openFrom Writer inner g k past s .elements)) ≤ formatMost most past s
       unfolding openFrom formatMost nothing text every
       open-text [] k past e l = omega arith
       open-text (b ∷ s) k (suc past) e l =
-          open-text s (k + 1) past (and-eq-true-iff (isByte b) (every isByte s) .0 e .1) (λ j h. l j (omega arith))
+          open-text s (k + 1) past (both (isByte b) (every isByte s) e .1) (λ j h. l j (omega arith))
       open-text (b ∷ s) k zero e l =
           let p = pieceOf Writer b s in
           let rest = openFrom Writer inner g (k + 1) (p .length - 1) s in
-          let u = and-eq-true-iff (isByte b) (every isByte s) .0 e in
+          let f = follows Writer b s in
+          let u = both (isByte b) (every isByte s) e in
+          let w = piece-lettered b s (ltb→lt b 256 (u .0)) in
           omega (
             arith,
-            acted-text (length s) (p .length) (signAt g k) rest (λ h. l k (omega arith)) (p .act) (follows Writer b s) (piece-lettered b s (u .0)),
+            acted-text (length s) (p .length) (signAt g k) rest (λ h. l k (omega arith)) (p .act) f w,
             open-text s (k + 1) (p .length - 1) (u .1) (λ j h. l j (omega arith)),
           )
 
@@ -263,13 +263,16 @@ module _ (m : Moment) where
     unfolding compositeTo compositeMost nothing text signAt
     composite-text zero sign c h = omega arith
     composite-text (suc depth) sign c h =
-        open-text (compositeTo Writer depth) (compositeMost depth) (composite-text depth) (Of sign) (ownFormat c) 0 0 (own-bytes c) (λ j k. h)
+        open-text (compositeTo Writer depth) (compositeMost depth) (composite-text depth) (Of sign) (ownFormat c) 0 0
+        (own-passes (every isByte) c (unfold rows-compute every in tt) (unfold every in tt))
+        (λ j k. h)
 
 -- ---- and that is 99 bytes to four
 
 module _ (inner : ℕ → ℕ) (few : (c : ℕ) → inner c ≤ 49) where
   -- what stands first takes k bytes, and n bytes follow its first
-  act-bound : (n k more : ℕ) → k ≤ 1 + n → 4 * more ≤ 99 * (n - (k - 1)) → (a : Act) → Follows n k a → 4 * (actMost inner a + more) ≤ 99 * suc n
+  act-bound : (n k more : ℕ) → k ≤ 1 + n → 4 * more ≤ 99 * (n - (k - 1)) → (a : Act) → Follows n k a
+      → 4 * (actMost inner a + more) ≤ 99 * suc n
   unfolding actMost
   act-bound n k more l h (Byte b) f = omega arith
   act-bound n k more l h (Convert c y) f =
@@ -308,7 +311,7 @@ module _ (f : List ℕ) (short : length f ≤ longest) (all-bytes : every isByte
   longest-text m i =
       omega (
         arith,
-        open-text m i (compositeTo Writer 2) (compositeMost 2) (composite-text m i 2) Own f 0 0 all-bytes (λ j h. omega arith),
+        open-text m i (compositeTo Writer 2) (compositeMost 2) (composite-text m i 2) Own f 0 0 (rw all-bytes tt) (λ j h. omega arith),
         format-bound (compositeMost 2) few f 0,
       )
 
@@ -321,28 +324,31 @@ put-enough : (s b : List ℕ) → length s ≤ length b → Enough (put s b)
 unfolding put
 put-enough s b h = rw (le-leb (length s) (length b) h) (λ e. omega arith)
 
-fields-enough : (rest : Moment → Result) (t : Fields) (b : List ℕ) → ((m : Moment) → IsMoment m → Enough (rest m)) → Enough (forFields rest b t)
+fields-enough : (rest : Moment → Result) (t : Fields) (b : List ℕ) → ((m : Moment) → IsMoment m → Enough (rest m))
+    → Enough (forFields rest b t)
 unfolding forFields forMoment momentOf refused
 fields-enough rest t b f =
     let fault = momentFault (t .year) (t .month) (t .day) (t .hour) (t .minute) (t .second) in
     either (λ (r : MomentFields). Enough (forMoment rest b r)) (eqb fault 0) (λ z. f _ (eqb-true fault 0 z)) (λ _ e. omega arith)
 
 -- by a format
-pub longest-writing : (f : List ℕ) (t : Fields) (b : List ℕ) → every isByte f ≡ true → longestWriting ≤ length b → writing f t b .answer .number ≡ 4 → ⊥
+pub longest-writing : (f : List ℕ) (t : Fields) (b : List ℕ) → every isByte f ≡ true → longestWriting ≤ length b
+    → writing f t b .answer .number ≡ 4 → ⊥
 unfolding writing byFormat refused
 longest-writing f t b all-bytes h =
     either Enough (leb (length f) longest)
     (λ e. fields-enough (byFormat f b) t b (λ m i. by-format (leb-true (length f) longest e) m i (opening Writer f .ended) refl))
     (λ _ e. omega arith)
   where
-    by-format : length f ≤ longest → (m : Moment) → IsMoment m → (d : Ended) → opening Writer f .ended ≡ d → Enough (byFormat f b m)
+    by-format : length f ≤ longest → (m : Moment) → IsMoment m → (d : Ended) → opening Writer f .ended ≡ d
+        → Enough (byFormat f b m)
     by-format short m i Whole e =
         rw e (put-enough (text m (opening Writer f .elements)) b (omega (arith, longest-text f short all-bytes m i)))
     by-format short m i (BadAt p) e = rw e (λ z. omega arith)
 
 -- and by the elements that it opens to
-pub longest-elements : (f : List ℕ) (t : Fields) (b : List ℕ) → length f ≤ longest → every isByte f ≡ true → longestWriting ≤ length b
-    → elementsWriting (opening Writer f .elements) t b .answer .number ≡ 4 → ⊥
+pub longest-elements : (f : List ℕ) (t : Fields) (b : List ℕ) → length f ≤ longest → every isByte f ≡ true
+    → longestWriting ≤ length b → elementsWriting (opening Writer f .elements) t b .answer .number ≡ 4 → ⊥
 unfolding elementsWriting byElements refused
 longest-elements f t b short all-bytes h =
     let es = opening Writer f .elements in
