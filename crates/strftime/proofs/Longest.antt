@@ -16,8 +16,8 @@ use Rattle.laws.specs.Bytes.{bytes}
 use Rattle.laws.specs.Lists.{every}
 use Rattle.laws.proofs.Cases.{either, picked, clash}
 use Rattle.laws.proofs.Table.{both}
-use Rattle.text.proofs.Fill.{plain-most}
 use Rattle.calendar.specs.Calendar.{date}
+use Rattle.text.proofs.Fill.{plain-most}
 use Rattle.format.specs.Conversions.{Row, rows, conversionOf, isConversion, isNumber, ownFormat, computes as rows-compute}
 use Rattle.format.specs.Opening.{Ended, Opening, longest, conversionAt, isByte, letterOf, styleOf, flagRun, widthRun, styleFrom, takesFlag}
 use Rattle.format.specs.Opening.{after-E, after-O, paired, conversion, isUnstyled, withStyle, styled, signed, pieceOf}
@@ -34,8 +34,8 @@ use Rattle.format.specs.declared.opening.Style.{Style}
 use Rattle.format.proofs.Letters.{among-past}
 use Rattle.format.proofs.Pieces.{Unstyled, conversion-unstyled, Follows, follows}
 use Rattle.format.proofs.Rows.{own-passes}
-use Rattle.format.proofs.Styles.{flag-run, width-run}
 use Rattle.format.proofs.Small.{conversion-small}
+use Rattle.format.proofs.Styles.{flag-run, width-run}
 use Rattle.values.specs.Moments.{momentFault, momentOf}
 use Rattle.values.specs.Values.{value}
 use Rattle.values.specs.declared.Moment.{Moment}
