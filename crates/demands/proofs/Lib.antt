@@ -1,3 +1,4 @@
+pub mod Columns
 pub mod Demand
 pub mod Matched
 pub mod Rows

@@ -18,13 +18,15 @@ use Rattle.calendar.proofs.Dates.{valid-no-fault, number-of-date}
 use Rattle.format.specs.Conversions as conversions
 use Rattle.format.specs.Conversions.{conversionOf}
 use Rattle.format.specs.Opening as opening
-use Rattle.format.specs.Opening.{Opening, Whole, opening, conversionAt, letterOf}
+use Rattle.format.specs.Opening.{Opening, Whole, opening, unstyled, conversionAt, letterOf}
 use Rattle.format.specs.declared.conversions.Conversion.{Conversion}
 use Rattle.format.specs.declared.conversions.Form.the-variants.{Zeros}
+use Rattle.format.specs.declared.opening.Side.the-variants.{Writer}
 use Rattle.text.specs.declared.names.Names.the-variants.{Halves}
 use Rattle.laws.specs.Lists.{range}
 use Rattle.laws.proofs.Table.{same-at}
-use Rattle.text.specs.Case.{fold}
+use Rattle.text.specs.Case.{fold, cased}
+use Rattle.text.proofs.Fill.{fill-below}
 use Rattle.text.specs.Digits.{filled, decimal}
 use Rattle.text.specs.Names as names
 use Rattle.text.specs.Naming as naming
@@ -35,7 +37,9 @@ use Rattle.values.specs.Values.{value, dateValue, hourValue}
 use Rattle.values.specs.declared.Moment.{Moment}
 use Rattle.values.specs.declared.MomentFields.the-variants.{Valid}
 use Rattle.values.proofs.Ranges.{highest, date-ranged, hour-ranged}
-use Rattle.strftime.specs.Writing.{numbered, formed, converted, element, text, put, byFormat, forMoment, forFields, writing}
+use Rattle.strftime.proofs.Lengths.{by-form, element-plain, number-plain}
+use Rattle.strftime.specs.Writing as writer
+use Rattle.strftime.specs.Writing.{numbered, formed, element, text, put, byFormat, forMoment, forFields, writing}
 use Rattle.strftime.specs.declared.Fields.{Fields}
 use Rattle.demands.specs.Writes.{letters, letterFor, wrote, written, IsHalf, WouldWrite, onDay, atHour, halves}
 
@@ -57,12 +61,12 @@ IsMoment m = momentOf (m .date .year) (m .date .month) (m .date .day) (m .hour) 
 
 -- the conversion of kind k, as an element
 abbrev elementFor : ℕ → ℕ
-elementFor k = conversionAt 0 (letterFor k)
+elementFor k = conversionAt 0 unstyled (letterFor k)
 
 abbrev alone : ℕ → Opening
 alone e = record { elements = e ∷ []; ended = Whole }
 
-module _ (k : ℕ) (m : Moment) (v : IsMoment m) (o : opening (code "%" ∷ letterFor k ∷ []) ≡ alone (elementFor k))
+module _ (k : ℕ) (m : Moment) (v : IsMoment m) (o : opening Writer (code "%" ∷ letterFor k ∷ []) ≡ alone (elementFor k))
     {x : List ℕ} (e : element m (elementFor k) ≡ x) (short : length x ≤ 9) where
   wrote-is : wrote k (fields m) ≡ record { answer = numbered 0 (length x); buffer = sets (replicate 9 0) 0 x }
   unfolding wrote writing forFields forMoment byFormat put text
@@ -75,10 +79,10 @@ module _ (k : ℕ) (m : Moment) (v : IsMoment m) (o : opening (code "%" ∷ lett
 -- ---- the rows of the conversions for kinds 1 to 15, each by one computed test
 
 -- each is a conversion of its own
-opens : (k : ℕ) → 1 ≤ k → k ≤ 15 → opening (code "%" ∷ letterFor k ∷ []) ≡ alone (elementFor k)
-opens k p q = same-at (λ j. opening (code "%" ∷ letterFor j ∷ [])) (λ j. alone (elementFor j)) 15 1 computed k p (omega arith)
+opens : (k : ℕ) → 1 ≤ k → k ≤ 15 → opening Writer (code "%" ∷ letterFor k ∷ []) ≡ alone (elementFor k)
+opens k p q = same-at (λ j. opening Writer (code "%" ∷ letterFor j ∷ [])) (λ j. alone (elementFor j)) 15 1 computed k p (omega arith)
   where
-    computed : map (λ j. opening (code "%" ∷ letterFor j ∷ [])) (range 1 15) ≡ map (λ j. alone (elementFor j)) (range 1 15)
+    computed : map (λ j. opening Writer (code "%" ∷ letterFor j ∷ [])) (range 1 15) ≡ map (λ j. alone (elementFor j)) (range 1 15)
     computed = unfold opening.computes conversions.computes letterFor letters range in refl
 
 -- its row
@@ -115,14 +119,22 @@ fits k p q =
     computed : map roomy (range 1 14) ≡ map (λ j. true) (range 1 14)
     computed = unfold roomy conversions.computes letterFor letters range highest in refl
 
+-- its letter is a byte
+small : (k : ℕ) → 1 ≤ k → k ≤ 15 → letterFor k < 256
+small k p q = ltb-true _ 256 (same-at (λ j. ltb (letterFor j) 256) (λ j. true) 15 1 computed k p (omega arith))
+  where
+    computed : map (λ j. ltb (letterFor j) 256) (range 1 15) ≡ map (λ j. true) (range 1 15)
+    computed = unfold letterFor letters range conversions.computes in refl
+
 -- ---- kinds 1 to 14
 
 module _ (k : ℕ) (p : 1 ≤ k) (q : k ≤ 14) (m : Moment) (v : IsMoment m) (r : value k m ≤ getD highest k 0) where
   number-written : element m (elementFor k) ≡ filled 48 (rowFor k .width) (value k m)
-  unfolding element converted formed
   number-written =
-      let no : 256 ≤ elementFor k = omega arith in
-      rw (le-ltb (elementFor k) 256 no, forms k p q .1, forms k p q .0)
+      let f = fits k p q in
+      element-plain m (elementFor k) (omega arith) refl (omega (arith, small k p (omega arith)))
+      ∙ by-form unstyled (rowFor k) m (forms k p q .1) (ap (λ j. value j m) (sym (forms k p q .0)))
+      ∙ unfold formed in number-plain 48 (rowFor k .width) (value k m) (f .1) (omega (arith, f .0))
 
   number-would : (n : ℕ) → WouldWrite k n (fields m) ↔ (value k m ≡ n)
   number-would n =
@@ -162,8 +174,8 @@ half-short (suc (suc v)) h = absurd (omega arith)
 
 module _ (m : Moment) (v : IsMoment m) (r : value halfOfDay m ≤ 1) where
   half-written : element m (elementFor halfOfDay) ≡ nameFor Halves (value halfOfDay m)
-  unfolding element converted formed conversions.computes letterFor letters
-  half-written = refl
+  unfolding writer.computes conversions.computes letterFor letters cased
+  half-written = fill-below 32 0 (nameFor Halves (value halfOfDay m)) (omega arith)
 
   half-would : (n : ℕ) → WouldWrite halfOfDay n (fields m) ↔ (value halfOfDay m ≡ n)
   half-would n =

@@ -60,6 +60,8 @@ starred =
     ∷ (writes (midnight 2017 1 1) "%G %V" 7, gives 7 "2016 52")
     ∷ (writes (midnight 2000 2 29) "%A" 7, gives 7 "Tuesday")
     ∷ (writes (midnight 1900 2 29) "%A" 7, 2 ∷ 3 ∷ bytes "#######")
+    ∷ (writes (midnight 1934 11 5) "%5m" 5, gives 5 "00011")
+    ∷ (writes (midnight 1934 11 5) "%_5m" 5, gives 5 "   11")
     ∷ (reads "5 mar" "%d %b", 10 ∷ 1 ∷ 1 ∷ 3 ∷ 5 ∷ 2 ∷ 3 ∷ 5 ∷ [])
     ∷ (reads "07:08" "%I:%M", 10 ∷ 2 ∷ 7 ∷ 19 ∷ [])
     ∷ []

@@ -8,7 +8,7 @@ use mathlib.Core.Path.{_≡_, refl, sym, ap, _∙_}
 use native.Mathlib.Decide.{decLe}
 use native.Mathlib.Nat.{zero-add, le-of-suc-le-suc, lt-of-not-le}
 use native.Mathlib.Omega.{arith}
-use borrow.Author.Tests.{lt-leb, le-leb, eqb-true}
+use borrow.Author.Tests.{lt-leb, le-leb, ne-eqb, eqb-true}
 use lib.Dec.{T, eqb}
 use lib.ListN.{length, getD, drop, length-append}
 use lib.Seq.{getD-append-seam}
@@ -18,7 +18,7 @@ use Rattle.laws.proofs.Table.{at}
 use Rattle.text.specs.Digits.{isDigit, digitRun, decimal}
 use Rattle.format.specs.Conversions.{Row, Composite, among, rows, isConversion, conversionOf, composites, formatOf, ownFormat}
 use Rattle.format.specs.Conversions.{computes as rows-compute}
-use Rattle.format.specs.Opening.{Ended, Opening, unstyled, conversionAt, conversion, flags, flagRun, widthRun, styleFrom, takesFlag}
+use Rattle.format.specs.Opening.{Ended, Opening, unstyled, conversionAt, letter, piece, conversion, flags, flagRun, widthRun, styleFrom, takesFlag}
 use Rattle.format.specs.Opening.{isUnstyled, withStyle, styled, signed, pieceOf, nothing, before, composed, acted, signAt}
 use Rattle.format.specs.Opening.{openFrom, compositeTo, openTo, opening, longest, mostElements, isByte, letterOf, afterSign}
 use Rattle.format.specs.Opening.{isElement, elementsIn, entryPlace, computes}
@@ -147,6 +147,32 @@ pieces (b ∷ s) = go (begins b) refl
     go : (t : Bool) → begins b ≡ t → Pieces (styled (b ∷ s)) (conversion (b ∷ s))
     go true e = marked (b ∷ s) (begins-none b s e)
     go false e = same (unmarked b s e)
+
+-- right after a %: nothing, or a letter, alike for both sides
+pub nothing-after : (side : Side) (s : List ℕ) → length s ≡ 0 → piece Refuse 1 ≡ signed side s
+unfolding signed styled flagRun widthRun styleFrom withStyle conversion
+nothing-after Writer [] h = refl
+nothing-after Reader [] h = refl
+nothing-after side (b ∷ s) h = absurd (omega arith)
+
+letter-alone : (b : ℕ) (s : List ℕ) → (letter b ≡ Refuse → ⊥) → conversion (b ∷ s) ≡ piece (letter b) 2
+unfolding conversion
+letter-alone b s n =
+    let refused : (c : ℕ) → letter c ≡ Refuse → eqb b c ≡ false = λ c e. ne-eqb b c (λ q. n (ap letter q ∙ e)) in
+    rw (refused (code "E") (unfold letter rows-compute in refl), refused (code "O") (unfold letter rows-compute in refl))
+
+pub letter-after : (side : Side) (s : List ℕ) {a : Act} → (length s ≡ 0 → ⊥) → a ≡ letter (getD s 0 0) → (a ≡ Refuse → ⊥)
+    → piece a 2 ≡ signed side s
+unfolding signed
+letter-after side [] h e n = absurd (h refl)
+letter-after Reader (b ∷ s) h e n = rw e (sym (letter-alone b s (λ q. n (e ∙ q))))
+letter-after Writer (b ∷ s) h e n =
+    let alone = letter-alone b s (λ q. n (e ∙ q)) in
+    rw e (sym (go (begins b) refl alone))
+  where
+    go : (t : Bool) → begins b ≡ t → conversion (b ∷ s) ≡ piece (letter b) 2 → styled (b ∷ s) ≡ piece (letter b) 2
+    go true q alone = absurd (n (e ∙ (sym (ap (λ (p : Piece). p .act) alone) ∙ begins-none b s q)))
+    go false q alone = unmarked b s q ∙ alone
 
 first : (b : ℕ) (s : List ℕ) → Pieces (pieceOf Writer b s) (pieceOf Reader b s)
 unfolding pieceOf signed

@@ -298,7 +298,7 @@ fn signed(side: Side, s: &[u8]) -> Piece
     }
 }
 
-// What stands at `at`.
+// What stands at `at`. A letter right after % is looked at first: most conversions have nothing between.
 fn piece_at(side: Side, format: &[u8], at: usize) -> Piece
     requires { ⌜ at < length (now format) ⌝ }
     ensures { λ r. ⌜ r ≡ pieceOf side (getD (now (format .entry)) at 0) (drop (at + 1) (now (format .entry))) ⌝ }
@@ -310,7 +310,18 @@ fn piece_at(side: Side, format: &[u8], at: usize) -> Piece
             length: 1,
         };
     }
-    signed(side, &format[at + 1..])
+    let next = at + 1;
+    if format.len() <= next {
+        return Piece {
+            act: Act::Refuse,
+            length: 1,
+        };
+    }
+    let act = letter(format[next]);
+    let Act::Refuse = act else {
+        return Piece { act, length: 2 };
+    };
+    signed(side, &format[next..])
 }
 
 // The own format of a composite; of no other letter.

@@ -2,11 +2,13 @@
 use Prim.Native.Nat.{ℕ, _+_, _*_, _^_}
 use mathlib.Core.Bool.{cond}
 use mathlib.Core.List.{List}
-use lib.Dec.{leb}
+use lib.Dec.{eqb, leb}
 use lib.ListN.{length}
 use Rattle.format.specs.Opening.{opened}
 use Rattle.format.specs.declared.opening.Opened.{Opened}
 use Rattle.format.specs.declared.opening.Opened.the-variants.{Done, TooLong, Bad}
+use Rattle.format.specs.declared.opening.Side.{Side}
+use Rattle.format.specs.declared.opening.Side.the-variants.{Writer, Reader}
 use Rattle.strftime.specs.declared.Writing.{Writing}
 use Rattle.strptime.specs.declared.Reading.{Reading}
 
@@ -20,6 +22,10 @@ packedWriting w = packed (w .number) (w .place)
 abbrev pub packedReading : Reading → ℕ
 packedReading r = packed (r .number) (r .place)
 
+-- the side that a number asks for: 0 the reader, any other the writer
+unfoldable pub sideOf : ℕ → Side
+sideOf n = cond (eqb n 0) Reader Writer
+
 -- what opening a format into a slice with some entries answers: 0 with the count, 1, 3 with the offset of the first bad %, or 4 with the
 -- entries needed
 unfoldable pub packedOpened : ℕ → Opened → ℕ
@@ -27,5 +33,5 @@ packedOpened room (Done n) = cond (leb n room) (packed 0 n) (packed 4 n)
 packedOpened room TooLong = packed 1 0
 packedOpened room (Bad p) = packed 3 p
 
-unfoldable pub openedFor : List ℕ → List ℕ → ℕ
-openedFor f out = packedOpened (length out) (opened f)
+unfoldable pub openedFor : Side → List ℕ → List ℕ → ℕ
+openedFor d f out = packedOpened (length out) (opened d f)

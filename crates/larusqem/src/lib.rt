@@ -4,6 +4,7 @@ use calendar::Date;
 use calendar::FromFields;
 use calendar::FromNumber;
 use format::Opened;
+use format::Side;
 use format::open;
 use strftime::Fields;
 use strftime::Writing;
@@ -29,7 +30,7 @@ ghost use Rattle.strftime.specs.Writing.{writing, elementsWriting};
 ghost use Rattle.strptime.specs.Answers.{readingOf, reading, elementsReading};
 ghost use Rattle.values.specs.Values.{dayNumberOf, dateValue};
 ghost use Rattle.larusqem.specs.Dates.{valueFrom, threeInOne, dateWord, versionWord};
-ghost use Rattle.larusqem.specs.Packed.{packed, packedWriting, packedReading, openedFor};
+ghost use Rattle.larusqem.specs.Packed.{packed, packedWriting, packedReading, sideOf, openedFor};
 ghost use Rattle.larusqem.specs.Words.{fieldsOf, dayOrZero, flag, numberOr0, wordsOf};
 
 fn packed(number: u32, place: usize) -> u64
@@ -85,13 +86,23 @@ pub extern "C" fn larusqem_write_words(elements: &[u32], moment: &[u32; 6], out:
 
 // ---- Opening a format
 
-// Opens a format into elements, for `larusqem_write_words` and `larusqem_read_words`.
-#[no_mangle]
-pub extern "C" fn larusqem_open_words(format: &[u8], elements: &mut [u32]) -> u64
-    ensures { λ r. ⌜ r ≡ openedFor (now (format .entry)) (now (elements .entry)) ⌝ }
-    ensures { λ _. ⌜ now (elements .exit) ≡ openedInto (now (format .entry)) (now (elements .entry)) ⌝ }
+// The side that a number asks for: 0 the reader, any other the writer.
+fn side_of(for_writing: u32) -> Side
+    ensures { λ r. ⌜ r ≡ sideOf «for_writing» ⌝ }
 {
-    match open(format, elements) {
+    if for_writing == 0 {
+        return Side::Reader;
+    }
+    Side::Writer
+}
+
+// Opens a format into elements, for `larusqem_read_words` where `for_writing` is 0, and otherwise for `larusqem_write_words`.
+#[no_mangle]
+pub extern "C" fn larusqem_open_words(format: &[u8], for_writing: u32, elements: &mut [u32]) -> u64
+    ensures { λ r. ⌜ r ≡ openedFor (sideOf «for_writing») (now (format .entry)) (now (elements .entry)) ⌝ }
+    ensures { λ _. ⌜ now (elements .exit) ≡ openedInto (sideOf «for_writing») (now (format .entry)) (now (elements .entry)) ⌝ }
+{
+    match open(side_of(for_writing), format, elements) {
         Opened::Done { count } => {
             if elements.len() < count {
                 return packed(4, count);

@@ -10,15 +10,14 @@ use native.Mathlib.Nat.{lt-of-not-le}
 use native.Mathlib.Numerals.{add-one}
 use native.Mathlib.Omega.{arith}
 use borrow.Author.Tests.{lt-ltb, le-ltb, ltb-true}
-use lib.Dec.{T, eqb, leb, ltb, leb→le, ltb→lt}
+use lib.Dec.{eqb, leb, ltb, leb→le, ltb→lt}
 use lib.ListN.{length, drop, getD, replicate, length-append, length-take, drop-of-length-le}
 use lib.Seq.{drop-cons}
 use Rattle.laws.specs.Lists.{every}
-use Rattle.laws.proofs.Cases.{either, picked}
+use Rattle.laws.proofs.Cases.{picked}
 use Rattle.laws.proofs.Table.{both}
 use Rattle.text.specs.Case.{cased}
 use Rattle.text.specs.Digits.{plain, filled}
-use Rattle.text.specs.Fill.{fill}
 use Rattle.text.specs.Names.{nameAt}
 use Rattle.text.specs.Naming.{placeFor, nameFor}
 use Rattle.text.specs.Rows.{padded}
@@ -130,21 +129,25 @@ pub room-of : (c : Conversion) (m : Moment) → HasRoom c m → {f : Form} {v : 
     → (1 ≤ c .width) × (v < 10 ^ c .width)
 room-of c m h p q e = rw e (h (rw p q))
 
--- a form writes no more than n bytes, which has room for nine and for the width asked for
-formed-most : (n : ℕ) (y : Style) → 9 ≤ n → y .width ≤ n → (f : Form) (w v : ℕ) → w ≤ 9 → (isNumber f ≡ true → (1 ≤ w) × (v < 10 ^ w))
-    → length (formed y f w v) ≤ n
+-- the most bytes that a form and its width write by themselves: a number its width, a name nine
+abbrev pub formMost : Form → ℕ → ℕ
+formMost f w = cond (isNumber f) w 9
+
+-- a form writes no more than n bytes, which has room for that and for the width asked for
+formed-most : (n : ℕ) (y : Style) → y .width ≤ n → (f : Form) (w v : ℕ) → formMost f w ≤ n
+    → (isNumber f ≡ true → (1 ≤ w) × (v < 10 ^ w)) → length (formed y f w v) ≤ n
 unfolding formed isNumber
-formed-most n y h k Zeros w v l r =
+formed-most n y k Zeros w v l r =
     omega (arith, number-length y 48 w v, places-most y w, plain-most w v (r refl .0) (r refl .1))
-formed-most n y h k Blanks w v l r =
+formed-most n y k Blanks w v l r =
     omega (arith, number-length y 32 w v, places-most y w, plain-most w v (r refl .0) (r refl .1))
-formed-most n y h k FromSunday w v l r =
+formed-most n y k FromSunday w v l r =
     let q = r refl in
     omega (arith, number-length y 48 w (v % 7), places-most y w, plain-most w (v % 7) (q .0) (omega (arith, q .1)))
-formed-most n y h k (Short t) w v l r = rw name-length (omega (arith, name-most t v, length-take 3 (nameFor t v)))
-formed-most n y h k (Full t) w v l r = rw name-length (omega (arith, name-most t v))
-formed-most n y h k (Lower t) w v l r = rw name-length (omega (arith, name-most t v))
-formed-most n y h k Unknown w v l r = omega arith
+formed-most n y k (Short t) w v l r = rw name-length (omega (arith, name-most t v, length-take 3 (nameFor t v)))
+formed-most n y k (Full t) w v l r = rw name-length (omega (arith, name-most t v))
+formed-most n y k (Lower t) w v l r = rw name-length (omega (arith, name-most t v))
+formed-most n y k Unknown w v l r = omega arith
 
 -- the width of an element without one
 plain-width : (e : ℕ) → isElement Reader e ≡ true → styleOf e .width ≤ 9
@@ -156,13 +159,20 @@ plain-width e p =
     ]
 
 module _ (m : Moment) (i : IsMoment m) where
+  pub converted-most : (n c : ℕ) (y : Style) → y .width ≤ n → formMost (conversionOf c .form) (conversionOf c .width) ≤ n
+      → length (converted y (conversionOf c) m) ≤ n
+  unfolding converted
+  converted-most n c y k l =
+      let r = conversionOf c in
+      formed-most n y k (r .form) (r .width) (value (r .kind) m) l (has-room m i c)
+
   pub element-most : (n e : ℕ) → 9 ≤ n → styleOf e .width ≤ n → length (element m e) ≤ n
-  unfolding element converted
+  unfolding element
   element-most n e h k =
-      let c = conversionOf (letterOf e) in
+      let r = conversionOf (letterOf e) in
       picked (λ (s : List ℕ). length s ≤ n) (isByte e) (omega arith)
-      (formed-most n (styleOf e) h k (c .form) (c .width) (value (c .kind) m) (conversion-small (letterOf e) .width)
-      (has-room m i (letterOf e)))
+      (converted-most n (letterOf e) (styleOf e) k
+      (picked (λ w. w ≤ n) (isNumber (r .form)) (omega (arith, conversion-small (letterOf e) .width)) h))
 
   -- elements without flags and widths: nine bytes each
   pub text-most : (es : List ℕ) → every (isElement Reader) es ≡ true → length (text m es) ≤ 9 * length es

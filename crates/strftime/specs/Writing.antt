@@ -134,6 +134,10 @@ writing f t b =
 unfoldable pub elementsWriting : List ℕ → Fields → List ℕ → Result
 elementsWriting es t b = forFields (byElements es b) b t
 
+-- the most bytes that a format of the longest length writes: 256 times %99d (RULES 10; proofs/Longest.antt)
+abbrev pub longestWriting : ℕ
+longestWriting = 25344
+
 -- everything here, for proofs that compute
 unfoldable pub computes : Unit {0}
 unfolding fillBy placesBy number caseBy name formed converted element text writingOf refused put byFormat byElements forMoment forFields writing elementsWriting

@@ -18,10 +18,8 @@ use values::Moment;
 use values::MomentFields;
 ghost use mathlib.Core.Path.{_≡_};
 ghost use Prim.Native.Nat.{min, _*_, _≤_};
-ghost use mathlib.Core.Bool.{true};
 ghost use lib.ListN.{length};
-ghost use Rattle.laws.specs.Lists.{every};
-ghost use Rattle.format.specs.Opening.{longest, mostElements, isElement};
+ghost use Rattle.format.specs.Opening.{longest, mostElements};
 ghost use Rattle.values.specs.Moments.{momentOf};
 ghost use Rattle.strftime.specs.Private.{momentWriting, IsMoment};
 ghost use Rattle.strftime.specs.Writing.{text, put, writingOf, writing, elementsWriting};
@@ -77,8 +75,10 @@ pub fn writing_of(w: Written) -> Writing
     }
 }
 
-// The most bytes that an element without flag and width writes.
+// The most bytes that an element without flag and width writes, and one with them.
 const WIDEST: usize = 9;
+
+const WIDEST_STYLED: usize = 127;
 
 // Writes a moment by a format over the start of the buffer. The format is opened into the smallest of three arrays that has room for it.
 pub fn strftime(format: &[u8], fields: Fields, out: &mut [u8]) -> Written
@@ -117,13 +117,13 @@ pub fn write_elements(elements: &[u32], fields: Fields, out: &mut [u8]) -> Writt
         MomentFields::Bad(field) => Written::BadMoment { field },
         MomentFields::Valid(moment) => {
             if elements_in(Side::Reader, elements) == elements.len() {
-                return write_plain(elements, moment, out);
+                return write_opened(elements, moment, out, WIDEST * elements.len());
             }
             let good = elements_in(Side::Writer, elements);
             if good < elements.len() {
                 return Written::BadConversion { at: good };
             }
-            write_measured(elements, moment, out)
+            write_opened(elements, moment, out, WIDEST_STYLED * elements.len())
         }
     }
 }
@@ -136,7 +136,7 @@ fn moment_of(t: Fields) -> MomentFields
 }
 
 // Opens the format into `elements`, which has room for 13 to two bytes, and writes those. It is opened as for the reader first: most formats
-// have neither flags nor widths, and what their elements write has a bound that is known without looking at them.
+// have neither flags nor widths, and their elements need not be measured in a buffer of usual size.
 fn write_format(format: &[u8], moment: Moment, elements: &mut [u32], out: &mut [u8]) -> Written
     requires { ⌜ 13 * min longest (length (now format)) ≤ 2 * length (now elements) ⌝ }
     requires { ⌜ IsMoment moment ⌝ }
@@ -144,7 +144,7 @@ fn write_format(format: &[u8], moment: Moment, elements: &mut [u32], out: &mut [
     ensures { λ _. ⌜ now (out .exit) ≡ momentWriting (now (format .entry)) moment (now (out .entry)) .buffer ⌝ }
 {
     match open(Side::Reader, format, elements) {
-        Opened::Done { count } => write_plain(&elements[..count], moment, out),
+        Opened::Done { count } => write_opened(&elements[..count], moment, out, WIDEST * count),
         Opened::TooLong => Written::FormatTooLong,
         Opened::Bad { at: _ } => write_styled(format, moment, elements, out),
     }
@@ -158,36 +158,28 @@ fn write_styled(format: &[u8], moment: Moment, elements: &mut [u32], out: &mut [
     ensures { λ _. ⌜ now (out .exit) ≡ momentWriting (now (format .entry)) moment (now (out .entry)) .buffer ⌝ }
 {
     match open(Side::Writer, format, elements) {
-        Opened::Done { count } => write_measured(&elements[..count], moment, out),
+        Opened::Done { count } => {
+            write_opened(&elements[..count], moment, out, WIDEST_STYLED * count)
+        }
         Opened::TooLong => Written::FormatTooLong,
         Opened::Bad { at } => Written::BadConversion { at },
     }
 }
 
-// Writes a moment by elements without flags and widths. Where the buffer has room whatever they write, they are not measured.
-fn write_plain(elements: &[u32], moment: Moment, out: &mut [u8]) -> Written
-    requires { ⌜ (length (now elements) ≤ mostElements) × (every (isElement Side.Reader) (now elements) ≡ true) ⌝ }
-    requires { ⌜ IsMoment moment ⌝ }
-    ensures { λ r. ⌜ writingOf r ≡ put (text moment (now (elements .entry))) (now (out .entry)) .answer ⌝ }
-    ensures { λ _. ⌜ now (out .exit) ≡ put (text moment (now (elements .entry))) (now (out .entry)) .buffer ⌝ }
-{
-    if out.len() < WIDEST * elements.len() {
-        return write_measured(elements, moment, out);
-    }
-    let n = put_elements(out, elements, moment);
-    Written::Done { count: n }
-}
-
-// Writes a moment by elements, whose text is measured first: nothing is put before it is known to fit.
-fn write_measured(elements: &[u32], moment: Moment, out: &mut [u8]) -> Written
+// Writes a moment by elements, which write at most `most` bytes. Their text is measured first, unless the buffer has room for so many:
+// nothing is put before it is known to fit.
+fn write_opened(elements: &[u32], moment: Moment, out: &mut [u8], most: usize) -> Written
     requires { ⌜ length (now elements) ≤ mostElements ⌝ }
+    requires { ⌜ length (text moment (now elements)) ≤ most ⌝ }
     requires { ⌜ IsMoment moment ⌝ }
     ensures { λ r. ⌜ writingOf r ≡ put (text moment (now (elements .entry))) (now (out .entry)) .answer ⌝ }
     ensures { λ _. ⌜ now (out .exit) ≡ put (text moment (now (elements .entry))) (now (out .entry)) .buffer ⌝ }
 {
-    let needed = measure(elements, moment);
-    if out.len() < needed {
-        return Written::BufferTooSmall { needed };
+    if out.len() < most {
+        let needed = measure(elements, moment);
+        if out.len() < needed {
+            return Written::BufferTooSmall { needed };
+        }
     }
     let n = put_elements(out, elements, moment);
     Written::Done { count: n }

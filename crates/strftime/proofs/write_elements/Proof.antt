@@ -4,6 +4,7 @@ use native.Mathlib.Omega.{arith}
 use Rattle.format.specs.Opening.{mostElements}
 use Rattle.format.specs.declared.opening.Side.the-variants.{Writer, Reader}
 use Rattle.format.proofs.Entries.{counted-few, counted-all}
+use Rattle.strftime.proofs.Lengths.{text-most, text-any}
 use Rattle.strftime.proofs.Order.{is-moment, bad-fields, bad-entry, plain-elements, all-elements}
 use borrow.Author.Needs.{needs}
 use Rattle.strftime.proofs.write_elements.Statement.{statement}
@@ -21,15 +22,18 @@ enum-known-moment c = search needs
 elements-in-requires : tie.Need-elements-in-requires
 elements-in-requires c κs = search needs
 
-write-plain-requires : tie.Need-write-plain-requires
-write-plain-requires c κs =
+write-opened-requires : tie.Need-write-opened-requires
+write-opened-requires c κs =
     let e = c .before .before in
     let m = c .before .before .before .before in
     let es = c .before .before .before .before .before .before .before .before .before .args .elements .now in
-    let q = sym (e .elements-in .ensures) ∙ c .before .if1 .taken in (
-      (omega (arith, counted-few Reader mostElements es, q), counted-all Reader mostElements es q),
-      is-moment _ (m .before .before .moment-of .ensures) (m .moment .given .1),
-    )
+    let i = is-moment _ (m .before .before .moment-of .ensures) (m .moment .given .1) in
+    let q = sym (e .elements-in .ensures) ∙ c .before .if1 .taken in
+    let long = text-most (m .moment .given .0 .0) i es (counted-all Reader mostElements es q) in
+    (omega (arith, counted-few Reader mostElements es, q), (omega (arith, long), i))
+
+mul-write-opened : tie.Need-mul-write-opened
+mul-write-opened c = omega (arith, counted-few Reader mostElements (c .before .before .before .before .before .before .before .before .before .args .elements .now), c .before .before .elements-in .ensures, c .before .if1 .taken)
 
 same-length : tie.Need-same-length
 same-length c = search needs
@@ -40,7 +44,7 @@ returns c =
     let m = w .before .before .before .before in
     plain-elements _ (m .before .before .moment-of .ensures) _ _ (m .moment .given .1)
     (sym (w .before .if1 .taken) ∙ w .before .before .elements-in .ensures)
-    (c .before .before .write-plain .ensures)
+    (c .before .before .write-opened .ensures)
 
 elements-in-requires-2 : tie.Need-elements-in-requires-2
 elements-in-requires-2 c κs = search needs
@@ -52,13 +56,16 @@ returns-2 c =
     bad-entry (a .fields) (m .before .before .moment-of .ensures) (a .elements .now) (a .out .now) (m .moment .given .1)
     (c .before .elements-in2 .ensures) (omega arith)
 
-write-measured-requires : tie.Need-write-measured-requires
-write-measured-requires c κs =
+write-opened-requires-2 : tie.Need-write-opened-requires-2
+write-opened-requires-2 c κs =
     let e = c .before .before in
-    let m = c .before .before .before .before .before .before in (
-      omega (arith, counted-few Writer mostElements (c .before .before .before .before .before .before .before .before .before .before .before .args .elements .now), e .elements-in2 .ensures),
-      is-moment _ (m .before .before .moment-of .ensures) (m .moment .given .1),
-    )
+    let m = c .before .before .before .before .before .before in
+    let es = c .before .before .before .before .before .before .before .before .before .before .before .args .elements .now in
+    let i = is-moment _ (m .before .before .moment-of .ensures) (m .moment .given .1) in
+    (omega (arith, counted-few Writer mostElements es, e .elements-in2 .ensures), (omega (arith, text-any (m .moment .given .0 .0) i es), i))
+
+mul-write-opened-2 : tie.Need-mul-write-opened-2
+mul-write-opened-2 c = omega (arith, counted-few Writer mostElements (c .before .before .before .before .before .before .before .before .before .before .before .args .elements .now), c .before .before .elements-in2 .ensures)
 
 returns-3 : tie.Need-returns-3
 returns-3 c = bad-fields _ (c .before .before .before .moment-of .ensures) _ _ (c .before .field .given .1)
@@ -71,7 +78,7 @@ returns-4 c =
     let e = c .before .before .before .before .before in
     let m = e .before .before .before .before in
     all-elements _ (m .before .before .moment-of .ensures) _ _ (m .moment .given .1) (e .elements-in2 .ensures)
-    (omega arith) (c .before .before .write-measured .ensures)
+    (omega arith) (c .before .before .write-opened2 .ensures)
 
 pub write-elements-spec : {M : Type 1} → statement M
 write-elements-spec =
@@ -81,12 +88,14 @@ write-elements-spec =
     enum-known-field
     enum-known-moment
     elements-in-requires
-    write-plain-requires
+    mul-write-opened
+    write-opened-requires
     same-length
     returns
     elements-in-requires-2
     returns-2
-    write-measured-requires
+    mul-write-opened-2
+    write-opened-requires-2
     returns-3
     same-length-2
     returns-4)

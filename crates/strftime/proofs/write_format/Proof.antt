@@ -4,6 +4,7 @@ use native.Mathlib.Omega.{arith}
 use lib.Seq.{length-take-le}
 use Rattle.format.specs.declared.opening.Side.the-variants.{Reader}
 use Rattle.format.proofs.Opened.{opened-long}
+use Rattle.strftime.proofs.Lengths.{text-most}
 use Rattle.strftime.proofs.Order.{Stored, all-stored, all-unstyled, long-format, plain-format}
 use borrow.Author.Needs.{needs}
 use Rattle.strftime.proofs.write_format.Statement.{statement}
@@ -25,17 +26,26 @@ open-requires c κs = search needs
 enum-known-count : tie.Need-enum-known-count
 enum-known-count c = search needs
 
-slice-reshare-prefix-write-plain : tie.Need-slice-reshare-prefix-write-plain
-slice-reshare-prefix-write-plain c = holds (c .before) .room
+slice-reshare-prefix-write-opened : tie.Need-slice-reshare-prefix-write-opened
+slice-reshare-prefix-write-opened c = holds (c .before) .room
 
-slice-aggregate-write-plain : tie.Need-slice-aggregate-write-plain
-slice-aggregate-write-plain c = sym (length-take-le _ _ (holds (c .before .before) .room))
+slice-aggregate-write-opened : tie.Need-slice-aggregate-write-opened
+slice-aggregate-write-opened c = sym (length-take-le _ _ (holds (c .before .before) .room))
 
-write-plain-requires : tie.Need-write-plain-requires
-write-plain-requires c κs =
+mul-write-opened : tie.Need-mul-write-opened
+mul-write-opened c =
+    let h = holds (c .before .before .before) in
+    omega (arith, h .opens .few)
+
+write-opened-requires : tie.Need-write-opened-requires
+write-opened-requires c κs =
     let l = c .before .before .before in
     let known = l .before .before .before .before .before .before .before .before .shared-slice-known .given in
-    (all-unstyled (start l .args .format .now) (λ k. omega (arith, known k)) (holds l), start l .pre .1)
+    let s = start l in
+    let u = all-unstyled (s .args .format .now) (λ k. omega (arith, known k)) (holds l) in
+    let long = text-most (s .args .moment) (s .pre .1) _ (u .1) in
+    let all = holds l in
+    (u .0, (rw (all .first) (rw (all .first, ← all .opens .count) at long), s .pre .1))
 
 enum-told : tie.Need-enum-told
 enum-told c = search needs
@@ -54,7 +64,7 @@ same-length-2 c = search needs
 
 returns : tie.Need-returns
 returns c =
-    plain-format _ _ _ (holds (c .before .before .before .before .before .before)) (c .before .before .write-plain .ensures)
+    plain-format _ _ _ (holds (c .before .before .before .before .before .before)) (c .before .before .write-opened .ensures)
 
 same-length-3 : tie.Need-same-length-3
 same-length-3 c = search needs
@@ -77,9 +87,10 @@ write-format-spec =
     (tie.spec
     open-requires
     enum-known-count
-    slice-reshare-prefix-write-plain
-    slice-aggregate-write-plain
-    write-plain-requires
+    slice-reshare-prefix-write-opened
+    slice-aggregate-write-opened
+    mul-write-opened
+    write-opened-requires
     enum-told
     enum-told-2
     write-styled-requires
