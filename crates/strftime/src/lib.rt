@@ -103,7 +103,7 @@ pub fn strftime(format: &[u8], fields: Fields, out: &mut [u8]) -> Written
                 return write_format(format, moment, &mut elements, out);
             }
             let mut elements = [0u32; MOST_ELEMENTS];
-            write_format(format, moment, &mut elements, out)
+            write_styled(format, moment, &mut elements, out)
         }
     }
 }
@@ -143,14 +143,13 @@ fn write_format(format: &[u8], moment: Moment, elements: &mut [u32], out: &mut [
     ensures { λ r. ⌜ writingOf r ≡ momentWriting (now (format .entry)) moment (now (out .entry)) .answer ⌝ }
     ensures { λ _. ⌜ now (out .exit) ≡ momentWriting (now (format .entry)) moment (now (out .entry)) .buffer ⌝ }
 {
-    match open(Side::Reader, format, elements) {
-        Opened::Done { count } => write_opened(&elements[..count], moment, out, WIDEST * count),
-        Opened::TooLong => Written::FormatTooLong,
-        Opened::Bad { at: _ } => write_styled(format, moment, elements, out),
-    }
+    let Opened::Done { count } = open(Side::Reader, format, elements) else {
+        return write_styled(format, moment, elements, out);
+    };
+    write_opened(&elements[..count], moment, out, WIDEST * count)
 }
 
-// The same by a format with flags or widths.
+// The same by any format: a long one is opened so at once, since few buffers have room for nine bytes to each of its elements.
 fn write_styled(format: &[u8], moment: Moment, elements: &mut [u32], out: &mut [u8]) -> Written
     requires { ⌜ 13 * min longest (length (now format)) ≤ 2 * length (now elements) ⌝ }
     requires { ⌜ IsMoment moment ⌝ }

@@ -49,11 +49,11 @@ returns-3 c =
     let m = c .before .before .before .before .before .before .before .before .before in
     good-moment _ (m .before .before .moment-of .ensures) _ _ (m .moment .given .1) (c .before .before .before .write-format2 .ensures)
 
-slice-aggregate-write-format-3 : tie.Need-slice-aggregate-write-format-3
-slice-aggregate-write-format-3 c = search needs
+slice-aggregate-write-styled : tie.Need-slice-aggregate-write-styled
+slice-aggregate-write-styled c = search needs
 
-write-format-requires-3 : tie.Need-write-format-requires-3
-write-format-requires-3 c κs =
+write-styled-requires : tie.Need-write-styled-requires
+write-styled-requires c κs =
     let m = c .before .before .before .before .before in
     (omega arith, is-moment _ (m .before .before .moment-of .ensures) (m .moment .given .1))
 
@@ -66,7 +66,7 @@ same-length-3 c = search needs
 returns-5 : tie.Need-returns-5
 returns-5 c =
     let m = c .before .before .before .before .before .before .before .before .before in
-    good-moment _ (m .before .before .moment-of .ensures) _ _ (m .moment .given .1) (c .before .before .before .write-format3 .ensures)
+    good-moment _ (m .before .before .moment-of .ensures) _ _ (m .moment .given .1) (c .before .before .before .write-styled .ensures)
 
 pub strftime-spec : {M : Type 1} → statement M
 strftime-spec =
@@ -84,8 +84,8 @@ strftime-spec =
     write-format-requires-2
     same-length-2
     returns-3
-    slice-aggregate-write-format-3
-    write-format-requires-3
+    slice-aggregate-write-styled
+    write-styled-requires
     returns-4
     same-length-3
     returns-5)

@@ -3,9 +3,8 @@ use mathlib.Core.Path.{sym}
 use native.Mathlib.Omega.{arith}
 use lib.Seq.{length-take-le}
 use Rattle.format.specs.declared.opening.Side.the-variants.{Reader}
-use Rattle.format.proofs.Opened.{opened-long}
 use Rattle.strftime.proofs.Lengths.{text-most}
-use Rattle.strftime.proofs.Order.{Stored, all-stored, all-unstyled, long-format, plain-format}
+use Rattle.strftime.proofs.Order.{Stored, all-stored, all-unstyled, plain-format}
 use borrow.Author.Needs.{needs}
 use Rattle.strftime.proofs.write_format.Statement.{statement}
 use Rattle.strftime.proofs.write_format.Tie as tie
@@ -25,6 +24,18 @@ open-requires c κs = search needs
 
 enum-known-count : tie.Need-enum-known-count
 enum-known-count c = search needs
+
+write-styled-requires : tie.Need-write-styled-requires
+write-styled-requires c κs = search needs
+
+same-length : tie.Need-same-length
+same-length c = search needs
+
+same-length-2 : tie.Need-same-length-2
+same-length-2 c = search needs
+
+returns : tie.Need-returns
+returns c = search needs
 
 slice-reshare-prefix-write-opened : tie.Need-slice-reshare-prefix-write-opened
 slice-reshare-prefix-write-opened c = holds (c .before) .room
@@ -47,39 +58,15 @@ write-opened-requires c κs =
     let all = holds l in
     (u .0, (rw (all .first) (rw (all .first, ← all .opens .count) at long), s .pre .1))
 
-enum-told : tie.Need-enum-told
-enum-told c = search needs
-
-enum-told-2 : tie.Need-enum-told-2
-enum-told-2 c = search needs
-
-write-styled-requires : tie.Need-write-styled-requires
-write-styled-requires c κs = search needs
-
-same-length : tie.Need-same-length
-same-length c = search needs
-
-same-length-2 : tie.Need-same-length-2
-same-length-2 c = search needs
-
-returns : tie.Need-returns
-returns c =
-    plain-format _ _ _ (holds (c .before .before .before .before .before .before)) (c .before .before .write-opened .ensures)
-
 same-length-3 : tie.Need-same-length-3
 same-length-3 c = search needs
-
-returns-2 : tie.Need-returns-2
-returns-2 c = long-format _ _ _ (opened-long Reader _ (c .before .before .before .before .«open» .ensures .0) (c .enum-told .given .1))
 
 same-length-4 : tie.Need-same-length-4
 same-length-4 c = search needs
 
-same-length-5 : tie.Need-same-length-5
-same-length-5 c = search needs
-
-returns-3 : tie.Need-returns-3
-returns-3 c = search needs
+returns-2 : tie.Need-returns-2
+returns-2 c =
+    plain-format _ _ _ (holds (c .before .before .before .before .before .before)) (c .before .before .write-opened .ensures)
 
 pub write-format-spec : {M : Type 1} → statement M
 write-format-spec =
@@ -87,18 +74,14 @@ write-format-spec =
     (tie.spec
     open-requires
     enum-known-count
-    slice-reshare-prefix-write-opened
-    slice-aggregate-write-opened
-    mul-write-opened
-    write-opened-requires
-    enum-told
-    enum-told-2
     write-styled-requires
     same-length
     same-length-2
     returns
+    slice-reshare-prefix-write-opened
+    slice-aggregate-write-opened
+    mul-write-opened
+    write-opened-requires
     same-length-3
-    returns-2
     same-length-4
-    same-length-5
-    returns-3)
+    returns-2)
