@@ -80,7 +80,8 @@ const WIDEST: usize = 9;
 
 const WIDEST_STYLED: usize = 127;
 
-// Writes a moment by a format over the start of the buffer. The format is opened into the smallest of three arrays that has room for it.
+// Writes a moment by a format over the start of the buffer. A format that is not long is opened as for the reader first, into the smallest
+// array that has room for it: most have neither flags nor widths.
 pub fn strftime(format: &[u8], fields: Fields, out: &mut [u8]) -> Written
     ensures { λ r. ⌜ writingOf r ≡ writing (now (format .entry)) fields (now (out .entry)) .answer ⌝ }
     ensures { λ _. ⌜ now (out .exit) ≡ writing (now (format .entry)) fields (now (out .entry)) .buffer ⌝ }
@@ -102,8 +103,7 @@ pub fn strftime(format: &[u8], fields: Fields, out: &mut [u8]) -> Written
                 let mut elements = [0u32; MIDDLE_ELEMENTS];
                 return write_format(format, moment, &mut elements, out);
             }
-            let mut elements = [0u32; MOST_ELEMENTS];
-            write_styled(format, moment, &mut elements, out)
+            write_styled(format, moment, out)
         }
     }
 }
@@ -135,8 +135,8 @@ fn moment_of(t: Fields) -> MomentFields
     Moment::from_fields(t.year, t.month, t.day, t.hour, t.minute, t.second)
 }
 
-// Opens the format into `elements`, which has room for 13 to two bytes, and writes those. It is opened as for the reader first: most formats
-// have neither flags nor widths, and their elements need not be measured in a buffer of usual size.
+// Opens the format into `elements`, which has room for 13 to two bytes, and writes those where they have neither flags nor widths: such need
+// not be measured in a buffer of usual size.
 fn write_format(format: &[u8], moment: Moment, elements: &mut [u32], out: &mut [u8]) -> Written
     requires { ⌜ 13 * min longest (length (now format)) ≤ 2 * length (now elements) ⌝ }
     requires { ⌜ IsMoment moment ⌝ }
@@ -144,13 +144,31 @@ fn write_format(format: &[u8], moment: Moment, elements: &mut [u32], out: &mut [
     ensures { λ _. ⌜ now (out .exit) ≡ momentWriting (now (format .entry)) moment (now (out .entry)) .buffer ⌝ }
 {
     let Opened::Done { count } = open(Side::Reader, format, elements) else {
-        return write_styled(format, moment, elements, out);
+        return write_styled(format, moment, out);
     };
     write_opened(&elements[..count], moment, out, WIDEST * count)
 }
 
-// The same by any format: a long one is opened so at once, since few buffers have room for nine bytes to each of its elements.
-fn write_styled(format: &[u8], moment: Moment, elements: &mut [u32], out: &mut [u8]) -> Written
+// The same by any format, opened into the smallest of three arrays that has room for it.
+fn write_styled(format: &[u8], moment: Moment, out: &mut [u8]) -> Written
+    requires { ⌜ IsMoment moment ⌝ }
+    ensures { λ r. ⌜ writingOf r ≡ momentWriting (now (format .entry)) moment (now (out .entry)) .answer ⌝ }
+    ensures { λ _. ⌜ now (out .exit) ≡ momentWriting (now (format .entry)) moment (now (out .entry)) .buffer ⌝ }
+{
+    if format.len() <= SHORT_BYTES {
+        let mut elements = [0u32; SHORT_ELEMENTS];
+        return write_into(format, moment, &mut elements, out);
+    }
+    if format.len() <= MIDDLE_BYTES {
+        let mut elements = [0u32; MIDDLE_ELEMENTS];
+        return write_into(format, moment, &mut elements, out);
+    }
+    let mut elements = [0u32; MOST_ELEMENTS];
+    write_into(format, moment, &mut elements, out)
+}
+
+// Opens the format into `elements`, which has room for 13 to two bytes, and writes those.
+fn write_into(format: &[u8], moment: Moment, elements: &mut [u32], out: &mut [u8]) -> Written
     requires { ⌜ 13 * min longest (length (now format)) ≤ 2 * length (now elements) ⌝ }
     requires { ⌜ IsMoment moment ⌝ }
     ensures { λ r. ⌜ writingOf r ≡ momentWriting (now (format .entry)) moment (now (out .entry)) .answer ⌝ }

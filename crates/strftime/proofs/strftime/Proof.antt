@@ -49,13 +49,10 @@ returns-3 c =
     let m = c .before .before .before .before .before .before .before .before .before in
     good-moment _ (m .before .before .moment-of .ensures) _ _ (m .moment .given .1) (c .before .before .before .write-format2 .ensures)
 
-slice-aggregate-write-styled : tie.Need-slice-aggregate-write-styled
-slice-aggregate-write-styled c = search needs
-
 write-styled-requires : tie.Need-write-styled-requires
 write-styled-requires c κs =
-    let m = c .before .before .before .before .before in
-    (omega arith, is-moment _ (m .before .before .moment-of .ensures) (m .moment .given .1))
+    let m = c .before .before .before .before in
+    is-moment _ (m .before .before .moment-of .ensures) (m .moment .given .1)
 
 returns-4 : tie.Need-returns-4
 returns-4 c = bad-moment _ (c .before .before .before .before .moment-of .ensures) _ _ (omega arith) (c .before .before .field .given .1)
@@ -65,8 +62,8 @@ same-length-3 c = search needs
 
 returns-5 : tie.Need-returns-5
 returns-5 c =
-    let m = c .before .before .before .before .before .before .before .before .before in
-    good-moment _ (m .before .before .moment-of .ensures) _ _ (m .moment .given .1) (c .before .before .before .write-styled .ensures)
+    let m = c .before .before .before .before .before .before .before in
+    good-moment _ (m .before .before .moment-of .ensures) _ _ (m .moment .given .1) (c .before .before .write-styled .ensures)
 
 pub strftime-spec : {M : Type 1} → statement M
 strftime-spec =
@@ -84,7 +81,6 @@ strftime-spec =
     write-format-requires-2
     same-length-2
     returns-3
-    slice-aggregate-write-styled
     write-styled-requires
     returns-4
     same-length-3

@@ -1,4 +1,4 @@
--- `strftime::write_styled` meets its contract: the array has room for all elements of a format that is not too long.
+-- `strftime::write_into` meets its contract: the array has room for all elements of a format that is not too long.
 use mathlib.Core.Path.{sym}
 use native.Mathlib.Omega.{arith}
 use lib.Seq.{length-take-le}
@@ -8,8 +8,8 @@ use Rattle.format.proofs.Opened.{opened-bad, opened-long}
 use Rattle.strftime.proofs.Lengths.{text-any}
 use Rattle.strftime.proofs.Order.{Stored, all-stored, long-format, bad-format, whole-format}
 use borrow.Author.Needs.{needs}
-use Rattle.strftime.proofs.write_styled.Statement.{statement}
-use Rattle.strftime.proofs.write_styled.Tie as tie
+use Rattle.strftime.proofs.write_into.Statement.{statement}
+use Rattle.strftime.proofs.write_into.Tie as tie
 
 -- the function's entry, where the elements are all stored, and that they are
 abbrev start : tie.After-count → tie.Start
@@ -77,8 +77,8 @@ returns-3 c =
     bad-format (a .format .now) (a .moment) (a .out .now)
     (opened-bad Writer (a .format .now) (o .«open» .ensures .0) (c .before .at .given .1))
 
-pub write-styled-spec : {M : Type 1} → statement M
-write-styled-spec =
+pub write-into-spec : {M : Type 1} → statement M
+write-into-spec =
     tie.close
     (tie.spec
     open-requires
