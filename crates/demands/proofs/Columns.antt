@@ -341,26 +341,22 @@ flag-cases P f e p q r s =
     (λ _. either (λ (t : Bool). t ≡ true → P f) (eqb f 48) (λ z _. rw (eqb-true f 48 z) s) (λ _ z. clash (cc)))))
     e
 
--- a number is its digits, filled
-filled-by : (f w own width v : ℕ) → among f (0 ∷ bytes "_-0") ≡ true
-    → writer.number (record { flag = f; width = w }) own width v
-    ≡ cond (eqb f 45) (plain v)
-    (cond (eqb f 95) (fill 32 (max width w) (plain v)) (cond (eqb f 48) (fill 48 (max width w) (plain v)) (fill own (max width w) (plain v))))
-unfolding writer.number writer.fillBy writer.placesBy
-filled-by f w own width v a =
-    flag-cases
-    (λ f. writer.number (record { flag = f; width = w }) own width v
-    ≡ cond (eqb f 45) (plain v)
-    (cond (eqb f 95) (fill 32 (max width w) (plain v)) (cond (eqb f 48) (fill 48 (max width w) (plain v)) (fill own (max width w) (plain v)))))
-    f a refl refl (fill-below own 0 (plain v) (omega arith)) refl
-
--- by the forms of numbers: the weekday from Sunday, those filled with blanks, and the others
+-- the column that a number v makes: its digits, filled
 abbrev Column : ℕ → ℕ → ℕ → ℕ → ℕ → List ℕ → Type 0
 Column f w own width v x =
+    let n = max width w in
     x
     ≡ cond (eqb f 45) (plain v)
-    (cond (eqb f 95) (fill 32 (max width w) (plain v)) (cond (eqb f 48) (fill 48 (max width w) (plain v)) (fill own (max width w) (plain v))))
+    (cond (eqb f 95) (fill 32 n (plain v)) (cond (eqb f 48) (fill 48 n (plain v)) (fill own n (plain v))))
 
+filled-by : (f w own width v : ℕ) → among f (0 ∷ bytes "_-0") ≡ true
+    → Column f w own width v (writer.number (record { flag = f; width = w }) own width v)
+unfolding writer.number writer.fillBy writer.placesBy
+filled-by f w own width v a =
+    flag-cases (λ f. Column f w own width v (writer.number (record { flag = f; width = w }) own width v)) f a
+    refl refl (fill-below own 0 (plain v) (omega arith)) refl
+
+-- by the forms of numbers: the weekday from Sunday, those filled with blanks, and the others
 module _ (f w width v : ℕ) (a : among f (0 ∷ bytes "_-0") ≡ true) where
   not-sunday : (t : Bool) → Column f w (cond t 32 48) width v (formed (record { flag = f; width = w }) (cond t Blanks Zeros) width v)
   unfolding formed

@@ -37,7 +37,7 @@ use Rattle.format.proofs.Rows.{own-passes, conversion-known}
 use Rattle.format.proofs.Styles.{flag-run, width-run}
 
 -- a conversion's letter is a byte
-letter-below : (c : ℕ) → isConversion c ≡ true → c < 256
+pub letter-below : (c : ℕ) → isConversion c ≡ true → c < 256
 unfolding isConversion
 letter-below c e =
     elim (decLe 256 c) [

@@ -74,7 +74,8 @@ module _ (side : Side) (f : List ℕ) {r : Opened} (a : r ≡ opened side f) whe
       leb-false (length f) longest (long (leb (length f) longest) (o .ended) (length (o .elements)) (sym a ∙ e))
 
 -- f is opened into xs, which then holds ys: where there was room for all elements, they are its first entries
-pub stored : (side : Side) (f xs : List ℕ) {n : ℕ} {ys : List ℕ} → ys ≡ openedInto side f xs → Opens side f n → n ≤ length xs → take n ys ≡ opening side f .elements
+pub stored : (side : Side) (f xs : List ℕ) {n : ℕ} {ys : List ℕ} → ys ≡ openedInto side f xs → Opens side f n → n ≤ length xs
+    → take n ys ≡ opening side f .elements
 unfolding openedInto
 stored side f xs {n} {ys} s o h =
     let es = opening side f .elements in

@@ -18,10 +18,10 @@ use Rattle.laws.proofs.Table.{at}
 use Rattle.text.specs.Digits.{isDigit, digitRun, decimal}
 use Rattle.format.specs.Conversions.{Row, Composite, among, rows, isConversion, conversionOf, composites, formatOf, ownFormat}
 use Rattle.format.specs.Conversions.{computes as rows-compute}
-use Rattle.format.specs.Opening.{Ended, Opening, unstyled, conversionAt, letter, piece, conversion, flags, flagRun, widthRun, styleFrom, takesFlag}
+use Rattle.format.specs.Opening.{Ended, Opening, unstyled, conversionAt, letter, piece, conversion, flags, flagRun, widthRun}
 use Rattle.format.specs.Opening.{isUnstyled, withStyle, styled, signed, pieceOf, nothing, before, composed, acted, signAt}
 use Rattle.format.specs.Opening.{openFrom, compositeTo, openTo, opening, longest, mostElements, isByte, letterOf, afterSign}
-use Rattle.format.specs.Opening.{isElement, elementsIn, entryPlace, computes}
+use Rattle.format.specs.Opening.{styleFrom, takesFlag, isElement, elementsIn, entryPlace, computes}
 use Rattle.format.specs.Opening.Ended.{Whole, BadAt}
 use Rattle.format.specs.declared.opening.Act.{Act}
 use Rattle.format.specs.declared.opening.Act.the-variants.{Byte, Convert, Open, Refuse}
@@ -31,7 +31,7 @@ use Rattle.format.specs.declared.opening.Side.the-variants.{Writer, Read
 use Rattle.format.specs.declared.opening.Sign.the-variants.{Own, Of}
 use Rattle.format.specs.declared.opening.Style.{Style}
 use Rattle.format.proofs.Bound.{bound}
-use Rattle.format.proofs.Elements.{elements, element-at}
+use Rattle.format.proofs.Elements.{letter-below, elements, element-at}
 use Rattle.format.proofs.Entry.{signed-is, styled-no}
 use Rattle.format.proofs.Letters.{among-past}
 use Rattle.format.proofs.Pieces.{Unstyled, conversion-unstyled, Follows, follows}
@@ -314,14 +314,6 @@ counted-before side (suc n) [] e more t f h = rw f
 counted-before side (suc n) (x ∷ es) e more t f h =
     let u = and-eq-true-iff (isElement side x) (every (isElement side) es) .0 t in
     rw (u .0) (ap suc (counted-before side n es e more (u .1) f (le-of-suc-le-suc h)))
-
-letter-below : (c : ℕ) → isConversion c ≡ true → c < 256
-unfolding isConversion
-letter-below c e =
-    elim (decLe 256 c) [
-      | yes h ↦ let f = among-past 256 (map (λ (r : Row). r .letter) rows) (unfold rows-compute in tt) c h in clash (cc)
-      | no h ↦ lt-of-not-le h
-    ]
 
 -- a conversion with a flag or a width is no element to the reader
 module _ (sign c : ℕ) (y : Style) (h : sign + 1 < longest) (k : isConversion c ≡ true) (w : y .width ≤ 99) (u : isUnstyled y ≡ false) where

@@ -59,7 +59,8 @@ unfolding compositeTo
 deepest side depth sign c e = rw e
 
 -- otherwise its own format is opened one less deep
-deeper : (side : Side) (depth sign c : ℕ) → (depth ≡ 0 → ⊥) → openTo side (depth - 1) (Of sign) (ownFormat c) ≡ compositeTo side depth sign c
+deeper : (side : Side) (depth sign c : ℕ) → (depth ≡ 0 → ⊥)
+    → openTo side (depth - 1) (Of sign) (ownFormat c) ≡ compositeTo side depth sign c
 unfolding openTo compositeTo
 deeper side zero sign c h = absurd (h refl)
 deeper side (suc d) sign c h = let e : suc d - 1 ≡ d = omega arith in rw e

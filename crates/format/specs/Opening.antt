@@ -252,6 +252,6 @@ entryPlace es k = let e = getD es k 0 in cond (isElement Writer e && not (isElem
 -- everything here, for proofs that compute
 unfoldable pub computes : Unit {0}
 unfolding after-E after-O letter paired conversion flags flagRun widthRun styleFrom takesFlag isUnstyled withStyle styled signed pieceOf
-    nothing before composed acted signAt openFrom compositeTo openTo opening closed opened openedInto hasStyle isElement elementsIn entryPlace
-    isDigit digitRun decimal
+    nothing before composed acted signAt openFrom compositeTo openTo opening closed opened openedInto hasStyle isElement elementsIn
+    entryPlace isDigit digitRun decimal
 computes = tt

@@ -5,8 +5,9 @@ use mathlib.Core.List.{List, [], _∷_, _++_, append-nil}
 use mathlib.Core.Path.{_≡_, refl, sym, ap, _∙_}
 use native.Mathlib.Nat.{add-zero, add-suc, suc-add}
 use native.Mathlib.Omega.{arith}
-use lib.ListN.{length, take, drop, set, take-append-drop, drop-of-length-le}
+use lib.ListN.{length, take, drop, set, length-append, take-append-drop, drop-of-length-le}
 use lib.Seq.{sets, take-all, drop-nil, set-out}
+use Rattle.laws.specs.Stores.{Puts}
 
 -- one list after the other
 pub sets-append : (l : List ℕ) (i : ℕ) (a b : List ℕ) → sets l i (a ++ b) ≡ sets (sets l i a) (i + length a) b
@@ -50,3 +51,12 @@ sets-part l zero k vs = sets-first l k vs
 sets-part [] (suc i) k vs =
     rw (sets-past [] (take k vs) (suc i) (omega arith)) (sets-first [] k vs ∙ sets-past [] (take k vs) 0 (omega arith))
 sets-part (x ∷ l) (suc i) k vs = rw sets-shift (ap (λ (r : List ℕ). x ∷ r) (sets-part l i k vs))
+
+-- one text after the other
+pub then : {x y before between after : List ℕ} {at middle end : ℕ} → Puts x before at between middle → Puts y between middle after end
+    → Puts (x ++ y) before at after end
+then {x} {y} {before} {at = at} p q =
+    record {
+      ends = omega (arith, p .ends, q .ends, length-append x y);
+      stores = q .stores ∙ rw (p .stores, p .ends) (sym (sets-append before at x y));
+    }

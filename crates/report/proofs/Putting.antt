@@ -13,15 +13,6 @@ use Rattle.laws.specs.Stores.{Puts}
 use Rattle.report.specs.Parts.{Part}
 use Rattle.text.specs.Digits.{filled}
 
--- one text after the other
-pub then : {x y before between after : List ℕ} {at middle end : ℕ} → Puts x before at between middle → Puts y between middle after end
-    → Puts (x ++ y) before at after end
-then {x} {y} {before} {at = at} p q =
-    record {
-      ends = omega (arith, p .ends, q .ends, length-append x y);
-      stores = q .stores ∙ rw (p .stores, p .ends) (sym (sets-append before at x y));
-    }
-
 -- ---- a part: what is put stands at its end, and what is left to report begins after it
 
 pub part-start : (whole before : List ℕ) → Part whole before before 0 whole

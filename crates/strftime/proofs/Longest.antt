@@ -31,7 +31,7 @@ use Rattle.format.specs.declared.opening.Side.the-variants.{Writer}
 use Rattle.format.specs.declared.opening.Sign.{Sign}
 use Rattle.format.specs.declared.opening.Sign.the-variants.{Own, Of}
 use Rattle.format.specs.declared.opening.Style.{Style}
-use Rattle.format.proofs.Letters.{among-past}
+use Rattle.format.proofs.Elements.{letter-below}
 use Rattle.format.proofs.Pieces.{Unstyled, conversion-unstyled, Follows, follows}
 use Rattle.format.proofs.Rows.{own-passes}
 use Rattle.format.proofs.Small.{conversion-small}
@@ -128,14 +128,6 @@ Lettered (Byte b) = b < 256
 Lettered (Convert c y) = c < 256
 Lettered (Open c) = Unit {0}
 Lettered Refuse = Unit {0}
-
-letter-below : (c : ℕ) → isConversion c ≡ true → c < 256
-unfolding isConversion
-letter-below c e =
-    elim (decLe 256 c) [
-      | yes h ↦ let f = among-past 256 (map (λ (r : Row). r .letter) rows) (unfold rows-compute in tt) c h in clash (cc)
-      | no h ↦ lt-of-not-le h
-    ]
 
 style-lettered : (y : Style) (a : Act) → Unstyled a → Lettered (withStyle y a)
 unfolding withStyle

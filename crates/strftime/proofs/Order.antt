@@ -59,7 +59,8 @@ pub record Stored (side : Side) (f : List ℕ) (n : ℕ) (ys : List ℕ) : Type 
   pub first : take n ys ≡ opening side f .elements
 
 -- opened into xs, which has room for 13 elements to two bytes
-pub all-stored : (side : Side) (f xs : List ℕ) {r : Opened} {ys : List ℕ} {n : ℕ} → 13 * min longest (length f) ≤ 2 * length xs → r ≡ opened side f
+pub all-stored : (side : Side) (f xs : List ℕ) {r : Opened} {ys : List ℕ} {n : ℕ} → 13 * min longest (length f) ≤ 2 * length xs
+    → r ≡ opened side f
     → ys ≡ openedInto side f xs → r ≡ Opened-to n → Stored side f n ys
 all-stored side f xs {ys = ys} {n = n} h a s e =
     let o = opened-done side f a e in
@@ -91,7 +92,8 @@ module _ (f : List ℕ) (m : Moment) (b : List ℕ) where
       → Gives a c (momentWriting f m b)
   unfolding momentWriting byFormat
   plain-format h g =
-      rw (le-leb (length f) longest (h .opens .short), same-opening f (h .opens .whole), h .opens .whole, same-opening f (h .opens .whole)) (rw (h .first) at g)
+      let same = same-opening f (h .opens .whole) in
+      rw (le-leb (length f) longest (h .opens .short), same, h .opens .whole, same) (rw (h .first) at g)
 
 -- ---- the fields: 2
 
@@ -100,7 +102,8 @@ unfolding momentOf
 valid-moment y n d h i s {m} =
     either (λ (r : MomentFields). r ≡ Valid m → IsMoment m) (eqb (momentFault y n d h i s) 0) (λ z q. good z q) (λ z q. clash (cc))
   where
-    good : eqb (momentFault y n d h i s) 0 ≡ true → Valid (record { date = date y n d; hour = h; minute = i; second = s }) ≡ Valid m → IsMoment m
+    good : eqb (momentFault y n d h i s) 0 ≡ true
+        → Valid (record { date = date y n d; hour = h; minute = i; second = s }) ≡ Valid m → IsMoment m
     good z q =
         let e : record { date = date y n d; hour = h; minute = i; second = s } ≡ m = cc in
         rw (← e) (eqb-true (momentFault y n d h i s) 0 z)
@@ -138,7 +141,8 @@ module _ (t : Fields) {r : MomentFields} (e : r ≡ momentOf (t .year) (t .month
       pub plain-elements : {a : Writing} {c : List ℕ} → Gives a c (put (text m es) b) → Gives a c (elementsWriting es t b)
       unfolding elementsWriting forMoment byElements
       plain-elements g =
-          rw (with-fields (byElements es b) b q, eq-eqb (elementsIn Writer mostElements es) (length es) (all-plain mostElements es (sym k))) g
+          let all = eq-eqb (elementsIn Writer mostElements es) (length es) (all-plain mostElements es (sym k)) in
+          rw (with-fields (byElements es b) b q, all) g
 
     module _ {m : Moment} {good : ℕ} (q : r ≡ Valid m) (k : good ≡ elementsIn Writer mostElements es) where
       pub bad-entry : good < length es → Gives (writingOf (BadConversion good)) b (elementsWriting es t b)

@@ -5,10 +5,10 @@ use mathlib.Core.List.{List, [], _∷_, _++_, map}
 use mathlib.Core.Path.{_≡_, refl, sym, ap, _∙_}
 use native.Mathlib.Numerals.{add-one}
 use native.Mathlib.Omega.{arith}
-use lib.ListN.{length, take, drop, set, replicate, length-take, length-drop, length-set, length-append, length-replicate}
+use lib.ListN.{length, take, drop, set, replicate, length-take, length-drop, length-set, length-replicate}
 use lib.Seq.{sets, take-all, length-sets}
 use Rattle.laws.specs.Stores.{Puts}
-use Rattle.laws.proofs.Stores.{sets-all, sets-part, sets-append}
+use Rattle.laws.proofs.Stores.{sets-all, sets-part, then}
 use Rattle.text.specs.Case.{fold, capital, cased}
 use Rattle.text.specs.Digits.{plain, filled}
 use Rattle.text.specs.Fill.{fill}
@@ -119,15 +119,6 @@ module _ {f places n : ℕ} {buf₀ : List ℕ} {at : ℕ} {buf : List ℕ} {end
       let q : places - k ≡ 0 = omega arith in
       record { ends = rw length-replicate (omega (arith, p .from, p .most, p .ends)); stores = rw q at (p .rest) }
 
--- one text after the other
-then : {x y before between after : List ℕ} {at middle end : ℕ} → Puts x before at between middle → Puts y between middle after end
-    → Puts (x ++ y) before at after end
-then {x} {y} {before} {at = at} p q =
-    record {
-      ends = omega (arith, p .ends, q .ends, length-append x y);
-      stores = q .stores ∙ rw (p .stores, p .ends) (sym (sets-append before at x y));
-    }
-
 -- a text s is put after its fill
 module _ (f w : ℕ) (s before : List ℕ) (at : ℕ) (room : at + length (fill f w s) ≤ length before) {n : ℕ} (l : n ≡ length s) where
   pub fill-room : at + (w - n) ≤ length before
@@ -136,7 +127,8 @@ module _ (f w : ℕ) (s before : List ℕ) (at : ℕ) (room : at + length (fill 
   module _ {between : List ℕ} {middle : ℕ} (p : Puts (replicate (w - n) f) before at between middle) where
     pub text-room : middle + length s ≤ length between
     text-room =
-        omega (arith, fill-length f w s, p .ends, length-replicate (w - n) f, ap length (p .stores), length-sets before at (replicate (w - n) f))
+        let kept = ap length (p .stores) ∙ length-sets before at (replicate (w - n) f) in
+        omega (arith, fill-length f w s, p .ends, length-replicate (w - n) f, kept)
 
     pub puts-filled : {after : List ℕ} {end : ℕ} → Puts s between middle after end → Puts (fill f w s) before at after end
     unfolding fill
@@ -162,7 +154,8 @@ module _ (y : Style) (own w v : ℕ) (before : List ℕ) (at : ℕ) (room : at +
     puts-styled-number z = rw (← g, ← q) (puts-filled f places (plain v) before at filled-room l p (rw (l, plain-places) at z))
 
 -- a name
-module _ (y : Style) (k : Case) (s before : List ℕ) (at : ℕ) (room : at + length (name y k s) ≤ length before) {n : ℕ} (l : n ≡ length s) where
+module _ (y : Style) (k : Case) (s before : List ℕ) (at : ℕ) (room : at + length (name y k s) ≤ length before) {n : ℕ}
+    (l : n ≡ length s) where
   abbrev letters : List ℕ
   letters = cased (caseBy (y .flag) k) s
 

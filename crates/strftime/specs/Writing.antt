@@ -140,5 +140,6 @@ longestWriting = 25344
 
 -- everything here, for proofs that compute
 unfoldable pub computes : Unit {0}
-unfolding fillBy placesBy number caseBy name formed converted element text writingOf refused put byFormat byElements forMoment forFields writing elementsWriting
+unfolding fillBy placesBy number caseBy name formed converted element text writingOf refused put byFormat byElements
+    forMoment forFields writing elementsWriting
 computes = tt

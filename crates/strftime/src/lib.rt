@@ -135,8 +135,8 @@ fn moment_of(t: Fields) -> MomentFields
     Moment::from_fields(t.year, t.month, t.day, t.hour, t.minute, t.second)
 }
 
-// Opens the format into `elements`, which has room for 13 to two bytes, and writes those where they have neither flags nor widths: such need
-// not be measured in a buffer of usual size.
+// Opens the format into `elements`, which has room for 13 to two bytes, and writes those where they have neither flags nor widths: such
+// need not be measured in a buffer of usual size.
 fn write_format(format: &[u8], moment: Moment, elements: &mut [u32], out: &mut [u8]) -> Written
     requires { ⌜ 13 * min longest (length (now format)) ≤ 2 * length (now elements) ⌝ }
     requires { ⌜ IsMoment moment ⌝ }

@@ -33,7 +33,10 @@ write-opened-requires c κs =
     (omega (arith, counted-few Reader mostElements es, q), (omega (arith, long), i))
 
 mul-write-opened : tie.Need-mul-write-opened
-mul-write-opened c = omega (arith, counted-few Reader mostElements (c .before .before .before .before .before .before .before .before .before .args .elements .now), c .before .before .elements-in .ensures, c .before .if1 .taken)
+mul-write-opened c =
+    let e = c .before .before in
+    let es = c .before .before .before .before .before .before .before .before .before .args .elements .now in
+    omega (arith, counted-few Reader mostElements es, e .elements-in .ensures, c .before .if1 .taken)
 
 same-length : tie.Need-same-length
 same-length c = search needs
@@ -62,10 +65,13 @@ write-opened-requires-2 c κs =
     let m = c .before .before .before .before .before .before in
     let es = c .before .before .before .before .before .before .before .before .before .before .before .args .elements .now in
     let i = is-moment _ (m .before .before .moment-of .ensures) (m .moment .given .1) in
-    (omega (arith, counted-few Writer mostElements es, e .elements-in2 .ensures), (omega (arith, text-any (m .moment .given .0 .0) i es), i))
+    let long = text-any (m .moment .given .0 .0) i es in
+    (omega (arith, counted-few Writer mostElements es, e .elements-in2 .ensures), (omega (arith, long), i))
 
 mul-write-opened-2 : tie.Need-mul-write-opened-2
-mul-write-opened-2 c = omega (arith, counted-few Writer mostElements (c .before .before .before .before .before .before .before .before .before .before .before .args .elements .now), c .before .before .elements-in2 .ensures)
+mul-write-opened-2 c =
+    let es = c .before .before .before .before .before .before .before .before .before .before .before .args .elements .now in
+    omega (arith, counted-few Writer mostElements es, c .before .before .elements-in2 .ensures)
 
 returns-3 : tie.Need-returns-3
 returns-3 c = bad-fields _ (c .before .before .before .moment-of .ensures) _ _ (c .before .field .given .1)

@@ -55,7 +55,8 @@ loop-again c =
 returns-2 : tie.Need-returns-2 Inv-loop μ-loop
 returns-2 c =
     let l = c .before in
-    omega (arith, at-end (l .before .before .before .args .side) (l .before .before .before .args .elements .now) mostElements (l .loop .k) (omega arith))
+    let a = l .before .before .before .args in
+    omega (arith, at-end (a .side) (a .elements .now) mostElements (l .loop .k) (omega arith))
 
 pub elements-in-spec : {M : Type 1} → statement M
 elements-in-spec =

@@ -24,16 +24,22 @@ is-element-requires-2 : tie.Need-is-element-requires-2
 is-element-requires-2 c κs = search needs
 
 returns-3 : tie.Need-returns-3
-returns-3 c = plain-entry _ _ (c .before .before .before .is-element .ensures) (c .before .before .if2 .left) (c .before .is-element2 .ensures) (c .if3 .taken)
+returns-3 c =
+    let l = c .before .before in
+    plain-entry _ _ (l .before .is-element .ensures) (l .if2 .left) (c .before .is-element2 .ensures) (c .if3 .taken)
 
 sub-result : tie.Need-sub-result
-sub-result c = has-sign _ (c .before .before .before .is-element .ensures) (c .before .before .if2 .left) (c .before .is-element2 .ensures) (c .if3 .left)
+sub-result c =
+    let l = c .before .before in
+    has-sign _ (l .before .is-element .ensures) (l .if2 .left) (c .before .is-element2 .ensures) (c .if3 .left)
 
 cast-result : tie.Need-cast-result
 cast-result c = search needs
 
 returns-4 : tie.Need-returns-4
-returns-4 c = styled-entry _ _ (c .before .before .before .is-element .ensures) (c .before .before .if2 .left) (c .before .is-element2 .ensures) (c .if3 .left)
+returns-4 c =
+    let l = c .before .before in
+    styled-entry _ _ (l .before .is-element .ensures) (l .if2 .left) (c .before .is-element2 .ensures) (c .if3 .left)
 
 pub entry-place-spec : {M : Type 1} → statement M
 entry-place-spec =

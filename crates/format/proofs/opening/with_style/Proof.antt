@@ -26,7 +26,8 @@ takes-flag-requires c κs = search needs
 returns-2 : tie.Need-returns-2
 unfolding withStyle
 returns-2 c =
-    rw (c .before .before .before .before .act2 .given .1, ← c .before .before .conversion-of .ensures, ← c .before .takes-flag .ensures, c .if2 .taken)
+    let l = c .before .before in
+    rw (l .before .before .act2 .given .1, ← l .conversion-of .ensures, ← c .before .takes-flag .ensures, c .if2 .taken)
 
 enum-known-act-3 : tie.Need-enum-known-act-3
 enum-known-act-3 c = search needs
@@ -48,7 +49,8 @@ returns-4 c = rw (c .before .before .before .act .given .1, ← c .before .is-un
 returns-5 : tie.Need-returns-5
 unfolding withStyle
 returns-5 c =
-    rw (c .before .before .before .before .act2 .given .1, ← c .before .before .conversion-of .ensures, ← c .before .takes-flag .ensures, c .if2 .left)
+    let l = c .before .before in
+    rw (l .before .before .act2 .given .1, ← l .conversion-of .ensures, ← c .before .takes-flag .ensures, c .if2 .left)
 
 returns-6 : tie.Need-returns-6
 unfolding withStyle

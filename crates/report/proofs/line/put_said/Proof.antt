@@ -3,7 +3,7 @@ use native.Mathlib.Omega.{arith}
 use borrow.Author.Needs.{needs}
 use Rattle.laws.specs.Bytes.{bytes}
 use Rattle.report.specs.Line.{saidShown}
-use Rattle.report.proofs.Putting.{then}
+use Rattle.laws.proofs.Stores.{then}
 use Rattle.report.proofs.line.put_said.Statement.{statement}
 use Rattle.report.proofs.line.put_said.Tie as tie
 

@@ -74,21 +74,24 @@ enum-known-form c = search needs
 
 put-short-requires : tie.Need-put-short-requires
 unfolding formed
-put-short-requires c κs = rw (← plain-name-length AsIs _) at (room (c .before .before .before .before) (c .before .before .form .given .1))
+put-short-requires c κs =
+    rw (← plain-name-length AsIs _) at (room (c .before .before .before .before) (c .before .before .form .given .1))
 
 enum-known-form-2 : tie.Need-enum-known-form-2
 enum-known-form-2 c = search needs
 
 put-full-requires : tie.Need-put-full-requires
 unfolding formed
-put-full-requires c κs = rw (← plain-name-length AsIs _) at (room (c .before .before .before .before) (c .before .before .form2 .given .1))
+put-full-requires c κs =
+    rw (← plain-name-length AsIs _) at (room (c .before .before .before .before) (c .before .before .form2 .given .1))
 
 enum-known-form-3 : tie.Need-enum-known-form-3
 enum-known-form-3 c = search needs
 
 put-full-requires-2 : tie.Need-put-full-requires-2
 unfolding formed
-put-full-requires-2 c κs = rw (← plain-name-length Small _) at (room (c .before .before .before .before) (c .before .before .form3 .given .1))
+put-full-requires-2 c κs =
+    rw (← plain-name-length Small _) at (room (c .before .before .before .before) (c .before .before .form3 .given .1))
 
 enum-told-4 : tie.Need-enum-told-4
 enum-told-4 c = search needs
@@ -103,7 +106,8 @@ returns c =
     let l = m .before .before in
     let f = m .enum-told .given .1 in
     let d = digits l f refl in
-    rw (written l f, number-plain 48 (start l .args .c .width) (l .value .result) (d .0) (omega (arith, d .1))) (c .before .before .put-number .ensures)
+    let e = number-plain 48 (start l .args .c .width) (l .value .result) (d .0) (omega (arith, d .1)) in
+    rw (written l f, e) (c .before .before .put-number .ensures)
 
 same-length-2 : tie.Need-same-length-2
 same-length-2 c = search needs
@@ -115,7 +119,8 @@ returns-2 c =
     let l = m .before .before in
     let f = m .enum-told2 .given .1 in
     let d = digits l f refl in
-    rw (written l f, number-plain 32 (start l .args .c .width) (l .value .result) (d .0) (omega (arith, d .1))) (c .before .before .put-number2 .ensures)
+    let e = number-plain 32 (start l .args .c .width) (l .value .result) (d .0) (omega (arith, d .1)) in
+    rw (written l f, e) (c .before .before .put-number2 .ensures)
 
 same-length-3 : tie.Need-same-length-3
 same-length-3 c = search needs
@@ -127,7 +132,8 @@ returns-3 c =
     let l = m .before .before in
     let f = m .enum-told3 .given .1 in
     let d = digits l f refl in
-    rw (written l f, number-plain 48 (start l .args .c .width) (l .value .result % 7) (d .0) (omega (arith, d .1))) (c .before .before .put-number3 .ensures)
+    let e = number-plain 48 (start l .args .c .width) (l .value .result % 7) (d .0) (omega (arith, d .1)) in
+    rw (written l f, e) (c .before .before .put-number3 .ensures)
 
 same-length-4 : tie.Need-same-length-4
 same-length-4 c = search needs

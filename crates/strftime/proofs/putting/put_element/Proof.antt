@@ -11,7 +11,8 @@ use Rattle.strftime.proofs.putting.put_element.Tie as tie
 
 -- what a conversion writes, without flag and width and with them
 plain-one : (c : tie.After-conversion-of)
-    → let a = c .before .before .before .before .before .args in element (a .moment) (a .e) ≡ converted unstyled (c .conversion-of .result) (a .moment)
+    → let a = c .before .before .before .before .before .args in
+    element (a .moment) (a .e) ≡ converted unstyled (c .conversion-of .result) (a .moment)
 plain-one c = element-plain _ _ (omega arith) (c .conversion-of .ensures) (omega arith)
 
 styled-one : (c : tie.After-conversion-of2)

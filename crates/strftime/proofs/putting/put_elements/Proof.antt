@@ -23,7 +23,9 @@ shared-slice-read-put-element : tie.Need-shared-slice-read-put-element Inv-loop 
 shared-slice-read-put-element c = omega arith
 
 put-element-requires : tie.Need-put-element-requires Inv-loop μ-loop
-put-element-requires c κs = (room (c .before .before .before .loop .inv) (omega arith), c .before .before .before .before .before .before .pre .1)
+put-element-requires c κs =
+    let l = c .before .before .before in
+    (room (l .loop .inv) (omega arith), l .before .before .before .pre .1)
 
 add-done : tie.Need-add-done Inv-loop μ-loop
 add-done c = omega arith

@@ -11,13 +11,18 @@ full-length-requires : tie.Need-full-length-requires
 full-length-requires c κs = search needs
 
 put-fill-requires : tie.Need-put-fill-requires
-put-fill-requires c κs = name-fill-room _ _ _ (c .before .before .before .before .args .out .now) _ (c .before .before .before .before .pre) (c .full-length .ensures)
+put-fill-requires c κs =
+    let s = c .before .before .before .before in
+    name-fill-room _ _ _ (s .args .out .now) _ (s .pre) (c .full-length .ensures)
 
 case-by-requires : tie.Need-case-by-requires
 case-by-requires c κs = search needs
 
 put-full-requires : tie.Need-put-full-requires
-put-full-requires c κs = name-room _ _ _ (c .before .before .before .before .before .before .before .before .before .args .out .now) _ (c .before .before .before .before .before .before .before .before .before .pre) (c .before .before .before .before .before .full-length .ensures) (c .before .before .before .before .put-fill .ensures)
+put-full-requires c κs =
+    let f = c .before .before .before .before in
+    let s = f .before .before .before .before .before in
+    name-room _ _ _ (s .args .out .now) _ (s .pre) (f .before .full-length .ensures) (f .put-fill .ensures)
 
 same-length : tie.Need-same-length
 same-length c = search needs
@@ -25,7 +30,9 @@ same-length c = search needs
 returns : tie.Need-returns
 returns c =
     let a = c .before .before .before in
-    puts-styled-name _ _ _ (a .before .before .before .before .before .before .before .before .before .args .out .now) _ (a .before .before .before .before .before .before .before .before .before .pre) (a .before .before .before .before .before .full-length .ensures) (a .before .before .before .before .put-fill .ensures) (a .case-by .ensures)
+    let f = a .before .before .before .before in
+    let s = f .before .before .before .before .before in
+    puts-styled-name _ _ _ (s .args .out .now) _ (s .pre) (f .before .full-length .ensures) (f .put-fill .ensures) (a .case-by .ensures)
     (c .before .before .put-full .ensures)
 
 pub put-styled-full-spec : {M : Type 1} → statement M

@@ -15,26 +15,34 @@ places-by-requires c κs = search needs
 
 put-fill-requires : tie.Need-put-fill-requires
 put-fill-requires c κs =
-    let s = c .before .before .before .before .before in
-    number-fill-room _ _ (s .args .width) (s .args .value) (s .args .out .now) _ (s .pre) (c .before .before .before .digit-count .ensures) (c .before .fill-by .ensures) (c .places-by .ensures)
+    let n = c .before .before .before in
+    let s = n .before .before in
+    number-fill-room _ _ (s .args .width) (s .args .value) (s .args .out .now) _ (s .pre) (n .digit-count .ensures)
+    (c .before .fill-by .ensures)
+    (c .places-by .ensures)
 
 put-number-requires : tie.Need-put-number-requires
 put-number-requires c κs =
-    let s = c .before .before .before .before .before .before .before .before .before in
-    number-room _ _ (s .args .width) (s .args .value) (s .args .out .now) _ (s .pre) (c .before .before .before .before .before .before .before .digit-count .ensures) (c .before .before .before .before .before .fill-by .ensures)
-    (c .before .before .before .before .places-by .ensures)
-    (c .before .before .before .put-fill .ensures)
+    let f = c .before .before .before in
+    let n = f .before .before .before .before in
+    let s = n .before .before in
+    number-room _ _ (s .args .width) (s .args .value) (s .args .out .now) _ (s .pre) (n .digit-count .ensures)
+    (f .before .before .fill-by .ensures)
+    (f .before .places-by .ensures)
+    (f .put-fill .ensures)
 
 same-length : tie.Need-same-length
 same-length c = search needs
 
 returns : tie.Need-returns
 returns c =
-    let a = c .before .before .before in
-    let s = a .before .before .before .before .before .before .before .before .before in
-    puts-styled-number _ _ (s .args .width) (s .args .value) (s .args .out .now) _ (s .pre) (a .before .before .before .before .before .before .before .digit-count .ensures) (a .before .before .before .before .before .fill-by .ensures)
-    (a .before .before .before .before .places-by .ensures)
-    (a .before .before .before .put-fill .ensures)
+    let f = c .before .before .before .before .before .before in
+    let n = f .before .before .before .before in
+    let s = n .before .before in
+    puts-styled-number _ _ (s .args .width) (s .args .value) (s .args .out .now) _ (s .pre) (n .digit-count .ensures)
+    (f .before .before .fill-by .ensures)
+    (f .before .places-by .ensures)
+    (f .put-fill .ensures)
     (c .before .before .put-number .ensures)
 
 pub put-styled-number-spec : {M : Type 1} → statement M

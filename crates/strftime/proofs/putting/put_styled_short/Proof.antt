@@ -11,13 +11,18 @@ short-length-requires : tie.Need-short-length-requires
 short-length-requires c κs = search needs
 
 put-fill-requires : tie.Need-put-fill-requires
-put-fill-requires c κs = name-fill-room _ _ _ (c .before .before .before .before .args .out .now) _ (c .before .before .before .before .pre) (c .short-length .ensures)
+put-fill-requires c κs =
+    let s = c .before .before .before .before in
+    name-fill-room _ _ _ (s .args .out .now) _ (s .pre) (c .short-length .ensures)
 
 case-by-requires : tie.Need-case-by-requires
 case-by-requires c κs = search needs
 
 put-short-requires : tie.Need-put-short-requires
-put-short-requires c κs = name-room _ _ _ (c .before .before .before .before .before .before .before .before .before .args .out .now) _ (c .before .before .before .before .before .before .before .before .before .pre) (c .before .before .before .before .before .short-length .ensures) (c .before .before .before .before .put-fill .ensures)
+put-short-requires c κs =
+    let f = c .before .before .before .before in
+    let s = f .before .before .before .before .before in
+    name-room _ _ _ (s .args .out .now) _ (s .pre) (f .before .short-length .ensures) (f .put-fill .ensures)
 
 same-length : tie.Need-same-length
 same-length c = search needs
@@ -25,7 +30,9 @@ same-length c = search needs
 returns : tie.Need-returns
 returns c =
     let a = c .before .before .before in
-    puts-styled-name _ _ _ (a .before .before .before .before .before .before .before .before .before .args .out .now) _ (a .before .before .before .before .before .before .before .before .before .pre) (a .before .before .before .before .before .short-length .ensures) (a .before .before .before .before .put-fill .ensures) (a .case-by .ensures)
+    let f = a .before .before .before .before in
+    let s = f .before .before .before .before .before in
+    puts-styled-name _ _ _ (s .args .out .now) _ (s .pre) (f .before .short-length .ensures) (f .put-fill .ensures) (a .case-by .ensures)
     (c .before .before .put-short .ensures)
 
 pub put-styled-short-spec : {M : Type 1} → statement M
