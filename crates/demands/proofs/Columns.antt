@@ -27,7 +27,8 @@ use Rattle.format.specs.Conversions as conversions
 use Rattle.format.specs.Conversions.{among, conversionOf, isNumber}
 use Rattle.format.specs.Opening as opening
 use Rattle.format.specs.Opening.{Opening, Whole, BadAt, opening, flags, flagRun, widthRun, conversion, letter, withStyle, styled, piece}
-use Rattle.format.specs.Opening.{longest, unstyled, isUnstyled, takesFlag, before, conversionAt, acted, nothing, openFrom, compositeTo, openTo, signed, pieceOf, signAt, styleFrom}
+use Rattle.format.specs.Opening.{longest, unstyled, isUnstyled, takesFlag, before, conversionAt, acted, nothing, openFrom}
+use Rattle.format.specs.Opening.{compositeTo, openTo, signed, pieceOf, signAt, styleFrom}
 use Rattle.format.specs.declared.conversions.Conversion.{Conversion}
 use Rattle.format.specs.declared.conversions.Form.{Form}
 use Rattle.format.specs.declared.conversions.Form.the-variants.{Zeros, Blanks, FromSunday, Short, Full, Lower, Unknown}
@@ -130,7 +131,8 @@ unfolding among
 is-flag f k z = rw z at k
 
 -- the bytes of the element before are passed
-passed : (side : Side) (inner : ℕ → ℕ → Opening) (g : Sign) (s : List ℕ) (i n : ℕ) → n ≡ length s → openFrom side inner g i n s ≡ nothing Whole
+passed : (side : Side) (inner : ℕ → ℕ → Opening) (g : Sign) (s : List ℕ) (i n : ℕ) → n ≡ length s
+    → openFrom side inner g i n s ≡ nothing Whole
 unfolding openFrom
 passed side inner g [] i n e = refl
 passed side inner g (b ∷ s) i zero e = absurd (omega arith)
@@ -232,7 +234,9 @@ number-form = among-same (λ c. conversionOf c .form) formOf numbers (unfold num
 
 is-number : (c : ℕ) → isNumber (formOf c) ≡ true
 unfolding formOf isNumber
-is-number c = picked (λ (f : Form). isNumber f ≡ true) (eqb c (code "w")) refl (picked (λ (f : Form). isNumber f ≡ true) (among c blanks) refl refl)
+is-number c =
+    let P : Form → Type 0 = λ f. isNumber f ≡ true in
+    picked P (eqb c (code "w")) refl (picked P (among c blanks) refl refl)
 
 -- the form of a name
 isName : Form → Bool
@@ -269,7 +273,8 @@ asked-short w h = leb-true _ 2 (same-at (λ j. leb (length (asked j)) 2) (λ j. 
     computed = unfold asked digits plain range in refl
 
 letter-small : (c : ℕ) → among c letters ≡ true → c < 256
-letter-small c a = ltb-true c 256 (among-passes (λ b. ltb b 256) letters (unfold numbers names others every conversions.computes in refl) c a)
+letter-small c a =
+    ltb-true c 256 (among-passes (λ b. ltb b 256) letters (unfold numbers names others every conversions.computes in refl) c a)
 
 -- no other letter takes a flag or a width
 other-refused : (f w c : ℕ) → among c others ≡ true → (eqb f 0 && eqb w 0) ≡ false
@@ -290,7 +295,9 @@ module _ (t : Fields) (m : Moment) (valid : momentOf (t .year) (t .month) (t .da
 
   few : length (format f w c) ≤ longest
   unfolding format
-  few = rw (length-append (flagBytes f) (asked w ++ (c ∷ [])), length-append (asked w) (c ∷ [])) (omega (arith, flag-short f, asked-short w h))
+  few =
+      rw (length-append (flagBytes f) (asked w ++ (c ∷ [])), length-append (asked w) (c ∷ []))
+      (omega (arith, flag-short f, asked-short w h))
 
   refused-by : (b : List ℕ) → opening Writer (format f w c) ≡ nothing (BadAt 0) → writing (format f w c) t b ≡ writer.refused 3 0 b
   unfolding writing forFields forMoment byFormat nothing

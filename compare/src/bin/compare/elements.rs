@@ -31,9 +31,10 @@ fn item(entry: u32) -> Option<(Item, usize)> {
 pub fn items(entries: &[u32], side: Use) -> Result<Vec<Item>, usize> {
     let mut out = Vec::new();
     for (i, entry) in entries.iter().enumerate() {
-        let (item, offset) = item(*entry).filter(|_| i < MOST).ok_or(i)?;
+        let (item, offset) = item(*entry).ok_or(i)?;
         match item {
             Item::Conversion(c) if side == Use::Reading && !c.is_plain() => return Err(offset),
+            _ if i == MOST => return Err(i),
             _ => out.push(item),
         }
     }
