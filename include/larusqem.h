@@ -16,7 +16,7 @@
  * anything. Where a length is 0 nothing is read or written, and the pointer may be NULL (not so for the functions on words, below).
  *
  * The functions are pure: they keep nothing, allocate nothing, read no locale, no time zone and no clock, and have no state of their own.
- * Any number of threads may call them at once, on arrays of their own. A call takes at most 32 KB of stack (2 KB by opened elements), and
+ * Any number of threads may call them at once, on arrays of their own. A call takes at most 40 KB of stack (2 KB by opened elements), and
  * it always returns; what takes longest, tens of milliseconds, is a reading that says ISO years or weeks and no year, month or day.
  *
  * The calendar is Gregorian from 0001-01-01 to 9999-12-31. The conversions of a format are

@@ -36,7 +36,6 @@ use Rattle.format.specs.declared.opening.Side.{Side}
 use Rattle.format.specs.declared.opening.Side.the-variants.{Writer, Reader}
 use Rattle.format.specs.declared.opening.Sign.{Sign}
 use Rattle.format.specs.declared.opening.Sign.the-variants.{Own}
-use Rattle.format.specs.declared.opening.Act.{Act}
 use Rattle.format.specs.declared.opening.Act.the-variants.{Convert, Refuse}
 use Rattle.format.specs.declared.opening.Style.{Style}
 use Rattle.values.specs.Moments.{momentOf}
@@ -50,7 +49,14 @@ use Rattle.strftime.proofs.Complete.{puts-text}
 use Rattle.strftime.proofs.Lengths.{by-form, element-styled}
 use Rattle.strptime.specs.Answers as reader
 use Rattle.strptime.specs.Answers.{reading}
-use Rattle.demands.specs.Columns.{Columns, Writes, numbers, blanks, names, others, asked, format, digitsOf, column, belongs}
+use Rattle.calendar.specs.Calendar as calendar
+use Rattle.values.specs.Moments as moments
+use Rattle.values.specs.Values as values
+use Rattle.text.specs.Names as tables
+use Rattle.text.specs.Naming as naming
+use Rattle.demands.specs.Starred as cases
+use Rattle.demands.specs.Starred.{Case}
+use Rattle.demands.specs.Columns.{columnCases, Columns, Writes, numbers, blanks, names, others, asked, format, digitsOf, column, belongs}
 
 not-eq-true : (t : Bool) → not t ≡ true → t ≡ false
 not-eq-true true e = clash (cc)
@@ -515,3 +521,9 @@ columns t m v w c h a =
       refuses = refuses t m v w c h a;
       reads-none = λ f k. unread-by t m v f w c k h a;
     }
+
+-- the cases, by computing
+pub columns-hold : map (λ (c : Case). c .0) columnCases ≡ map (λ (c : Case). c .1) columnCases
+unfolding cases.computes columnCases fold capital cased digits plain fill isDigit digitRun decimal calendar.computes moments.computes
+    values.computes tables.computes naming.computes conversions.computes opening.computes writer.computes
+columns-hold = refl

@@ -8,7 +8,7 @@ use mathlib.Core.Logic.{_⊎_, _↔_, inl, inr, ⊎-elim}
 use mathlib.Core.Path.{_≡_, refl, sym, ap, _∙_}
 use native.Mathlib.Nat.{eq-or-lt-of-le}
 use native.Mathlib.Omega.{arith}
-use borrow.Author.Tests.{le-leb, lt-leb, le-ltb, ltb-true, leb-true}
+use borrow.Author.Tests.{le-leb, lt-leb, ltb-true, leb-true}
 use lib.Dec.{leb, ltb, lit<, lit≤}
 use lib.ListN.{length, getD, replicate}
 use lib.Seq.{sets, sets-eq, take-append-seam}

@@ -1,7 +1,7 @@
 -- The flag and the width that stand first after a %: how long they are, and what they can be.
 -- Assumes nothing.
 use Prim.Native.Char.{code}
-use Prim.Native.Nat.{ℕ, suc, _+_, _-_, _*_, _≤_, _<_}
+use Prim.Native.Nat.{ℕ, _≤_, _<_}
 use mathlib.Core.Bool.{Bool, true, false, cond, and-eq-true-iff}
 use mathlib.Core.List.{List, [], _∷_}
 use mathlib.Core.Path.{_≡_, refl, sym, _∙_}
@@ -9,7 +9,7 @@ use native.Mathlib.Decide.{decLe}
 use native.Mathlib.Nat.{lt-of-not-le}
 use native.Mathlib.Omega.{arith}
 use borrow.Author.Tests.{leb-true, eq-eqb, ne-eqb, eqb-true, eqb-false}
-use lib.Dec.{eqb, leb, lit≤, lit<}
+use lib.Dec.{eqb, leb, lit<}
 use lib.ListN.{length, getD}
 use Rattle.laws.proofs.Cases.{either, clash}
 use Rattle.text.specs.Digits.{isDigit, digitRun, decimal}

@@ -1,7 +1,7 @@
 -- Opening a format into elements (RULES 4), and which entries of a list are elements (RULES 10).
 use Prim.Native.Char.{code}
 use Prim.Native.Nat.{ℕ, zero, suc, _+_, _-_, _*_, _/_, _%_}
-use mathlib.Core.Bool.{Bool, true, false, cond, not, _||_, _&&_}
+use mathlib.Core.Bool.{Bool, true, cond, not, _||_, _&&_}
 use mathlib.Core.List.{List, [], _∷_, _++_}
 use lib.Dec.{eqb, leb, ltb}
 use lib.ListN.{length, getD, drop}
@@ -109,7 +109,7 @@ widthRun (b ∷ s) = cond (eqb b (code "0")) [] (digitRun 2 (b ∷ s))
 unfoldable pub styleFrom : List ℕ → List ℕ → Style
 styleFrom flag width = record { flag = getD flag 0 0; width = decimal 0 width }
 
--- ^ belongs to names (with %p and %P), the other flags to numbers, and no flag to either
+-- ^ belongs to names (with %p and %P), the other flags to numbers; both go without one too
 unfoldable pub takesFlag : ℕ → Form → Bool
 takesFlag flag f = cond (eqb flag 0) true (cond (eqb flag (code "^")) (not (isNumber f)) (isNumber f))
 
@@ -227,18 +227,18 @@ openedInto d s out =
 abbrev pub mostElements : ℕ
 mostElements = 6656
 
--- a flag and a width that opening a format can store with a letter: for the reader none
+-- a flag and a width that an element can have with its letter: for the reader none
 unfoldable pub hasStyle : Side → ℕ → Bool
 hasStyle Writer e =
     let y = styleOf e in
     leb (y .width) 99 && (among (y .flag) (0 ∷ flags) && takesFlag (y .flag) (conversionOf (letterOf e) .form))
 hasStyle Reader e = isPlain e
 
--- what opening a format can store: a byte, or a conversion whose % has a letter after it in the longest format
+-- what is an element: a byte, or a conversion, with a flag and a width that it takes, whose % has a letter after it in the longest format
 unfoldable pub isElement : Side → ℕ → Bool
 isElement d e = isByte e || (isConversion (letterOf e) && (leb 1 (afterSign e) && hasStyle d e))
 
--- how many entries, from the first on and at most n, opening a format can store
+-- how many entries, from the first on and at most n, are elements
 unfoldable pub elementsIn : Side → ℕ → List ℕ → ℕ
 elementsIn d zero es = 0
 elementsIn d (suc n) [] = 0

@@ -443,7 +443,7 @@ pub fn style_of(e: u32) -> Style
     }
 }
 
-// Whether opening a format can store a flag and a width with a letter.
+// Whether an element can have its flag and its width with its letter.
 fn has_style(e: u32) -> bool
     ensures { λ r. ⌜ r ≡ hasStyle Side.Writer e ⌝ }
 {
@@ -459,7 +459,7 @@ fn has_style(e: u32) -> bool
     takes_flag(style.flag, form)
 }
 
-// Whether opening a format can store an entry. One without flag and width is judged first, and alike for both sides.
+// Whether an entry is an element. One without flag and width is judged first, and alike for both sides.
 fn is_element(side: Side, e: u32) -> bool
     ensures { λ r. ⌜ r ≡ isElement side e ⌝ }
 {
@@ -487,7 +487,7 @@ fn smaller(a: usize, b: usize) -> usize
     if a < b { a } else { b }
 }
 
-// How many entries, from the first on, opening a format can store.
+// How many entries, from the first on, are elements.
 pub fn elements_in(side: Side, elements: &[u32]) -> usize
     ensures { λ r. ⌜ r ≡ elementsIn side mostElements (now (elements .entry)) ⌝ }
 {

@@ -110,7 +110,7 @@ byFormat f b m = go (opening Writer f .ended)
     go Whole = put (text m (opening Writer f .elements)) b
     go (BadAt p) = refused 3 p b
 
--- the same by the elements of a format that was opened before: 3 at the first entry that no format opens to
+-- the same by the elements of a format that was opened before: 3 at the first entry that is no element
 unfoldable pub byElements : List ℕ → List ℕ → Moment → Result
 byElements es b m =
     let good = elementsIn Writer mostElements es in

@@ -75,7 +75,7 @@ pub fn writing_of(w: Written) -> Writing
     }
 }
 
-// The most bytes that an element without flag and width writes, and one with them.
+// The most bytes that an element without flag and width writes; and no entry writes more than the seven bits of a width hold.
 const WIDEST: usize = 9;
 
 const WIDEST_STYLED: usize = 127;

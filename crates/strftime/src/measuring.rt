@@ -13,7 +13,6 @@ use values::Moment;
 ghost use mathlib.Core.Path.{_≡_};
 ghost use Prim.Native.Nat.{max, _≤_};
 ghost use lib.ListN.{length};
-ghost use Rattle.text.specs.Digits.{plain};
 ghost use Rattle.text.specs.Names.{short};
 ghost use Rattle.text.specs.Naming.{nameFor};
 ghost use Rattle.format.specs.Opening.{unstyled, mostElements};

@@ -102,7 +102,7 @@ byFormat f s = go (opening Reader f .ended)
     go Whole = readBy (opening Reader f .elements) s
     go (BadAt p) = refused 3 p
 
--- The same by the elements of a format that was opened before: 3 at the first entry that no format opens to for reading. Its place is the
+-- The same by the elements of a format that was opened before: 3 at the first entry that is no element for reading. Its place is the
 -- offset of its % where it has a flag or a width that the writer takes, else its index.
 unfoldable pub byElements : List ℕ → List ℕ → Reading
 byElements es s =

@@ -1,5 +1,4 @@
 -- `format::opening::entry_place` meets its contract.
-use native.Mathlib.Omega.{arith}
 use borrow.Author.Needs.{needs}
 use Rattle.format.proofs.Entry.{past-entries, no-entry, plain-entry, styled-entry, has-sign}
 use Rattle.format.proofs.opening.entry_place.Statement.{statement}

@@ -1,6 +1,6 @@
 -- `format::opening::is_flag` meets its contract: the definition makes the same tests.
 use borrow.Author.Tests.{ne-eqb}
-use Rattle.format.specs.Conversions.{among, computes}
+use Rattle.format.specs.Conversions.{computes}
 use Rattle.format.specs.Opening.{flags}
 use Rattle.format.proofs.opening.is_flag.Statement.{statement}
 use Rattle.format.proofs.opening.is_flag.Tie as tie

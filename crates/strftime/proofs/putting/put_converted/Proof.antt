@@ -1,7 +1,7 @@
 -- `strftime::putting::put_converted` meets its contract: each form puts what it writes, a number on its own width.
 use Prim.Native.Nat.{_+_, _%_, _^_, _≤_, _<_}
 use mathlib.Core.Bool.{true}
-use mathlib.Core.Path.{_≡_, refl, sym, _∙_}
+use mathlib.Core.Path.{_≡_, refl, sym}
 use native.Mathlib.Nat.{add-zero}
 use native.Mathlib.Omega.{arith}
 use lib.ListN.{length}
