@@ -1,7 +1,7 @@
 -- Whether an entry is an element, by its parts.
 -- Assumes nothing.
 use Prim.Native.Nat.{ℕ, zero, suc, _/_, _%_, _-_, _≤_, _<_}
-use mathlib.Core.Bool.{Bool, true, false, not, cond, _&&_, and-eq-true-iff}
+use mathlib.Core.Bool.{Bool, true, false, not, cond, _&&_, and-eq-true-iff, and-true, and-false}
 use mathlib.Core.List.{List, [], _∷_}
 use mathlib.Core.Path.{_≡_, refl, sym, ap, _∙_}
 use native.Mathlib.Decide.{decLe}
@@ -71,13 +71,19 @@ plain-style Writer e h =
     rw (f, w)
 plain-style Reader e h = rw (lt-ltb e 262144 h)
 
-pub plain-is : (e : ℕ) (side : Side) → 256 ≤ e → {t : Bool} → t ≡ isConversion (letterOf e) → not t ≡ false → e < 262144
-    → true ≡ isElement side e
-plain-is e side h c n l = signed-is e side h c n (λ z. omega arith) (plain-style side e l)
+pub plain-is : (e : ℕ) (side : Side) → 256 ≤ e → e < 262144 → {t : Bool} → t ≡ isConversion (letterOf e) → t ≡ isElement side e
+unfolding isElement
+plain-is e side h l c =
+    rw (le-ltb e 256 h, ← plain-style side e l, le-leb 1 (afterSign e) (omega arith)) (simp and-true c)
 
-pub styled-no : (e : ℕ) → 262144 ≤ e → false ≡ hasStyle Reader e
-unfolding hasStyle
-styled-no e h = rw (le-ltb e 262144 h)
+-- with one, none to the reader
+pub not-read : (e : ℕ) → 262144 ≤ e → isElement Reader e ≡ false
+unfolding isElement hasStyle
+not-read e h = simp (le-ltb e 256 (omega arith), le-ltb e 262144 h, and-false)
+
+alike : (e : ℕ) → e < 262144 → isElement Writer e ≡ isElement Reader e
+unfolding isElement
+alike e h = rw (← plain-style Writer e h, ← plain-style Reader e h)
 
 -- what the reader takes, the writer takes
 pub reader-writer : (e : ℕ) → isElement Reader e ≡ true → isElement Writer e ≡ true
@@ -87,7 +93,7 @@ reader-writer e p =
       | yes h ↦
           let u = and-eq-true-iff (isConversion (letterOf e)) (leb 1 (afterSign e) && isPlain e) .0 (rw (le-ltb e 256 h) at p) in
           let l = ltb-true e 262144 (and-eq-true-iff (leb 1 (afterSign e)) (isPlain e) .0 (u .1) .1) in
-          sym (plain-is e Writer h (sym (u .0)) refl l)
+          sym (plain-is e Writer h l (sym (u .0)))
       | no h ↦ sym (byte-is e Writer (lt-of-not-le h))
     ]
 
@@ -110,28 +116,28 @@ module _ (es : List ℕ) (k : ℕ) where
   abbrev entry : ℕ
   entry = getD es k 0
 
+  -- one that both sides take, or neither
+  pub plain-entry : entry < 262144 → k ≡ entryPlace es k
+  unfolding entryPlace
+  plain-entry h = rw (alike entry h) (neither (isElement Reader entry))
+    where
+      neither : (t : Bool) → k ≡ cond (t && not t) (afterSign entry - 1) k
+      neither true = refl
+      neither false = refl
+
   module _ {t : Bool} (w : t ≡ isElement Writer entry) where
     pub no-entry : not t ≡ true → k ≡ entryPlace es k
     unfolding entryPlace
     no-entry n = rw (← w, not-true t n)
 
-    module _ (n : not t ≡ false) {u : Bool} (r : u ≡ isElement Reader entry) where
-      pub plain-entry : u ≡ true → k ≡ entryPlace es k
-      unfolding entryPlace
-      plain-entry e = rw (← w, not-false t n, ← r, e)
-
-      pub styled-entry : u ≡ false → afterSign entry - 1 ≡ entryPlace es k
-      unfolding entryPlace
-      styled-entry e = rw (← w, not-false t n, ← r, e)
+    pub styled-entry : not t ≡ false → 262144 ≤ entry → afterSign entry - 1 ≡ entryPlace es k
+    unfolding entryPlace
+    styled-entry n h = rw (← w, not-false t n, not-read entry h)
 
 -- such an entry has the offset of a %
-pub has-sign : (e : ℕ) {t u : Bool} → t ≡ isElement Writer e → not t ≡ false → u ≡ isElement Reader e → u ≡ false → 1 ≤ afterSign e
+pub has-sign : (e : ℕ) {t : Bool} → t ≡ isElement Writer e → not t ≡ false → 256 ≤ e → 1 ≤ afterSign e
 unfolding isElement
-has-sign e {t} w n r f =
-    elim (decLe 256 e) [
-      | yes h ↦
-          let p = rw (le-ltb e 256 h) at (sym w ∙ not-false t n) in
-          let q = and-eq-true-iff (isConversion (letterOf e)) (leb 1 (afterSign e) && hasStyle Writer e) .0 p .1 in
-          leb-true 1 (afterSign e) (and-eq-true-iff (leb 1 (afterSign e)) (hasStyle Writer e) .0 q .0)
-      | no h ↦ let b = byte-is e Reader (lt-of-not-le h) in clash (cc)
-    ]
+has-sign e {t} w n h =
+    let p = rw (le-ltb e 256 h) at (sym w ∙ not-false t n) in
+    let q = and-eq-true-iff (isConversion (letterOf e)) (leb 1 (afterSign e) && hasStyle Writer e) .0 p .1 in
+    leb-true 1 (afterSign e) (and-eq-true-iff (leb 1 (afterSign e)) (hasStyle Writer e) .0 q .0)

@@ -32,7 +32,7 @@ use Rattle.format.specs.declared.opening.Sign.the-variants.{Own, Of}
 use Rattle.format.specs.declared.opening.Style.{Style}
 use Rattle.format.proofs.Bound.{bound}
 use Rattle.format.proofs.Elements.{letter-below, elements, element-at}
-use Rattle.format.proofs.Entry.{signed-is, styled-no}
+use Rattle.format.proofs.Entry.{not-read as unread, signed-is}
 use Rattle.format.proofs.Letters.{among-past}
 use Rattle.format.proofs.Pieces.{Unstyled, conversion-unstyled, Follows, follows}
 use Rattle.format.proofs.Styles.{flag-run, width-run}
@@ -340,9 +340,7 @@ module _ (sign c : ℕ) (y : Style) (h : sign + 1 < longest) (k : isConversion c
       ]
 
   no-element : isElement Reader element ≡ false
-  no-element =
-      let known : true ≡ isConversion (letterOf element) = sym (ap isConversion letter-of ∙ k) in
-      sym (signed-is element Reader (omega (arith, large)) known refl (λ z. omega (arith, sign-of)) (styled-no element large))
+  no-element = unread element large
 
 -- a format of bytes that is not too long
 module _ (f : List ℕ) (short : length f ≤ longest) (bytes : every isByte f ≡ true)

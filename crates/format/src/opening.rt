@@ -14,7 +14,7 @@ ghost use Rattle.format.specs.Conversions.{among, isNumber, ownFormat};
 ghost use Rattle.format.specs.Opening.{longest, conversionAt, letter, paired, conversion, flags, flagRun, widthRun, takesFlag};
 ghost use Rattle.format.specs.Opening.{isUnstyled};
 ghost use Rattle.format.specs.Opening.{withStyle, styled, signed, pieceOf, signAt, openTo, opened, openedInto, mostElements};
-ghost use Rattle.format.specs.Opening.{styleOf, hasStyle, isElement, elementsIn, entryPlace};
+ghost use Rattle.format.specs.Opening.{styleOf, isElement, elementsIn, entryPlace};
 ghost use Rattle.format.specs.Private.{holds, SetOf, CanOpen, answered};
 
 // The most bytes of a format, and of a text.
@@ -443,10 +443,18 @@ pub fn style_of(e: u32) -> Style
     }
 }
 
-// Whether an element can have its flag and its width with its letter.
-fn has_style(e: u32) -> bool
-    ensures { λ r. ⌜ r ≡ hasStyle Side.Writer e ⌝ }
+// Whether an entry that is not plain is a conversion with a flag and a width that it takes.
+fn is_styled(e: u32) -> bool
+    requires { ⌜ 262144 ≤ e ⌝ }
+    ensures { λ r. ⌜ r ≡ isElement Side.Writer e ⌝ }
 {
+    let letter = (e % 256) as u8;
+    if !holds(CONVERSIONS, letter) {
+        return false;
+    }
+    if e / 256 % 1024 == 0 {
+        return false;
+    }
     let style = style_of(e);
     if 99 < style.width {
         return false;
@@ -454,29 +462,23 @@ fn has_style(e: u32) -> bool
     if !is_flag(style.flag) {
         return false;
     }
-    let conversion = conversion_of((e % 256) as u8);
+    let conversion = conversion_of(letter);
     let form = conversion.form;
     takes_flag(style.flag, form)
 }
 
-// Whether an entry is an element. One without flag and width is judged first, and alike for both sides.
+// Whether an entry is an element. One without flag and width is judged alike for both sides.
 fn is_element(side: Side, e: u32) -> bool
     ensures { λ r. ⌜ r ≡ isElement side e ⌝ }
 {
     if e < 256 {
         return true;
     }
-    if !holds(CONVERSIONS, (e % 256) as u8) {
-        return false;
-    }
     if e < PLAIN {
-        return true;
-    }
-    if e / 256 % 1024 == 0 {
-        return false;
+        return holds(CONVERSIONS, (e % 256) as u8);
     }
     match side {
-        Side::Writer => has_style(e),
+        Side::Writer => is_styled(e),
         Side::Reader => false,
     }
 }
@@ -510,10 +512,10 @@ pub fn entry_place(elements: &[u32], k: usize) -> usize
         return k;
     }
     let e = elements[k];
-    if !is_element(Side::Writer, e) {
+    if e < PLAIN {
         return k;
     }
-    if is_element(Side::Reader, e) {
+    if !is_styled(e) {
         return k;
     }
     (e / 256 % 1024 - 1) as usize
