@@ -56,7 +56,8 @@ use Rattle.text.specs.Names as tables
 use Rattle.text.specs.Naming as naming
 use Rattle.demands.specs.Starred as cases
 use Rattle.demands.specs.Starred.{Case}
-use Rattle.demands.specs.Columns.{columnCases, Columns, Writes, numbers, blanks, names, others, asked, format, digitsOf, column, belongs}
+use Rattle.demands.specs.Columns.{columnCases, Columns, Writes, numbers, blanks, names, others, asked, format, digitsOf, column}
+use Rattle.demands.specs.Columns.{belongs}
 
 not-eq-true : (t : Bool) → not t ≡ true → t ≡ false
 not-eq-true true e = clash (cc)
