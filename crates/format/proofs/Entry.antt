@@ -81,7 +81,7 @@ pub not-read : (e : ℕ) → 262144 ≤ e → isElement Reader e ≡ false
 unfolding isElement hasStyle
 not-read e h = simp (le-ltb e 256 (omega arith), le-ltb e 262144 h, and-false)
 
-pub alike : (e : ℕ) → e < 262144 → isElement Writer e ≡ isElement Reader e
+alike : (e : ℕ) → e < 262144 → isElement Writer e ≡ isElement Reader e
 unfolding isElement
 alike e h = rw (← plain-style Writer e h, ← plain-style Reader e h)
 

@@ -14,7 +14,6 @@ pub use opening::Style;
 pub use opening::elements_in;
 pub use opening::entry_place;
 pub use opening::open;
-pub use opening::plain_in;
 pub use opening::style_of;
 
 // The room that a short format and a middling one need: to clear room for the longest takes longer than to write or read by a short one.

@@ -467,27 +467,20 @@ fn is_styled(e: u32) -> bool
     takes_flag(style.flag, form)
 }
 
-// Whether an entry is an element for the reader: one without flag and width.
-fn is_plain(e: u32) -> bool
-    ensures { λ r. ⌜ r ≡ isElement Side.Reader e ⌝ }
+// Whether an entry is an element. One without flag and width is judged alike for both sides.
+fn is_element(side: Side, e: u32) -> bool
+    ensures { λ r. ⌜ r ≡ isElement side e ⌝ }
 {
     if e < 256 {
         return true;
     }
-    if PLAIN <= e {
-        return false;
-    }
-    holds(CONVERSIONS, (e % 256) as u8)
-}
-
-// Whether an entry is an element for the writer.
-fn is_element(e: u32) -> bool
-    ensures { λ r. ⌜ r ≡ isElement Side.Writer e ⌝ }
-{
     if e < PLAIN {
-        return is_plain(e);
+        return holds(CONVERSIONS, (e % 256) as u8);
     }
-    is_styled(e)
+    match side {
+        Side::Writer => is_styled(e),
+        Side::Reader => false,
+    }
 }
 
 fn smaller(a: usize, b: usize) -> usize
@@ -496,29 +489,14 @@ fn smaller(a: usize, b: usize) -> usize
     if a < b { a } else { b }
 }
 
-// How many entries, from the first on, are elements for the writer.
-pub fn elements_in(elements: &[u32]) -> usize
-    ensures { λ r. ⌜ r ≡ elementsIn Side.Writer mostElements (now (elements .entry)) ⌝ }
+// How many entries, from the first on, are elements.
+pub fn elements_in(side: Side, elements: &[u32]) -> usize
+    ensures { λ r. ⌜ r ≡ elementsIn side mostElements (now (elements .entry)) ⌝ }
 {
     let most = smaller(elements.len(), MOST_ELEMENTS);
     let mut k = 0;
     while k < most {
-        if !is_element(elements[k]) {
-            return k;
-        }
-        k += 1;
-    }
-    k
-}
-
-// The same for the reader. It is a loop of its own, small enough that the compiler puts it where it is called.
-pub fn plain_in(elements: &[u32]) -> usize
-    ensures { λ r. ⌜ r ≡ elementsIn Side.Reader mostElements (now (elements .entry)) ⌝ }
-{
-    let most = smaller(elements.len(), MOST_ELEMENTS);
-    let mut k = 0;
-    while k < most {
-        if !is_plain(elements[k]) {
+        if !is_element(side, elements[k]) {
             return k;
         }
         k += 1;

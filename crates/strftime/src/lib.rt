@@ -12,7 +12,6 @@ use format::SHORT_ELEMENTS;
 use format::Side;
 use format::elements_in;
 use format::open;
-use format::plain_in;
 use measuring::measure;
 use putting::put_elements;
 use values::Moment;
@@ -117,10 +116,10 @@ pub fn write_elements(elements: &[u32], fields: Fields, out: &mut [u8]) -> Writt
     match moment_of(fields) {
         MomentFields::Bad(field) => Written::BadMoment { field },
         MomentFields::Valid(moment) => {
-            if plain_in(elements) == elements.len() {
+            if elements_in(Side::Reader, elements) == elements.len() {
                 return write_opened(elements, moment, out, WIDEST * elements.len());
             }
-            let good = elements_in(elements);
+            let good = elements_in(Side::Writer, elements);
             if good < elements.len() {
                 return Written::BadConversion { at: good };
             }

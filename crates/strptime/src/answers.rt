@@ -17,9 +17,9 @@ use format::Opened;
 use format::SHORT_BYTES;
 use format::SHORT_ELEMENTS;
 use format::Side;
+use format::elements_in;
 use format::entry_place;
 use format::open;
-use format::plain_in;
 use judge::Verdict;
 use judge::judge_day;
 use judge::judge_hour;
@@ -195,7 +195,7 @@ fn bad_conversion(at: usize, text: &[u8]) -> Answer
 pub fn read_elements(elements: &[u32], text: &[u8]) -> Answer
     ensures { λ r. ⌜ readingOf r ≡ elementsReading (now (elements .entry)) (now (text .entry)) ⌝ }
 {
-    let good = plain_in(elements);
+    let good = elements_in(Side::Reader, elements);
     if good != elements.len() {
         return bad_conversion(entry_place(elements, good), text);
     }

@@ -19,8 +19,8 @@ enum-known-field c = search needs
 enum-known-moment : tie.Need-enum-known-moment
 enum-known-moment c = search needs
 
-plain-in-requires : tie.Need-plain-in-requires
-plain-in-requires c κs = search needs
+elements-in-requires : tie.Need-elements-in-requires
+elements-in-requires c κs = search needs
 
 write-opened-requires : tie.Need-write-opened-requires
 write-opened-requires c κs =
@@ -28,7 +28,7 @@ write-opened-requires c κs =
     let m = c .before .before .before .before in
     let es = c .before .before .before .before .before .before .before .before .before .args .elements .now in
     let i = is-moment _ (m .before .before .moment-of .ensures) (m .moment .given .1) in
-    let q = sym (e .plain-in .ensures) ∙ c .before .if1 .taken in
+    let q = sym (e .elements-in .ensures) ∙ c .before .if1 .taken in
     let long = text-most (m .moment .given .0 .0) i es (counted-all Reader mostElements es q) in
     (omega (arith, counted-few Reader mostElements es, q), (omega (arith, long), i))
 
@@ -36,7 +36,7 @@ mul-write-opened : tie.Need-mul-write-opened
 mul-write-opened c =
     let e = c .before .before in
     let es = c .before .before .before .before .before .before .before .before .before .args .elements .now in
-    omega (arith, counted-few Reader mostElements es, e .plain-in .ensures, c .before .if1 .taken)
+    omega (arith, counted-few Reader mostElements es, e .elements-in .ensures, c .before .if1 .taken)
 
 same-length : tie.Need-same-length
 same-length c = search needs
@@ -46,18 +46,18 @@ returns c =
     let w = c .before .before .before in
     let m = w .before .before .before .before in
     plain-elements _ (m .before .before .moment-of .ensures) _ _ (m .moment .given .1)
-    (sym (w .before .if1 .taken) ∙ w .before .before .plain-in .ensures)
+    (sym (w .before .if1 .taken) ∙ w .before .before .elements-in .ensures)
     (c .before .before .write-opened .ensures)
 
-elements-in-requires : tie.Need-elements-in-requires
-elements-in-requires c κs = search needs
+elements-in-requires-2 : tie.Need-elements-in-requires-2
+elements-in-requires-2 c κs = search needs
 
 returns-2 : tie.Need-returns-2
 returns-2 c =
     let m = c .before .before .before .before .before in
     let a = m .before .before .before .before .before .args in
     bad-entry (a .fields) (m .before .before .moment-of .ensures) (a .elements .now) (a .out .now) (m .moment .given .1)
-    (c .before .elements-in .ensures) (omega arith)
+    (c .before .elements-in2 .ensures) (omega arith)
 
 write-opened-requires-2 : tie.Need-write-opened-requires-2
 write-opened-requires-2 c κs =
@@ -66,12 +66,12 @@ write-opened-requires-2 c κs =
     let es = c .before .before .before .before .before .before .before .before .before .before .before .args .elements .now in
     let i = is-moment _ (m .before .before .moment-of .ensures) (m .moment .given .1) in
     let long = text-any (m .moment .given .0 .0) i es in
-    (omega (arith, counted-few Writer mostElements es, e .elements-in .ensures), (omega (arith, long), i))
+    (omega (arith, counted-few Writer mostElements es, e .elements-in2 .ensures), (omega (arith, long), i))
 
 mul-write-opened-2 : tie.Need-mul-write-opened-2
 mul-write-opened-2 c =
     let es = c .before .before .before .before .before .before .before .before .before .before .before .args .elements .now in
-    omega (arith, counted-few Writer mostElements es, c .before .before .elements-in .ensures)
+    omega (arith, counted-few Writer mostElements es, c .before .before .elements-in2 .ensures)
 
 returns-3 : tie.Need-returns-3
 returns-3 c = bad-fields _ (c .before .before .before .moment-of .ensures) _ _ (c .before .field .given .1)
@@ -83,7 +83,7 @@ returns-4 : tie.Need-returns-4
 returns-4 c =
     let e = c .before .before .before .before .before in
     let m = e .before .before .before .before in
-    all-elements _ (m .before .before .moment-of .ensures) _ _ (m .moment .given .1) (e .elements-in .ensures)
+    all-elements _ (m .before .before .moment-of .ensures) _ _ (m .moment .given .1) (e .elements-in2 .ensures)
     (omega arith) (c .before .before .write-opened2 .ensures)
 
 pub write-elements-spec : {M : Type 1} → statement M
@@ -93,12 +93,12 @@ write-elements-spec =
     moment-of-requires
     enum-known-field
     enum-known-moment
-    plain-in-requires
+    elements-in-requires
     mul-write-opened
     write-opened-requires
     same-length
     returns
-    elements-in-requires
+    elements-in-requires-2
     returns-2
     mul-write-opened-2
     write-opened-requires-2

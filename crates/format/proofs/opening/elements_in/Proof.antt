@@ -5,24 +5,23 @@ use mathlib.Core.Path.{_≡_}
 use native.Mathlib.Omega.{arith}
 use lib.ListN.{length, drop}
 use Rattle.format.specs.Opening.{elementsIn, mostElements}
-use Rattle.format.specs.declared.opening.Side.the-variants.{Writer}
 use Rattle.format.proofs.Entries.{at-first, at-end, no-element, one-more}
 use Rattle.format.proofs.opening.elements_in.Statement.{statement}
 use Rattle.format.proofs.opening.elements_in.Tie as tie
 
 abbrev Inv-loop : tie.InvT-loop
-Inv-loop elements most k₀ k =
+Inv-loop side elements most k₀ k =
     (most ≡ min (length elements) mostElements)
-    × (k + elementsIn Writer (mostElements - k) (drop k elements) ≡ elementsIn Writer mostElements elements)
+    × (k + elementsIn side (mostElements - k) (drop k elements) ≡ elementsIn side mostElements elements)
 
 abbrev μ-loop : tie.MeasureT-loop
-μ-loop elements most k₀ k = most - k
+μ-loop side elements most k₀ k = most - k
 
 smaller-requires : tie.Need-smaller-requires Inv-loop μ-loop
 smaller-requires c κs = tt
 
 loop-holds : tie.Need-loop-holds Inv-loop μ-loop
-loop-holds c = (c .smaller .ensures, at-first Writer (c .before .before .args .elements .now) mostElements)
+loop-holds c = (c .smaller .ensures, at-first _ (c .before .before .args .elements .now) mostElements)
 
 mul-is-element : tie.Need-mul-is-element Inv-loop μ-loop
 mul-is-element c = omega arith
@@ -37,7 +36,7 @@ returns : tie.Need-returns Inv-loop μ-loop
 returns c =
     let l = c .before .before .before .before in
     let es = l .before .before .before .args .elements .now in
-    omega (arith, no-element Writer es mostElements (l .loop .k) (omega arith) (c .before .is-element .ensures) (c .if1 .taken))
+    omega (arith, no-element _ es mostElements (l .loop .k) (omega arith) (c .before .is-element .ensures) (c .if1 .taken))
 
 add-k : tie.Need-add-k Inv-loop μ-loop
 add-k c = omega arith
@@ -50,14 +49,14 @@ loop-again c =
     let l = c .before .before .before .before in
     let es = l .before .before .before .args .elements .now in (
       l .loop .inv .0,
-      omega (arith, one-more Writer es mostElements (l .loop .k) (omega arith) (c .before .is-element .ensures) (c .if1 .left)),
+      omega (arith, one-more _ es mostElements (l .loop .k) (omega arith) (c .before .is-element .ensures) (c .if1 .left)),
     )
 
 returns-2 : tie.Need-returns-2 Inv-loop μ-loop
 returns-2 c =
     let l = c .before in
     let a = l .before .before .before .args in
-    omega (arith, at-end Writer (a .elements .now) mostElements (l .loop .k) (omega arith))
+    omega (arith, at-end (a .side) (a .elements .now) mostElements (l .loop .k) (omega arith))
 
 pub elements-in-spec : {M : Type 1} → statement M
 elements-in-spec =
