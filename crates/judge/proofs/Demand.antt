@@ -15,7 +15,7 @@ use Rattle.judge.specs.Agreement.{said, noneSaid, agrees, allAgree, date
 use Rattle.judge.specs.Demand.{NoneSaid, NoDayFact, NoHourFact, IsDay, IsHour, AllAgree, DayAgrees, HourAgrees}
 use Rattle.judge.specs.Demand.{Only, Earliest, Judged, DayJudged, HourJudged}
 use Rattle.judge.specs.Search.{firstTwo}
-use Rattle.judge.specs.Verdicts.{verdictOf, dayVerdict, hourVerdict}
+use Rattle.judge.specs.Verdicts.{verdictOf, daysFound, dayVerdict, hourVerdict}
 use Rattle.judge.specs.declared.Facts.{Facts}
 use Rattle.judge.specs.declared.Found.{Found}
 use Rattle.judge.specs.declared.Found.the-variants.{Nothing, One, Two}
@@ -165,7 +165,7 @@ module _ (f : Facts) (ks : List ℕ) where
 
 -- demand 3 for the day, and for the hour
 pub day-judged : (f : Facts) → DayJudged f (dayVerdict f)
-unfolding dayVerdict dayBorne dayAgrees dateAgrees
+unfolding dayVerdict daysFound dayBorne dayAgrees dateAgrees
 day-judged f =
     judged (NoDayFact f) IsDay (DayAgrees f) (dayAgrees f) 1 days (dayBorne f)
     (none-said f dayKinds)

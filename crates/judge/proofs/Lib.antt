@@ -1,7 +1,6 @@
 pub mod DayValues
 pub mod Demand
 pub mod Every
-pub mod Parts
 pub mod Position
 pub mod SoFar
 pub mod Tells

@@ -2,5 +2,6 @@
 pub mod Agreement
 pub mod Search
 pub mod Verdicts
+pub mod Engines
 pub mod Demand
 pub mod Private

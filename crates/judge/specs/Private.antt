@@ -1,16 +1,115 @@
--- The kinds that bear on the day, in the parts that the search tests: once for a year, once for a month, and for each day.
-use Prim.Native.Nat.{ℕ}
+-- What the engines work with: the kinds in the parts that a day's test takes them in, what facts leave of years, months and days, and what
+-- repeats.
+use Prim.Native.Nat.{ℕ, _+_, _-_, _*_, _/_, _%_, min, max}
+use mathlib.Core.Bool.{Bool, true, cond, not}
 use mathlib.Core.List.{List, [], _∷_}
+use lib.Dec.{eqb, leb}
+use Rattle.calendar.specs.Calendar.{sum, monthLength}
+use Rattle.judge.specs.Agreement.{said, noneSaid}
+use Rattle.judge.specs.Engines.{plainCount, skippingCount}
+use Rattle.judge.specs.Verdicts.{verdictOf, daysFound}
+use Rattle.judge.specs.declared.Facts.{Facts}
+use Rattle.judge.specs.declared.Found.{Found}
+use Rattle.judge.specs.declared.Found.the-variants.{Nothing, One, Two}
+use Rattle.judge.specs.declared.Searched.{Searched}
+use Rattle.judge.specs.declared.Searched.the-variants.{Judged, OverBudget}
+use Rattle.judge.specs.declared.spans.Span.{Span}
 use Rattle.kinds.specs.Kinds as kinds
 
-unfoldable pub yearKinds : List ℕ
-yearKinds = kinds.year ∷ kinds.century ∷ kinds.yearInCentury ∷ []
+-- ---- what each engine gives where a fact bears on the day
 
-unfoldable pub monthKinds : List ℕ
-monthKinds = kinds.month ∷ []
+unfoldable pub plainly : ℕ → Facts → Searched
+plainly budget f =
+    let enough = Judged (verdictOf (daysFound f)) (plainCount f) in
+    cond (leb (plainCount f) budget) enough (OverBudget budget)
+
+unfoldable pub skippingJudged : Facts → Searched
+skippingJudged f = Judged (verdictOf (daysFound f)) (skippingCount f)
+
+-- ---- the kinds that a day's test takes last, and only where one of them was said
 
 unfoldable pub isoKinds : List ℕ
 isoKinds = kinds.isoYear ∷ kinds.isoYearInCentury ∷ kinds.isoWeek ∷ []
 
-unfoldable pub restKinds : List ℕ
-restKinds = kinds.day ∷ kinds.dayOfYear ∷ kinds.weekday ∷ kinds.sundayWeek ∷ kinds.mondayWeek ∷ isoKinds
+-- ---- spans of numbers
+
+abbrev pub span : ℕ → ℕ → Span
+span a b = record { first = a; last = b }
+
+-- what is left of a span where something was said: the numbers from a to b
+unfoldable pub narrowed : Span → ℕ → ℕ → ℕ → Span
+narrowed x s a b = cond (eqb s 0) x (span (max (x .first) a) (min (x .last) b))
+
+-- the number that was said, cut to a most
+abbrev pub numberOf : ℕ → ℕ → ℕ
+numberOf s most = min (s - 1) most
+
+-- the years up to a horizon, by what was said of the year, the century and the ISO year
+unfoldable pub yearSpan : Facts → ℕ → Span
+yearSpan f horizon =
+    let y = numberOf (said f kinds.year) 10000 in
+    let c = numberOf (said f kinds.century) 100 * 100 in
+    let g = numberOf (said f kinds.isoYear) 20000 in
+    narrowed (narrowed (narrowed (span 1 horizon) (said f kinds.year) y y) (said f kinds.century) c (c + 99))
+    (said f kinds.isoYear) (g - 1) (g + 1)
+
+-- from a year to the next with the same year in the century, where one was said
+unfoldable pub yearStep : Facts → ℕ
+yearStep f = cond (eqb (said f kinds.yearInCentury) 0) 1 100
+
+unfoldable pub firstYear : Facts → ℕ → ℕ
+firstYear f first =
+    let s = said f kinds.yearInCentury in
+    cond (eqb s 0) first (first + ((s - 1) % 100 + 100 - first % 100) % 100)
+
+-- the ISO year of a day of year y is y, or the one before or after it
+unfoldable pub isoCan : Facts → ℕ → Bool
+isoCan f y =
+    let s = said f kinds.isoYearInCentury in
+    cond (eqb s 0) true (leb ((y + 101 - (s - 1) % 100) % 100) 2)
+
+unfoldable pub monthSpan : Facts → ℕ → Span
+monthSpan f y =
+    let m = numberOf (said f kinds.month) 13 in
+    cond (isoCan f y) (narrowed (span 1 12) (said f kinds.month) m m) (span 1 0)
+
+-- the days of a year by their day numbers, of which `before` stand before the year, by what was said of the day of the year and of %U and %W
+unfoldable pub yearDays : Facts → ℕ → ℕ → Span
+yearDays f before length =
+    let j = before + numberOf (said f kinds.dayOfYear) 400 in
+    let u = (before / 7 + numberOf (said f kinds.sundayWeek) 60) * 7 in
+    let w = ((before + 6) / 7 + numberOf (said f kinds.mondayWeek) 60) * 7 in
+    narrowed (narrowed (narrowed (span (before + 1) (before + length)) (said f kinds.dayOfYear) j j) (said f kinds.sundayWeek) u (u + 6))
+    (said f kinds.mondayWeek) (max w 6 - 6) w
+
+-- how many days stand before month m
+abbrev pub monthStart : ℕ → ℕ → ℕ → ℕ
+monthStart before y m = before + sum (monthLength y) (m - 1)
+
+-- the days of a month among those of a span, by what was said of the day
+unfoldable pub monthDaySpan : Facts → Span → ℕ → ℕ → Span
+monthDaySpan f x start length =
+    let d = start + numberOf (said f kinds.day) 40 in
+    narrowed (span (max (x .first) (start + 1)) (min (x .last) (start + length))) (said f kinds.day) d d
+
+-- ---- what repeats
+
+-- something was said that names years
+unfoldable pub named : Facts → Bool
+named f = not (noneSaid f (kinds.year ∷ kinds.century ∷ kinds.isoYear ∷ []))
+
+-- the days after which all else repeats: those of 400 years, whole weeks
+abbrev pub cycle : ℕ
+cycle = 146097
+
+-- the first day that was found, 0 for none
+unfoldable pub firstOf : Found → ℕ
+firstOf Nothing = 0
+firstOf (One a) = a
+firstOf (Two a b) = a
+
+-- what is found in all years, from what is found in the first cycle
+unfoldable pub repeatedFound : Found → Found
+repeatedFound Nothing = Nothing
+repeatedFound (One a) = Two a (a + cycle)
+repeatedFound (Two a b) = Two a b

@@ -23,7 +23,13 @@ searchFrom p (suc n) k h = let more = searchFrom p n (suc k) (cond (p k) (hit k 
 unfoldable pub firstTwo : (ℕ → Bool) → ℕ → ℕ → Found
 firstTwo p from n = searchFrom p n from Nothing
 
+-- through which number the search goes: the second that is found, else the last of all
+unfoldable pub through : ℕ → Found → ℕ
+through last Nothing = last
+through last (One a) = last
+through last (Two a b) = b
+
 -- everything here, for proofs that compute
 unfoldable pub computes : Unit {0}
-unfolding hit isTwo searchFrom firstTwo
+unfolding hit isTwo searchFrom firstTwo through
 computes = tt

@@ -15,9 +15,13 @@ verdictOf Nothing = Impossible
 verdictOf (One a) = Agreed a
 verdictOf (Two a b) = Open a b
 
--- the verdict on the day, by its day number
+-- the first two days that agree, by their day numbers
+unfoldable pub daysFound : Facts → Found
+daysFound f = firstTwo (dayAgrees f) 1 days
+
+-- the verdict on the day
 unfoldable pub dayVerdict : Facts → Verdict
-dayVerdict f = let found = verdictOf (firstTwo (dayAgrees f) 1 days) in cond (dayBorne f) found Unsaid
+dayVerdict f = let found = verdictOf (daysFound f) in cond (dayBorne f) found Unsaid
 
 -- the verdict on the hour
 unfoldable pub hourVerdict : Facts → Verdict
@@ -25,5 +29,5 @@ hourVerdict f = let found = verdictOf (firstTwo (hourAgrees f) 0 24) in cond (ho
 
 -- everything here, for proofs that compute
 unfoldable pub computes : Unit {0}
-unfolding verdictOf dayVerdict hourVerdict
+unfolding verdictOf daysFound dayVerdict hourVerdict
 computes = tt

@@ -1,14 +1,19 @@
 // The verdicts on the day and on the hour.
+use crate::Engine;
 use crate::Facts;
 use crate::Found;
+use crate::Searched;
 use crate::Verdict;
 use crate::agreement::any_said;
-use crate::search::search_days;
+use crate::plain::judge_plainly;
 use crate::search::search_hours;
+use crate::skipping::judge_skipping;
+use calendar::Date;
 ghost use mathlib.Core.Path.{_≡_};
-ghost use Rattle.judge.specs.Verdicts.{verdictOf, dayVerdict, hourVerdict};
+ghost use Rattle.judge.specs.Engines.{searched};
+ghost use Rattle.judge.specs.Verdicts.{verdictOf, hourVerdict};
 
-fn verdict_of(found: Found) -> Verdict
+pub(crate) fn verdict_of(found: Found) -> Verdict
     ensures { λ r. ⌜ r ≡ verdictOf found ⌝ }
 {
     match found {
@@ -18,14 +23,21 @@ fn verdict_of(found: Found) -> Verdict
     }
 }
 
-// Unsaid where no fact bears on the day; else by the days that agree, as day numbers.
-pub fn judge_day(facts: Facts) -> Verdict
-    ensures { λ r. ⌜ r ≡ dayVerdict facts ⌝ }
+// Unsaid, and no day examined, where no fact bears on the day; else by the days that agree, as day numbers.
+pub fn judge_day(engine: Engine, facts: Facts) -> Searched
+    ensures { λ r. ⌜ r ≡ searched engine facts ⌝ }
 {
     if any_said(facts, kinds::FIRST_DAY_KIND, kinds::LAST_DAY_KIND) {
-        return verdict_of(search_days(facts));
+        return match engine {
+            Engine::Skipping => judge_skipping(facts),
+            Engine::Plain => judge_plainly(facts, Date::DAYS),
+            Engine::Within { budget } => judge_plainly(facts, budget),
+        };
     }
-    Verdict::Unsaid
+    Searched::Judged {
+        verdict: Verdict::Unsaid,
+        examined: 0,
+    }
 }
 
 pub fn judge_hour(facts: Facts) -> Verdict

@@ -9,13 +9,19 @@ use Rattle.calendar.specs.Calendar.{dateOf}
 use Rattle.format.specs.Opening.{Ended, Whole, BadAt, opening, longest, mostElements, elementsIn, entryPlace}
 use Rattle.format.specs.declared.opening.Side.the-variants.{Reader}
 use Rattle.judge.specs.Agreement.{said}
-use Rattle.judge.specs.Verdicts.{dayVerdict, hourVerdict}
+use Rattle.judge.specs.Engines.{searched}
+use Rattle.judge.specs.Verdicts.{hourVerdict}
+use Rattle.judge.specs.declared.Engine.{Engine}
+use Rattle.judge.specs.declared.Engine.the-variants.{Skipping}
+use Rattle.judge.specs.declared.Searched.{Searched}
+use Rattle.judge.specs.declared.Searched.the-variants.{Judged, OverBudget as TooFew}
 use Rattle.judge.specs.declared.Verdict.{Verdict}
 use Rattle.judge.specs.declared.Verdict.the-variants.{Unsaid as NotSaid, Impossible, Open, Agreed}
 use Rattle.strptime.specs.Reading.{start, readAll}
 use Rattle.strptime.specs.declared.Answer.{Answer}
 use Rattle.strptime.specs.declared.Answer.the-variants.{Done, FormatTooLong, TextTooLong, BadConversion}
-use Rattle.strptime.specs.declared.Answer.the-variants.{NoMatch, OutOfRange, Contradiction, NoDay, NoHour, OpenDay, OpenHour}
+use Rattle.strptime.specs.declared.Answer.the-variants.{NoMatch, OutOfRange, Contradiction}
+use Rattle.strptime.specs.declared.Answer.the-variants.{NoDay, NoHour, OpenDay, OpenHour, OverBudget}
 use Rattle.strptime.specs.declared.Day.{Day}
 use Rattle.strptime.specs.declared.Day.the-variants.{NoDate, On}
 use Rattle.strptime.specs.declared.Outcome.{Outcome}
@@ -29,30 +35,50 @@ use Rattle.strptime.specs.declared.State.{State}
 
 -- ---- the numbers
 
--- a number and a place, and what is shown; all else is unsaid
+-- a number and a place, and what is shown; all else is unsaid, and no day was examined
 unfoldable pub showing : ℕ → ℕ → Shown → Reading
-showing n p x = record { number = n; place = p; day = NoDate; hour = Unsaid; minute = Unsaid; second = Unsaid; shown = x }
+showing n p x =
+    record { number = n; place = p; day = NoDate; hour = Unsaid; minute = Unsaid; second = Unsaid; shown = x; examined = 0 }
 
 unfoldable pub refused : ℕ → ℕ → Reading
 refused n p = showing n p Nothing
 
 -- 0, with the first offset that was not read, and what is said of day, hour, minute and second
 unfoldable pub finished : ℕ → Day → Said → Said → Said → Reading
-finished p d h m s = record { number = 0; place = p; day = d; hour = h; minute = m; second = s; shown = Nothing }
+finished p d h m s = record { number = 0; place = p; day = d; hour = h; minute = m; second = s; shown = Nothing; examined = 0 }
+
+-- a reading with the days that were examined for it
+unfoldable pub examining : ℕ → Reading → Reading
+examining n r =
+    record {
+      number = r .number;
+      place = r .place;
+      day = r .day;
+      hour = r .hour;
+      minute = r .minute;
+      second = r .second;
+      shown = r .shown;
+      examined = n;
+    }
+
+-- 11, at the budget, which is reported too
+unfoldable pub overBudget : ℕ → Reading
+overBudget b = examining b (refused 11 b)
 
 -- the number, place and values of each answer
 unfoldable pub readingOf : Answer → Reading
-readingOf (Done p d h m s) = finished p d h m s
+readingOf (Done p d h m s n) = examining n (finished p d h m s)
 readingOf FormatTooLong = refused 1 0
 readingOf TextTooLong = refused 5 0
 readingOf (BadConversion p) = refused 3 p
 readingOf (NoMatch p) = refused 6 p
 readingOf (OutOfRange p) = refused 7 p
 readingOf (Contradiction p) = refused 8 p
-readingOf NoDay = refused 9 1
-readingOf NoHour = refused 9 2
-readingOf (OpenDay a b) = showing 10 1 (Days a b)
-readingOf (OpenHour a b) = showing 10 2 (Hours a b)
+readingOf (OverBudget b) = overBudget b
+readingOf (NoDay n) = examining n (refused 9 1)
+readingOf (NoHour n) = examining n (refused 9 2)
+readingOf (OpenDay a b n) = examining n (showing 10 1 (Days a b))
+readingOf (OpenHour a b n) = examining n (showing 10 2 (Hours a b))
 
 -- ---- 9 and 10
 
@@ -78,36 +104,41 @@ withDay t Impossible w = refused 9 1
 withDay t (Open a b) w = showing 10 1 (Days (dateOf a) (dateOf b))
 withDay t (Agreed k) w = withHour t (On (dateOf k)) w
 
-unfoldable pub judged : State → Reading
-judged t = withDay t (dayVerdict (t .facts)) (hourVerdict (t .facts))
+-- 11 in their place where the engine's budget is too small
+unfoldable pub withSearched : State → Searched → Verdict → Reading
+withSearched t (Judged v n) w = examining n (withDay t v w)
+withSearched t (TooFew b) w = overBudget b
 
--- ---- the whole order
+unfoldable pub judged : Engine → State → Reading
+judged e t = withSearched t (searched e (t .facts)) (hourVerdict (t .facts))
+
+-- ---- the whole order, by an engine
 
 -- 6, 7 or 8 where the reading of the elements met one, else the judging
-unfoldable pub concluded : State → Outcome → Reading
-concluded t Read = judged t
-concluded t (Mismatch p) = refused 6 p
-concluded t (Range p) = refused 7 p
-concluded t (Conflict p) = refused 8 p
+unfoldable pub concluded : Engine → State → Outcome → Reading
+concluded e t Read = judged e t
+concluded e t (Mismatch p) = refused 6 p
+concluded e t (Range p) = refused 7 p
+concluded e t (Conflict p) = refused 8 p
 
 -- a text read by elements
-unfoldable pub readBy : List ℕ → List ℕ → Reading
-readBy es s = let r = readAll es s start in concluded (r .state) (r .outcome)
+unfoldable pub readBy : Engine → List ℕ → List ℕ → Reading
+readBy e es s = let r = readAll es s start in concluded e (r .state) (r .outcome)
 
 -- 3, then by the elements of a format
-unfoldable pub byFormat : List ℕ → List ℕ → Reading
-byFormat f s = go (opening Reader f .ended)
+unfoldable pub byFormat : Engine → List ℕ → List ℕ → Reading
+byFormat e f s = go (opening Reader f .ended)
   where
     go : Ended → Reading
-    go Whole = readBy (opening Reader f .elements) s
+    go Whole = readBy e (opening Reader f .elements) s
     go (BadAt p) = refused 3 p
 
 -- The same by the elements of a format that was opened before: 3 at the first entry that is no element for reading. Its place is the
 -- offset of its % where it has a flag or a width that the writer takes, else its index.
-unfoldable pub byElements : List ℕ → List ℕ → Reading
-byElements es s =
+unfoldable pub byElements : Engine → List ℕ → List ℕ → Reading
+byElements e es s =
     let good = elementsIn Reader mostElements es in
-    let read = readBy es s in
+    let read = readBy e es s in
     cond (eqb good (length es)) read (refused 3 (entryPlace es good))
 
 -- 5, then the rest
@@ -115,15 +146,22 @@ unfoldable pub unlessLong : List ℕ → Reading → Reading
 unlessLong s rest = cond (leb (length s) longest) rest (refused 5 0)
 
 -- the whole order: 1, 5, 3, then the elements, then the day, then the hour
-unfoldable pub reading : List ℕ → List ℕ → Reading
-reading f s = let rest = unlessLong s (byFormat f s) in cond (leb (length f) longest) rest (refused 1 0)
+unfoldable pub readingBy : Engine → List ℕ → List ℕ → Reading
+readingBy e f s = let rest = unlessLong s (byFormat e f s) in cond (leb (length f) longest) rest (refused 1 0)
 
 -- by elements: 5, 3, and so on
-unfoldable pub elementsReading : List ℕ → List ℕ → Reading
-elementsReading es s = unlessLong s (byElements es s)
+unfoldable pub elementsReadingBy : Engine → List ℕ → List ℕ → Reading
+elementsReadingBy e es s = unlessLong s (byElements e es s)
+
+-- both by the engine that skips
+abbrev pub reading : List ℕ → List ℕ → Reading
+reading f s = readingBy Skipping f s
+
+abbrev pub elementsReading : List ℕ → List ℕ → Reading
+elementsReading es s = elementsReadingBy Skipping es s
 
 -- everything here, for proofs that compute
 unfoldable pub computes : Unit {0}
-unfolding showing refused finished readingOf saidOf done withHour withDay judged concluded
-    readBy byFormat byElements unlessLong reading elementsReading
+unfolding showing refused finished examining overBudget readingOf saidOf done withHour withDay withSearched judged concluded
+    readBy byFormat byElements unlessLong readingBy elementsReadingBy
 computes = tt

@@ -48,8 +48,8 @@ pub enum Shown {
     Hours { first: u32, second: u32 },
 }
 
-// The answer to a reading: done, then the refusals 1, 5, 3, 6, 7, 8 in the order in which they are judged, then 9 and 10, each for the
-// day and for the hour. The day is judged before the hour.
+// The answer to a reading: done, then the refusals 1, 5, 3, 6, 7, 8 in the order in which they are judged, then 11, then 9 and 10, each
+// for the day and for the hour. The day is judged before the hour. From 11 on, and where it is done, days may have been examined.
 pub enum Answer {
     Done {
         unread: usize,
@@ -57,6 +57,7 @@ pub enum Answer {
         hour: Said,
         minute: Said,
         second: Said,
+        examined: u32,
     },
     FormatTooLong,
     TextTooLong,
@@ -72,19 +73,28 @@ pub enum Answer {
     Contradiction {
         at: usize,
     },
-    NoDay,
-    NoHour,
+    OverBudget {
+        budget: u32,
+    },
+    NoDay {
+        examined: u32,
+    },
+    NoHour {
+        examined: u32,
+    },
     OpenDay {
         first: Date,
         second: Date,
+        examined: u32,
     },
     OpenHour {
         first: u32,
         second: u32,
+        examined: u32,
     },
 }
 
-// The number, place and values of an answer (RULES 3).
+// The number, place and values of an answer (RULES 3), and how many days were examined for it.
 pub struct Reading {
     pub number: u32,
     pub place: usize,
@@ -93,4 +103,5 @@ pub struct Reading {
     pub minute: Said,
     pub second: Said,
     pub shown: Shown,
+    pub examined: u32,
 }

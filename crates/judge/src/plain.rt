@@ -1,0 +1,51 @@
+// The plain engine: each day of the calendar is examined whole, in order, up to the second that agrees.
+use crate::Facts;
+use crate::Found;
+use crate::Searched;
+use crate::agreement::any_said;
+use crate::judging::verdict_of;
+use crate::search::date_at;
+use crate::search::day_agrees;
+use crate::search::hit;
+use crate::search::is_two;
+use calendar::Date;
+use calendar::month_length;
+ghost use mathlib.Core.Path.{_≡_};
+ghost use Rattle.judge.specs.Private.{plainly};
+
+// The verdict and the days examined, or that the budget was used up before.
+pub(crate) fn judge_plainly(facts: Facts, budget: u32) -> Searched
+    ensures { λ r. ⌜ r ≡ plainly budget facts ⌝ }
+{
+    let iso = any_said(facts, kinds::ISO_YEAR, kinds::ISO_WEEK);
+    let mut found = Found::Nothing;
+    let mut examined = 0;
+    let mut year = Date::FIRST.year as u32;
+    'years: while year <= Date::LAST.year as u32 {
+        let before = examined;
+        let mut month = Date::FIRST.month as u32;
+        while month <= Date::LAST.month as u32 {
+            let length = month_length(year, month);
+            let mut day = Date::FIRST.day as u32;
+            while day <= length {
+                if examined == budget {
+                    return Searched::OverBudget { budget };
+                }
+                examined += 1;
+                if day_agrees(facts, iso, date_at(year, month, day), examined, before) {
+                    found = hit(examined, found);
+                    if is_two(found) {
+                        break 'years;
+                    }
+                }
+                day += 1;
+            }
+            month += 1;
+        }
+        year += 1;
+    }
+    Searched::Judged {
+        verdict: verdict_of(found),
+        examined,
+    }
+}
