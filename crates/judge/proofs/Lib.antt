@@ -5,3 +5,4 @@ pub mod Position
 pub mod SoFar
 pub mod Tells
 pub mod Through
+pub mod Upto
