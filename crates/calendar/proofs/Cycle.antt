@@ -82,7 +82,7 @@ pub month-again : (y n : ℕ) → monthOf (y + 400) n ≡ monthOf y n
 unfolding monthOf
 month-again y n = rw (months-again y)
 
-pub year-low : (k : ℕ) → 0 < k → 0 < yearOf k
+year-low : (k : ℕ) → 0 < k → 0 < yearOf k
 year-low k h = omega (arith, year-located k h .1)
 
 pub date-again : (k : ℕ) → 0 < k → dateOf (k + 146097) ≡ date (dateOf k .year + 400) (dateOf k .month) (dateOf k .day)
@@ -92,10 +92,14 @@ date-again k h =
     let left : k + 146097 - daysBefore (y + 400) ≡ k - daysBefore y = omega (arith, days-before-again y (year-low k h)) in
     rw (year-again k h, left, month-again y (k - daysBefore y), months-again y)
 
--- the day number of the date of any day but 0 is not 0
-pub number-low : (k : ℕ) → 0 < k → 0 < dayNumber (dateOf k .year) (dateOf k .month) (dateOf k .day)
+-- the date of any day but 0 has its year and its day number past 0
+pub date-year-low : (k : ℕ) → 0 < k → 0 < dateOf k .year
+unfolding dateOf dateIn
+date-year-low k h = year-low k h
+
+pub date-number-low : (k : ℕ) → 0 < k → 0 < dayNumber (dateOf k .year) (dateOf k .month) (dateOf k .day)
 unfolding dateOf dateIn dayNumber dayOfYear
-number-low k h = omega (arith, year-starts k)
+date-number-low k h = omega (arith, year-starts k)
 
 thursday-low : (k : ℕ) → 0 < k → 0 < thursday k
 unfolding thursday
