@@ -126,8 +126,9 @@ module _ (p : ℕ → Bool) where
         ap p e ∙ cycles-again ((k - 1) / cycle) (repeatedDay k) (omega arith)
 
     -- one day of the first cycle comes again first of all in the second
-    next-is : (a : ℕ) → ((k : ℕ) → 1 ≤ k → k < 1 + cycle → p k ≡ true → k ≡ a) → (k : ℕ) → 1 ≤ k → k < a + cycle → p k ≡ true → k ≡ a
-    next-is a f k l m q =
+    next-is : (a : ℕ) → a < 1 + cycle → ((k : ℕ) → 1 ≤ k → k < 1 + cycle → p k ≡ true → k ≡ a)
+        → (k : ℕ) → 1 ≤ k → k < a + cycle → p k ≡ true → k ≡ a
+    next-is a s f k l m q =
         elim (decLe k cycle) [
           | yes n ↦ f k l (omega (arith, n)) q
           | no n ↦
@@ -139,10 +140,12 @@ module _ (p : ℕ → Bool) where
 
     all-tell : (h : Found) → Tells p 1 (1 + cycle) h → Tells p 1 (1 + days) (repeatedFound h)
     unfolding repeatedFound
-    all-tell Nothing (none f) = none (λ k l m. as-repeated k l ∙ f (repeatedDay k) (omega arith) (omega arith))
+    all-tell Nothing (none f) = none (λ k l _. as-repeated k l ∙ f (repeatedDay k) (omega arith) (omega arith))
     all-tell (One a) (single l m q f) =
-        double l (omega arith) (omega (arith, days-is)) q (again a l ∙ q) (next-is a f)
-    all-tell (Two a b) (double l m n q r f) = double l m (omega (arith, days-is)) q r f
+        let later : a < a + cycle = omega arith in
+        let within : a + cycle < 1 + days = omega (arith, days-is) in
+        double l later within q (again a l ∙ q) (next-is a m f)
+    all-tell (Two a b) (double l m n q r f) = let within : b < 1 + days = omega (arith, days-is) in double l m within q r f
 
 cycle-tells : (f : Facts) → Tells (dayAgrees f) 1 (1 + cycle) (firstTwo (dayAgrees f) 1 (sum yearLength 400))
 cycle-tells f = rw cycle-days (tells (dayAgrees f) 1 cycle)

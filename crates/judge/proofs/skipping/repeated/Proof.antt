@@ -12,7 +12,11 @@ enum-known-found : tie.Need-enum-known-found
 enum-known-found c = search needs
 
 add-t6 : tie.Need-add-t6
-add-t6 c = ?
+unfolding firstOf
+add-t6 c =
+    let b = c .before .before .before in
+    let few = rw (c .before .found .given .1) at (b .pre) in
+    omega (arith, few)
 
 enum-known-found-2 : tie.Need-enum-known-found-2
 enum-known-found-2 c = search needs
@@ -23,7 +27,7 @@ returns c = rw (c .enum-told .given .1)
 
 returns-2 : tie.Need-returns-2
 unfolding repeatedFound
-returns-2 c = ?
+returns-2 c = rw (c .before .found .given .1)
 
 returns-3 : tie.Need-returns-3
 unfolding repeatedFound
