@@ -2,9 +2,9 @@
 -- Assumes nothing.
 use Prim.Native.Nat.{ℕ, suc, _+_, _-_, _*_, _/_, _%_, _≤_, _<_}
 use mathlib.Core.Bool.{Bool, cond, _&&_}
-use mathlib.Core.Path.{_≡_, refl, sym, ap, _∙_}
+use mathlib.Core.Path.{_≡_, sym, ap, _∙_}
 use native.Mathlib.Omega.{arith}
-use lib.Dec.{eqb, lit<, lit≤}
+use lib.Dec.{eqb}
 use lib.ListN.{getD}
 use Rattle.calendar.specs.Calendar.{date, sum, leap, yearLength, monthLengths, monthLength, dayOfYear, daysBefore, dayNumber}
 use Rattle.calendar.specs.Calendar.{yearOf, monthOf, dateIn, dateOf, countOf, thursday, isoYear, isoWeek}
@@ -20,19 +20,12 @@ leap-again y =
     let all : (y + 400) % 400 ≡ y % 400 = omega arith in
     rw (four, hundred, all)
 
-pub year-length-again : (y : ℕ) → yearLength (y + 400) ≡ yearLength y
-unfolding yearLength
-year-length-again y = ap (λ (b : Bool). cond b 366 365) (leap-again y)
-
 -- all months at once
 pub months-again : (y : ℕ) → monthLength (y + 400) ≡ monthLength y
 unfolding monthLength
 months-again y =
     let lengths : Bool → ℕ → ℕ = λ b m. cond (eqb m 2 && b) 29 (getD monthLengths m 0) in
     ap lengths (leap-again y)
-
-pub month-length-again : (y m : ℕ) → monthLength (y + 400) m ≡ monthLength y m
-month-length-again y m = ap (λ (f : ℕ → ℕ). f m) (months-again y)
 
 pub years-again : (p : ℕ) → sum yearLength (p + 400) ≡ sum yearLength p + 146097
 years-again p =

@@ -1,7 +1,7 @@
--- All but the year's number, the century and the ISO year repeats after 400 years: what agrees in the first of them tells what agrees in all.
+-- All but the year, the century and the ISO year repeats after 400 years: the days of the first of them that agree tell all that do.
 -- Assumes nothing.
 use Prim.Native.Nat.{ℕ, zero, suc, _+_, _-_, _*_, _/_, _%_, _≤_, _<_}
-use mathlib.Core.Bool.{Bool, true, false, false≢true}
+use mathlib.Core.Bool.{Bool, true, false}
 use mathlib.Core.List.{List, [], _∷_, map, List·Memᴰ as Member, List·Memᴰ·head, List·Memᴰ·tail}
 use mathlib.Core.Path.{_≡_, refl, sym, ap, _∙_}
 use native.Mathlib.Decide.{decLe}
@@ -30,8 +30,8 @@ use Rattle.judge.proofs.Tells.{Tells, none, single, double, tells, tell
 
 -- ---- the values of a day
 
--- the kinds that bear on the day and repeat, and those that name years and do not
-pub repeatingKinds : List ℕ
+-- the kinds that bear on the day and repeat, and those that do not
+unfoldable pub repeatingKinds : List ℕ
 repeatingKinds =
     kinds.yearInCentury
     ∷ kinds.month
@@ -47,8 +47,8 @@ repeatingKinds =
 abbrev namingKinds : List ℕ
 namingKinds = kinds.year ∷ kinds.century ∷ kinds.isoYear ∷ []
 
-century-again : (y : ℕ) → (y + 400) % 100 ≡ y % 100
-century-again y = omega arith
+in-century-again : (y : ℕ) → (y + 400) % 100 ≡ y % 100
+in-century-again y = omega arith
 
 weekday-again : (k : ℕ) → (k + 146097 + 6) % 7 ≡ (k + 6) % 7
 weekday-again k = omega arith
@@ -65,8 +65,8 @@ date-values-again y m d p q =
       count-again 1 y n (lit< tt) (lit≤ tt) p,
       iso-year-again (dayNumber y m d) q,
       iso-week-again (dayNumber y m d) q,
-      century-again y,
-      century-again (isoYear (dayNumber y m d)),
+      in-century-again y,
+      in-century-again (isoYear (dayNumber y m d)),
       weekday-again (dayNumber y m d),
     )
 

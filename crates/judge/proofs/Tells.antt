@@ -54,7 +54,8 @@ module _ (p : ℕ → Bool) (from : ℕ) where
   tells n = tells-search n from Nothing (omega arith) (none (λ k l m. absurd (omega arith)))
 
   -- the second of two is at most that of any other two
-  second-least : (a b c d : ℕ) → from ≤ c → c < d → p c ≡ true → p d ≡ true → ((k : ℕ) → from ≤ k → k < b → p k ≡ true → k ≡ a) → b ≤ d
+  second-least : (a b c d : ℕ) → from ≤ c → c < d → p c ≡ true → p d ≡ true
+      → ((k : ℕ) → from ≤ k → k < b → p k ≡ true → k ≡ a) → b ≤ d
   second-least a b c d l m q r f =
       elim (decLe b d) [
         | yes n ↦ n

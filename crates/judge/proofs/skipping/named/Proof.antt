@@ -33,7 +33,8 @@ any-said-requires-2 c κs = search needs
 returns-2 : tie.Need-returns-2
 returns-2 c =
     let f = c .before .before .before .args .facts in
-    let none : noneSaid f (range kinds.year 2) ≡ true = not-false _ (sym (c .before .before .any-said .ensures) ∙ c .before .if1 .left) in
+    let e = c .before in
+    let none : noneSaid f (range kinds.year 2) ≡ true = not-false _ (sym (e .before .any-said .ensures) ∙ e .if1 .left) in
     rw (rows f, none) (c .any-said2 .ensures)
 
 pub named-spec : {M : Type 1} → statement M

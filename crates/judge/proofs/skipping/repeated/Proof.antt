@@ -13,10 +13,7 @@ enum-known-found c = search needs
 
 add-t6 : tie.Need-add-t6
 unfolding firstOf
-add-t6 c =
-    let b = c .before .before .before in
-    let few = rw (c .before .found .given .1) at (b .pre) in
-    omega (arith, few)
+add-t6 c = omega (arith, rw (c .before .found .given .1) at (c .before .before .before .pre))
 
 enum-known-found-2 : tie.Need-enum-known-found-2
 enum-known-found-2 c = search needs
