@@ -1,3 +1,4 @@
+pub mod Cycle
 pub mod DayValues
 pub mod Demand
 pub mod Every
