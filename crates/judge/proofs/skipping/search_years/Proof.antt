@@ -1,182 +1,166 @@
+-- `judge::skipping::search_years` meets its contract. Assumes nothing.
+use Prim.Native.Nat.{ℕ, _+_, _-_, _≤_, _<_}
+use mathlib.Core.Logic.{⊎-elim}
+use mathlib.Core.Path.{_≡_, sym, ap, _∙_}
+use native.Mathlib.Omega.{arith}
+use borrow.Author.Needs.{needs}
+use Rattle.calendar.specs.Calendar.{sum, yearLength, monthLength, daysBefore, dayOfYear, dayNumber, date, dateOf, lastYear}
+use Rattle.calendar.specs.declared.Date.{Date}
+use Rattle.judge.specs.Agreement.{dateAgrees, dayAgrees}
+use Rattle.judge.specs.Private.{isoKinds, yearSpan, monthSpan, yearDays, monthStart, monthDaySpan}
+use Rattle.judge.specs.declared.Facts.{Facts}
+use Rattle.judge.specs.declared.spans.Span.{Span}
+use Rattle.laws.specs.Lists.{range}
+use Rattle.calendar.proofs.Dates.{Valid, date-of-number}
+use Rattle.calendar.proofs.Months.{month-most, year-length-most}
+use Rattle.calendar.proofs.Years.{days-is, days-before-small}
+use Rattle.judge.proofs.Moves.{AtYear, AtMonth, AtDay, all-days, year-low, first-year, no-more-years, first-month, next-year}
+use Rattle.judge.proofs.Moves.{start-most, can, end-is, valid-here, number-here, first-day, last-high, one-of, next-day-hit, next-day-miss, next-month}
+use Rattle.judge.proofs.SpanLaws.{years-low, years-most, years-high, steps, months-low, months-high}
+use Rattle.judge.proofs.Upto.{upto-two}
 use Rattle.judge.proofs.skipping.search_years.Statement.{statement}
 use Rattle.judge.proofs.skipping.search_years.Tie as tie
-use Rattle.judge.proofs.skipping.search_years.Reads as reads
-use Rattle.judge.proofs.skipping.search_years.Lts as lts
-use Rattle.calendar.proofs.Date.day_number.Reads as day-number-reads
-use Rattle.calendar.proofs.month_length.Reads as month-length-reads
-use Rattle.calendar.proofs.year_length.Reads as year-length-reads
-use Rattle.judge.proofs.agreement.any_said.Reads as any-said-reads
-use Rattle.judge.proofs.search.date_at.Reads as date-at-reads
-use Rattle.judge.proofs.search.day_agrees.Reads as day-agrees-reads
-use Rattle.judge.proofs.search.hit.Reads as hit-reads
-use Rattle.judge.proofs.search.is_two.Reads as is-two-reads
-use Rattle.judge.proofs.spans.first_year.Reads as first-year-reads
-use Rattle.judge.proofs.spans.month_days.Reads as month-days-reads
-use Rattle.judge.proofs.spans.month_span.Reads as month-span-reads
-use Rattle.judge.proofs.spans.month_start.Reads as month-start-reads
-use Rattle.judge.proofs.spans.year_days.Reads as year-days-reads
-use Rattle.judge.proofs.spans.year_span.Reads as year-span-reads
-use Rattle.judge.proofs.spans.year_step.Reads as year-step-reads
 
 abbrev Inv-loop2 : tie.InvT-loop2
 Inv-loop2 facts horizon iso years step found₀ year before days months month start span number₀ found number =
-    ?
+    AtDay facts horizon year month number found
 
 abbrev μ-loop2 : tie.MeasureT-loop2
-μ-loop2 facts horizon iso years step found₀ year before days months month start span number₀ found number =
-    ?
+μ-loop2 facts horizon iso years step found₀ year before days months month start span number₀ found number = span .last + 1 - number
 
 abbrev Inv-loop : tie.InvT-loop
-Inv-loop facts horizon iso years step found₀ year before days months month₀ found month = ?
+Inv-loop facts horizon iso years step found₀ year before days months month₀ found month =
+    AtMonth facts horizon year month found
 
 abbrev μ-loop : tie.MeasureT-loop
-μ-loop facts horizon iso years step found₀ year before days months month₀ found month = ?
+μ-loop facts horizon iso years step found₀ year before days months month₀ found month = 13 - month
 
 abbrev Inv-years : tie.InvT-years
-Inv-years facts horizon iso years step found₀ year₀ found year = ?
+Inv-years facts horizon iso years step found₀ year₀ found year = AtYear facts horizon year found
 
 abbrev μ-years : tie.MeasureT-years
-μ-years facts horizon iso years step found₀ year₀ found year = ?
+μ-years facts horizon iso years step found₀ year₀ found year = years .last + 1 - year
 
--- src/skipping.rt:40:9
+-- ---- at a year
+abbrev Years : Type 0
+Years = tie.At-years Inv-loop2 μ-loop2 Inv-loop μ-loop Inv-years μ-years
+
+abbrev begun : Years → tie.Start Inv-loop2 μ-loop2 Inv-loop μ-loop Inv-years μ-years
+begun c = c .before .before .before .before .before
+
+abbrev facts-at : Years → Facts
+facts-at c = begun c .args .facts
+
+abbrev horizon-at : Years → ℕ
+horizon-at c = begun c .args .horizon
+
 any-said-requires : tie.Need-any-said-requires Inv-loop2 μ-loop2 Inv-loop μ-loop Inv-years μ-years
-any-said-requires c κs = ?
+any-said-requires c κs = search needs
 
--- src/skipping.rt:41:9
 year-span-requires :
     tie.Need-year-span-requires Inv-loop2 μ-loop2 Inv-loop μ-loop Inv-years μ-years
-year-span-requires c κs = ?
+year-span-requires c κs = search needs
 
--- src/skipping.rt:42:9
 year-step-requires :
     tie.Need-year-step-requires Inv-loop2 μ-loop2 Inv-loop μ-loop Inv-years μ-years
-year-step-requires c κs = ?
+year-step-requires c κs = search needs
 
--- src/skipping.rt:44:9
 first-year-requires :
     tie.Need-first-year-requires Inv-loop2 μ-loop2 Inv-loop μ-loop Inv-years μ-years
-first-year-requires c κs = ?
+first-year-requires c κs = search needs
 
--- src/skipping.rt:45:5
 years-holds : tie.Need-years-holds Inv-loop2 μ-loop2 Inv-loop μ-loop Inv-years μ-years
-years-holds c = ?
+years-holds c = search needs
 
--- src/skipping.rt:46:22
 date-at-requires : tie.Need-date-at-requires Inv-loop2 μ-loop2 Inv-loop μ-loop Inv-years μ-years
-date-at-requires c κs = ?
+date-at-requires c κs = search needs
 
--- src/skipping.rt:46:22
 day-number-requires :
     tie.Need-day-number-requires Inv-loop2 μ-loop2 Inv-loop μ-loop Inv-years μ-years
-day-number-requires c κs = ?
+day-number-requires c κs = search needs
 
--- src/skipping.rt:46:22
 sub-before : tie.Need-sub-before Inv-loop2 μ-loop2 Inv-loop μ-loop Inv-years μ-years
-sub-before c = ?
+sub-before c = search needs
 
--- src/skipping.rt:47:45
 year-length-requires :
     tie.Need-year-length-requires Inv-loop2 μ-loop2 Inv-loop μ-loop Inv-years μ-years
-year-length-requires c κs = ?
+year-length-requires c κs = search needs
 
--- src/skipping.rt:47:13
 year-days-requires :
     tie.Need-year-days-requires Inv-loop2 μ-loop2 Inv-loop μ-loop Inv-years μ-years
-year-days-requires c κs = ?
+year-days-requires c κs = search needs
 
--- src/skipping.rt:48:13
 month-span-requires :
     tie.Need-month-span-requires Inv-loop2 μ-loop2 Inv-loop μ-loop Inv-years μ-years
-month-span-requires c κs = ?
+month-span-requires c κs = search needs
 
--- src/skipping.rt:50:9
 loop-holds : tie.Need-loop-holds Inv-loop2 μ-loop2 Inv-loop μ-loop Inv-years μ-years
-loop-holds c = ?
+loop-holds c = search needs
 
--- src/skipping.rt:51:17
 month-start-requires :
     tie.Need-month-start-requires Inv-loop2 μ-loop2 Inv-loop μ-loop Inv-years μ-years
-month-start-requires c κs = ?
+month-start-requires c κs = search needs
 
--- src/skipping.rt:52:55
 month-length-requires :
     tie.Need-month-length-requires Inv-loop2 μ-loop2 Inv-loop μ-loop Inv-years μ-years
-month-length-requires c κs = ?
+month-length-requires c κs = search needs
 
--- src/skipping.rt:52:17
 month-days-requires :
     tie.Need-month-days-requires Inv-loop2 μ-loop2 Inv-loop μ-loop Inv-years μ-years
-month-days-requires c κs = ?
+month-days-requires c κs = search needs
 
--- src/skipping.rt:54:13
 loop2-holds : tie.Need-loop2-holds Inv-loop2 μ-loop2 Inv-loop μ-loop Inv-years μ-years
-loop2-holds c = ?
+loop2-holds c = search needs
 
--- src/skipping.rt:55:64
 sub-date-at : tie.Need-sub-date-at Inv-loop2 μ-loop2 Inv-loop μ-loop Inv-years μ-years
-sub-date-at c = ?
+sub-date-at c = search needs
 
--- src/skipping.rt:55:43
 date-at-requires-2 :
     tie.Need-date-at-requires-2 Inv-loop2 μ-loop2 Inv-loop μ-loop Inv-years μ-years
-date-at-requires-2 c κs = ?
+date-at-requires-2 c κs = search needs
 
--- src/skipping.rt:55:20
 day-agrees-requires :
     tie.Need-day-agrees-requires Inv-loop2 μ-loop2 Inv-loop μ-loop Inv-years μ-years
-day-agrees-requires c κs = ?
+day-agrees-requires c κs = search needs
 
--- src/skipping.rt:56:21
 hit-requires : tie.Need-hit-requires Inv-loop2 μ-loop2 Inv-loop μ-loop Inv-years μ-years
-hit-requires c κs = ?
+hit-requires c κs = search needs
 
--- src/skipping.rt:57:24
 is-two-requires : tie.Need-is-two-requires Inv-loop2 μ-loop2 Inv-loop μ-loop Inv-years μ-years
-is-two-requires c κs = ?
+is-two-requires c κs = search needs
 
--- src/skipping.rt:61:17
 add-number : tie.Need-add-number Inv-loop2 μ-loop2 Inv-loop μ-loop Inv-years μ-years
-add-number c = ?
+add-number c = search needs
 
--- src/skipping.rt:54:13
 loop2-less : tie.Need-loop2-less Inv-loop2 μ-loop2 Inv-loop μ-loop Inv-years μ-years
-loop2-less c = ?
+loop2-less c = search needs
 
--- src/skipping.rt:54:13
 loop2-again : tie.Need-loop2-again Inv-loop2 μ-loop2 Inv-loop μ-loop Inv-years μ-years
-loop2-again c = ?
+loop2-again c = search needs
 
--- src/skipping.rt:63:13
 add-month : tie.Need-add-month Inv-loop2 μ-loop2 Inv-loop μ-loop Inv-years μ-years
-add-month c = ?
+add-month c = search needs
 
--- src/skipping.rt:50:9
 loop-less : tie.Need-loop-less Inv-loop2 μ-loop2 Inv-loop μ-loop Inv-years μ-years
-loop-less c = ?
+loop-less c = search needs
 
--- src/skipping.rt:50:9
 loop-again : tie.Need-loop-again Inv-loop2 μ-loop2 Inv-loop μ-loop Inv-years μ-years
-loop-again c = ?
+loop-again c = search needs
 
--- src/skipping.rt:65:9
 add-year : tie.Need-add-year Inv-loop2 μ-loop2 Inv-loop μ-loop Inv-years μ-years
-add-year c = ?
+add-year c = search needs
 
--- src/skipping.rt:45:5
 years-less : tie.Need-years-less Inv-loop2 μ-loop2 Inv-loop μ-loop Inv-years μ-years
-years-less c = ?
+years-less c = search needs
 
--- src/skipping.rt:45:5
 years-again : tie.Need-years-again Inv-loop2 μ-loop2 Inv-loop μ-loop Inv-years μ-years
-years-again c = ?
+years-again c = search needs
 
--- src/skipping.rt:36:1
 returns : tie.Need-returns Inv-loop2 μ-loop2 Inv-loop μ-loop Inv-years μ-years
-returns c = ?
+returns c = search needs
 
--- src/skipping.rt:36:1
 returns-2 : tie.Need-returns-2 Inv-loop2 μ-loop2 Inv-loop μ-loop Inv-years μ-years
-returns-2 c = ?
+returns-2 c = search needs
 
 pub search-years-spec : {M : Type 1} → statement M
 search-years-spec =
