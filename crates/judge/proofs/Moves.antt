@@ -20,11 +20,15 @@ use Rattle.judge.specs.declared.spans.Span.{Span}
 use Rattle.calendar.proofs.Dates.{Valid}
 use Rattle.calendar.proofs.Months.{month-most, year-months, year-length-most}
 use Rattle.calendar.proofs.Sum.{sum-mono, sum-last}
-use Rattle.calendar.proofs.Years.{days-before-is, days-before-next}
+use Rattle.calendar.proofs.Years.{days-is, days-before-is, days-before-next}
 use Rattle.judge.proofs.Agreeing.{Agreeing, agreeing, agreeing-at, before-mono}
 use Rattle.judge.proofs.SpanLaws.{In, years-low, years-high, years-in, steps, no-steps, stepped-on, next-step}
 use Rattle.judge.proofs.SpanLaws.{months-low, months-most, months-high, months-in, days-in, span-low, span-high, span-in}
 use Rattle.judge.proofs.Upto.{Upto, upto-start, upto-skip, upto-hit, upto-miss, upto-none}
+
+pub before-few : (y : ℕ) → y ≤ lastYear + 1 → daysBefore y ≤ 3652059
+unfolding daysBefore days
+before-few y h = omega (arith, sum-mono yearLength (y - 1) lastYear (omega arith), days-is)
 
 -- a month's first day comes no earlier than its year's, and no later than the next year's; months come in order
 start-mono : (y m m′ : ℕ) → m ≤ m′ → monthStart (daysBefore y) y m ≤ monthStart (daysBefore y) y m′
@@ -35,6 +39,10 @@ start-most y m p h = omega (arith, sum-mono (monthLength y) (m - 1) 12 (omega ar
 
 pub start-next : (y m : ℕ) → 0 < m → monthStart (daysBefore y) y (m + 1) ≡ monthStart (daysBefore y) y m + monthLength y m
 start-next y m p = let e : m + 1 - 1 ≡ m = omega arith in rw e (omega (arith, sum-last (monthLength y) m p))
+
+-- the days of a month that can agree
+abbrev pub can : Facts → ℕ → ℕ → Span
+can f y m = monthDaySpan f (yearDays f (daysBefore y) (yearLength y)) (monthStart (daysBefore y) y m) (monthLength y m)
 
 module _ (f : Facts) (horizon : ℕ) where
   -- the test, the days of the years up to the horizon, and the first year that can agree
@@ -190,9 +198,8 @@ module _ (f : Facts) (horizon : ℕ) where
       abbrev end : ℕ
       end = monthStart (daysBefore y) y (m + 1)
 
-      -- the days of the month that can agree
-      abbrev pub can : Span
-      can = monthDaySpan f (yearDays f (daysBefore y) (yearLength y)) start (monthLength y m)
+      abbrev span : Span
+      span = can f y m
 
       pub end-is : end ≡ start + monthLength y m
       end-is = start-next y m a
@@ -213,7 +220,7 @@ module _ (f : Facts) (horizon : ℕ) where
       number-here k l = omega arith
 
       -- each day of the month that agrees is one of them
-      in-can : (k : ℕ) → start < k → k ≤ end → p k ≡ true → In can k
+      in-can : (k : ℕ) → start < k → k ≤ end → p k ≡ true → In span k
       in-can k l h e =
           let v = valid-here k l h in
           let s = rw (number-here k l) at (agreeing-at f y m (k - start) v (rw (number-here k l) e)) in
@@ -222,26 +229,26 @@ module _ (f : Facts) (horizon : ℕ) where
           (omega (arith, start-most y (m + 1) q (omega arith), days-before-next y q)) (s .day-of-year) (s .sunday-week) (s .monday-week))
           (omega arith) (v .day-low) (v .day-high) (month-most y m) (s .day)
 
-      pub first-day : (h : Found) → AtMonth y m h → AtDay y m (can .first) h
+      pub first-day : (h : Found) → AtMonth y m h → AtDay y m (span .first) h
       first-day h c =
           record {
             low = omega (arith, span-low f (yearDays f (daysBefore y) (yearLength y)) start (monthLength y m));
-            upto = upto-skip p n (start + 1) (min (can .first) (end + 1)) h (c .upto)
+            upto = upto-skip p n (start + 1) (min (span .first) (end + 1)) h (c .upto)
                 (omega (arith, span-low f (yearDays f (daysBefore y) (yearLength y)) start (monthLength y m), end-is)) (λ k l g e. after k l e);
           }
         where
-          after : (k : ℕ) → start + 1 ≤ k → p k ≡ true → min (can .first) (end + 1) ≤ k
+          after : (k : ℕ) → start + 1 ≤ k → p k ≡ true → min (span .first) (end + 1) ≤ k
           after k l e =
               elim (decLe k end) [
                 | yes g ↦ omega (arith, in-can k (omega arith) g e .from)
                 | no g ↦ omega (arith, g)
               ]
 
-      pub last-high : can .last ≤ end
+      pub last-high : span .last ≤ end
       last-high = omega (arith, end-is, span-high f (yearDays f (daysBefore y) (yearLength y)) start (monthLength y m))
 
       -- the day at hand is looked at
-      module _ (k : ℕ) (h : Found) (c : AtDay y m k h) (l : k ≤ can .last) (few : y ≤ horizon) where
+      module _ (k : ℕ) (h : Found) (c : AtDay y m k h) (l : k ≤ span .last) (few : y ≤ horizon) where
         pub in-month : k ≤ end
         in-month = omega (arith, last-high)
 
@@ -260,7 +267,7 @@ module _ (f : Facts) (horizon : ℕ) where
         pub next-day-miss : p k ≡ false → AtDay y m (k + 1) h
         next-day-miss e = onward h (upto-miss p n k h at-number one-of e)
 
-      pub next-month : (k : ℕ) (h : Found) → monthSpan f y .first ≤ m → AtDay y m k h → can .last < k → AtMonth y (m + 1) h
+      pub next-month : (k : ℕ) (h : Found) → monthSpan f y .first ≤ m → AtDay y m k h → span .last < k → AtMonth y (m + 1) h
       next-month k h i c l =
           record {
             low = omega (arith, i);
