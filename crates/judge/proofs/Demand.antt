@@ -154,10 +154,10 @@ module _ (f : Facts) (ks : List ℕ) where
 
   -- the values of a candidate
   module _ (value : ℕ → ℕ) where
-    all-agree : allAgree f ks value ≡ true → AllAgree f ks value
+    pub all-agree : allAgree f ks value ≡ true → AllAgree f ks value
     all-agree e k n m s = agrees-is (said f k) (value k) n (every-member (λ k. agrees (said f k) (value k)) ks e k m) s
 
-    agree-all : AllAgree f ks value → allAgree f ks value ≡ true
+    pub agree-all : AllAgree f ks value → allAgree f ks value ≡ true
     agree-all g = member-every (λ k. agrees (said f k) (value k)) ks (λ k m. is-agrees (said f k) (value k) (λ n. g k n m))
 
     none-disagrees : NoneSaid f ks → AllAgree f ks value

@@ -2,6 +2,7 @@ pub mod Agreeing
 pub mod Cycle
 pub mod DayValues
 pub mod Demand
+pub mod Engines
 pub mod Every
 pub mod Moves
 pub mod Position

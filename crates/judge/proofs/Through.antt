@@ -7,18 +7,23 @@ use native.Mathlib.Omega.{arith}
 use borrow.Author.Tests.{le-leb, lt-leb}
 use lib.Dec.{leb}
 use Rattle.calendar.specs.Calendar.{days}
-use Rattle.judge.specs.Agreement.{dayAgrees}
-use Rattle.judge.specs.Engines.{lastExamined, plainCount}
-use Rattle.judge.specs.Private.{scanned, plainly}
+use Rattle.judge.specs.Agreement.{dayAgrees, dayBorne}
+use Rattle.judge.specs.Engines.{lastExamined, plainCount, counted, plainSearched, searched}
+use Rattle.judge.specs.Private.{scanned, plainly, skippingJudged}
 use Rattle.judge.specs.Search.{hit, isTwo, searchFrom, firstTwo, through}
-use Rattle.judge.specs.Verdicts.{verdictOf, daysFound}
+use Rattle.judge.specs.Verdicts.{verdictOf, daysFound, dayVerdict}
+use Rattle.judge.specs.declared.Engine.{Engine}
+use Rattle.judge.specs.declared.Engine.the-variants.{Skipping, Plain, Within}
 use Rattle.judge.specs.declared.Facts.{Facts}
 use Rattle.judge.specs.declared.Found.{Found}
 use Rattle.judge.specs.declared.Found.the-variants.{Nothing, One, Two}
 use Rattle.judge.specs.declared.Searched.the-variants.{Judged, OverBudget}
+use Rattle.judge.specs.declared.Verdict.the-variants.{Unsaid}
 use Rattle.judge.specs.declared.plain.Scanned.the-variants.{Ended, Over}
 use Rattle.laws.proofs.Cases.{clash}
+use Rattle.calendar.proofs.Years.{days-is}
 use Rattle.judge.proofs.SoFar.{SoFar, search-suc, two-stay}
+use Rattle.judge.proofs.Tells.{Tells, double, tells}
 
 -- without two the search goes to the end, and the second ends it
 pub through-all : (last : ℕ) (h : Found) → isTwo h ≡ false → through last h ≡ last
@@ -55,6 +60,19 @@ module _ (p : ℕ → Bool) (last : ℕ) where
       let n : 1 + last - k ≡ suc (last - k) = omega arith in
       rw (← (rw n at (s .same))) (goes-on (last - k) k h e (omega arith))
 
+-- the last day examined is one of the calendar's
+pub last-in : (f : Facts) → (0 < through days (daysFound f)) × (through days (daysFound f) ≤ days)
+unfolding daysFound through
+last-in f = go (firstTwo (dayAgrees f) 1 days) (tells (dayAgrees f) 1 days)
+  where
+    some-days : 0 < days
+    some-days = omega (arith, days-is)
+
+    go : (h : Found) → Tells (dayAgrees f) 1 (1 + days) h → (0 < through days h) × (through days h ≤ days)
+    go Nothing t = (some-days, omega arith)
+    go (One a) t = (some-days, omega arith)
+    go (Two a b) (double l m o q r g) = (omega arith, omega arith)
+
 -- a scan's two ways out: its budget is used up with a day left to examine, or the search is over
 module _ (f : Facts) (budget : ℕ) where
   pub over-budget : (h : Found) → SoFar (dayAgrees f) 1 days (budget + 1) h → isTwo h ≡ false → budget < days
@@ -89,3 +107,23 @@ module _ (f : Facts) (budget : ℕ) where
           → OverBudget budget ≡ cond t (Judged (verdictOf (daysFound f)) (plainCount f)) (OverBudget budget)
       go true e = clash (cc)
       go false e = refl
+
+-- what each engine gives where a fact bears on the day, and where none does
+module _ (f : Facts) (e : dayBorne f ≡ true) where
+  pub skipping-borne : skippingJudged f ≡ searched Skipping f
+  unfolding searched skippingJudged counted dayVerdict
+  skipping-borne = rw e
+
+  pub within-borne : (budget : ℕ) → plainly budget f ≡ searched (Within budget) f
+  unfolding searched plainSearched plainly counted dayVerdict
+  within-borne budget = rw e
+
+  pub plain-borne : plainly 3652059 f ≡ searched Plain f
+  unfolding searched plainSearched plainly plainCount lastExamined counted dayVerdict
+  plain-borne = rw (e, le-leb (through days (daysFound f)) 3652059 (omega (arith, last-in f, days-is)))
+
+pub unborne : (engine : Engine) (f : Facts) → dayBorne f ≡ false → Judged Unsaid 0 ≡ searched engine f
+unfolding searched plainSearched counted dayVerdict
+unborne Skipping f e = rw e
+unborne Plain f e = rw e
+unborne (Within budget) f e = rw (e, le-leb 0 budget (omega arith))
