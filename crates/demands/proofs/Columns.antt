@@ -340,7 +340,7 @@ module _ (t : Fields) (m : Moment) (valid : momentOf (t .year) (t .month) (t .da
       refused-by b (opens f w c known h (is-letter c a) ∙ unfold acted in rw (other-refused f w c o n))
 
   unread-by : (eqb f 0 && eqb w 0) ≡ false → (s : List ℕ) → length s ≤ longest → reading (format f w c) s ≡ reader.refused 3 0
-  unfolding reading reader.unlessLong reader.byFormat nothing
+  unfolding reader.readingBy reader.unlessLong reader.byFormat nothing
   unread-by n s l = rw (le-leb (length (format f w c)) longest few, le-leb (length s) longest l, unread f w c known h (is-letter c a) n)
 
 -- ---- numbers

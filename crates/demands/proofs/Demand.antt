@@ -18,12 +18,14 @@ use Rattle.calendar.proofs.Dates.{number-of-date}
 use Rattle.judge.specs.Agreement.{said}
 use Rattle.judge.specs.Demand.{NoneSaid as NoneKept, IsDay, IsHour, Only, Earliest, Judged}
 use Rattle.judge.specs.Verdicts.{dayVerdict, hourVerdict}
+use Rattle.judge.specs.declared.Engine.the-variants.{Skipping}
 use Rattle.judge.specs.declared.Facts.{Facts}
 use Rattle.judge.specs.declared.Verdict.{Verdict}
 use Rattle.judge.specs.declared.Verdict.the-variants.{Unsaid as NotSaid, Impossible, Open, Agreed}
 use Rattle.judge.proofs.Demand.{day-judged, hour-judged}
+use Rattle.judge.proofs.Engines.{by-skipping}
 use Rattle.judge.proofs.Every.{every-member}
-use Rattle.strptime.specs.Answers.{saidOf, withDay, judged, reading}
+use Rattle.strptime.specs.Answers.{examining, saidOf, withDay, withSearched, judged, reading}
 use Rattle.strptime.specs.declared.Day.{Day}
 use Rattle.strptime.specs.declared.Day.the-variants.{NoDate, On}
 use Rattle.strptime.specs.declared.Said.{Said}
@@ -97,7 +99,7 @@ some-or-none ks (x ∷ xs) =
     go (no d) none = inr (λ k n m y. ⊎-elim (λ z. d (rw (z .0) m)) (λ z. none k n m z) y)
 
 -- kinds that bear on the day are 1 to 12, those on the hour 13 to 15
-within : (a b : ℕ) (ks : List ℕ) → every (λ k. leb a k && leb k b) ks ≡ true → (k : ℕ) → Member k ks → (a ≤ k) × (k ≤ b)
+pub within : (a b : ℕ) (ks : List ℕ) → every (λ k. leb a k && leb k b) ks ≡ true → (k : ℕ) → Member k ks → (a ≤ k) × (k ≤ b)
 within a b ks e k m =
     let t = and-eq-true-iff (leb a k) (leb k b) .0 (every-member (λ k. leb a k && leb k b) ks e k m) in
     (leb-true a k (t .0), leb-true k b (t .1))
@@ -118,7 +120,7 @@ module _ (f s : List ℕ) (m : Matched f s) where
   none-said : (ks : List ℕ) → NoneKept kept ks → NoneSaid f s ks
   none-said ks z k n i x = omega (arith, z k i, handed f s m k n .1 x)
 
-  none-kept : (ks : List ℕ) → NoneSaid f s ks → NoneKept kept ks
+  pub none-kept : (ks : List ℕ) → NoneSaid f s ks → NoneKept kept ks
   none-kept ks z k i = go (said kept k) refl
     where
       go : (x : ℕ) → said kept k ≡ x → x ≡ 0
@@ -128,11 +130,11 @@ module _ (f s : List ℕ) (m : Matched f s) where
   some-said : (ks : List ℕ) → (NoneSaid f s ks → ⊥) → SomeSaid f s ks
   some-said ks z = ⊎-elim (λ r. r) (λ none. absurd (z none)) (some-or-none ks (facts f s))
 
-  not-none : (ks : List ℕ) → SomeSaid f s ks → NoneSaid f s ks → ⊥
+  pub not-none : (ks : List ℕ) → SomeSaid f s ks → NoneSaid f s ks → ⊥
   not-none ks r z = z (r .0) (r .1) (r .2) (r .3)
 
   -- demand 3 of each verdict
-  day-by : Judged (NoneSaid f s dayKinds) IsDay (DayAgrees f s) (dayVerdict kept)
+  pub day-by : Judged (NoneSaid f s dayKinds) IsDay (DayAgrees f s) (dayVerdict kept)
   day-by =
       judged-over (none-said dayKinds) (none-kept dayKinds)
       (λ d i g k n b x. let w = day-kind k b in day-would d (i .0) (i .1) k n (w .0) (w .1) .1 (g k n b (handed f s m k n .1 x)))
@@ -201,9 +203,9 @@ module _ (f s : List ℕ) (m : Matched f s) where
       ∙ ap (λ (x : Date). dayNumber (x .year) (x .month) (x .day)) e
       ∙ number-of-date b (q .0) (q .1) .number
 
-  -- the answer, by the two verdicts
-  module _ (v w : Verdict) (j : Judged (NoneSaid f s dayKinds) IsDay (DayAgrees f s) v)
-      (i : Judged (NoneSaid f s hourKinds) IsHour (HourAgrees f s) w) (e : reading f s ≡ withDay (read f s .state) v w) where
+  -- the answer, by the two verdicts, whatever was examined
+  module _ (u : ℕ) (v w : Verdict) (j : Judged (NoneSaid f s dayKinds) IsDay (DayAgrees f s) v)
+      (i : Judged (NoneSaid f s hourKinds) IsHour (HourAgrees f s) w) (e : reading f s ≡ examining u (withDay (read f s .state) v w)) where
     -- where none agrees a fact bears: of itself every day agrees with no fact
     day-borne : ((d : ℕ) → IsDay d → DayAgrees f s d → ⊥) → NoneSaid f s dayKinds → ⊥
     day-borne g z = clash (cc (j .impossible .1 g, j .unsaid .1 z))
@@ -215,6 +217,7 @@ module _ (f s : List ℕ) (m : Matched f s) where
     stands = (λ r. (r .0, day-left v j (r .0) .0 (r .1)), λ r. (r .0, day-left v j (r .0) .1 (r .1)))
 
     answered-by : Answered f s
+    unfolding examining
     answered-by =
         let t = read f s .state in
         record {
@@ -227,10 +230,10 @@ module _ (f s : List ℕ) (m : Matched f s) where
           two-days = λ a b p q. (
             λ x.
                 let r = day-two t v w (dateOf a) (dateOf b) .0 (rw e at x) in
-                let u = j .«open» (r .0) (r .1) .0 (r .2) in
-                let k = same-day (r .0) a (u .1 .is-first) p (r .3) in
-                let l = same-day (r .1) b (u .1 .is-second) q (r .4) in
-                (some-said dayKinds (u .0), rw (k, l) at (u .1)),
+                let o = j .«open» (r .0) (r .1) .0 (r .2) in
+                let k = same-day (r .0) a (o .1 .is-first) p (r .3) in
+                let l = same-day (r .1) b (o .1 .is-second) q (r .4) in
+                (some-said dayKinds (o .0), rw (k, l) at (o .1)),
             λ r. rw e (day-two t v w (dateOf a) (dateOf b) .1 (a, b, j .«open» a b .1 (not-none dayKinds (r .0), r .1), refl, refl)),
           );
           no-hour = (
@@ -243,8 +246,8 @@ module _ (f s : List ℕ) (m : Matched f s) where
           two-hours = λ a b. (
             λ q.
                 let r = then-two t v w a b .0 (rw e at q) in
-                let u = i .«open» a b .0 (r .1) in
-                (stands .0 (r .0), some-said hourKinds (u .0), u .1),
+                let o = i .«open» a b .0 (r .1) in
+                (stands .0 (r .0), some-said hourKinds (o .0), o .1),
             λ r. rw e (then-two t v w a b .1 (stands .1 (r .0), i .«open» a b .1 (not-none hourKinds (r .1), r .2))),
           );
           done = λ x h n c. (
@@ -260,5 +263,7 @@ module _ (f s : List ℕ) (m : Matched f s) where
         }
 
   pub answered : Answered f s
-  unfolding judged
-  answered = answered-by (dayVerdict kept) (hourVerdict kept) day-by hour-by (matched-is f s m)
+  unfolding judged withSearched
+  answered =
+      let k = by-skipping kept in
+      answered-by (k .0) (dayVerdict kept) (hourVerdict kept) day-by hour-by (rw (k .1) at (matched-is f s Skipping m))

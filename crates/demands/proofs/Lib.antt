@@ -1,5 +1,6 @@
 pub mod Columns
 pub mod Demand
+pub mod Engines
 pub mod Matched
 pub mod Rows
 pub mod Starred

@@ -3,7 +3,7 @@
 use Prim.Native.Nat.{ℕ, zero, suc}
 use mathlib.Core.Bool.{Bool, true, false, false≢true, true≢false}
 use mathlib.Core.List.{List}
-use mathlib.Core.Logic.{_⊎_, _↔_, inr, ⊎-elim}
+use mathlib.Core.Logic.{_⊎_, _↔_, inl, inr, ⊎-elim}
 use mathlib.Core.Path.{_≡_, refl, sym, _∙_}
 use native.Mathlib.Omega.{arith}
 use borrow.Author.Tests.{le-leb, leb-true}
@@ -12,10 +12,15 @@ use lib.ListN.{length, getD, replicate}
 use Rattle.format.specs.Conversions.{among}
 use Rattle.format.specs.Opening.{Ended, Whole, BadAt, opening, longest}
 use Rattle.format.specs.declared.opening.Side.the-variants.{Reader}
+use Rattle.judge.specs.Engines.{searched}
+use Rattle.judge.specs.Verdicts.{hourVerdict}
+use Rattle.judge.specs.declared.Engine.{Engine}
+use Rattle.judge.specs.declared.Searched.{Searched}
+use Rattle.judge.specs.declared.Searched.the-variants.{Judged, OverBudget}
 use Rattle.judge.specs.declared.Verdict.{Verdict}
 use Rattle.judge.specs.declared.Verdict.the-variants.{Unsaid, Impossible, Open, Agreed}
-use Rattle.strptime.specs.Answers.{showing, refused, finished, done, withHour, withDay}
-use Rattle.strptime.specs.Answers.{judged, concluded, readBy, byFormat, unlessLong, reading}
+use Rattle.strptime.specs.Answers.{showing, refused, finished, examining, overBudget, done, withHour, withDay, withSearched}
+use Rattle.strptime.specs.Answers.{judged, concluded, readBy, byFormat, unlessLong, readingBy}
 use Rattle.strptime.specs.Reading.{unsaid, start, isRead, readAll}
 use Rattle.strptime.specs.declared.Day.{Day}
 use Rattle.strptime.specs.declared.Outcome.{Outcome}
@@ -47,9 +52,14 @@ module _ (t : State) where
   day-numbers (Open a b) w = refl
   day-numbers (Agreed k) w = hour-numbers _ w
 
-  judged-numbers : Judging (judged t)
+  searched-numbers : (x : Searched) (w : Verdict) → Judging (withSearched t x w)
+  unfolding withSearched examining overBudget refused showing among
+  searched-numbers (Judged v n) w = day-numbers v w
+  searched-numbers (OverBudget b) w = refl
+
+  judged-numbers : (e : Engine) → Judging (judged e t)
   unfolding judged
-  judged-numbers = day-numbers _ _
+  judged-numbers e = searched-numbers (searched e (t .facts)) (hourVerdict (t .facts))
 
 -- ---- what is handed to the judge
 
@@ -93,43 +103,55 @@ module _ (f s : List ℕ) where
       not-kept : (k n : ℕ) → Kept (start .facts) k n ⊎ Says (facts f s) k n → Says (facts f s) k n
       not-kept k n x = ⊎-elim (λ y. absurd (none-kept k n y)) (λ y. y) x
 
-  -- the answer to a matched text is its judging
-  pub matched-is : Matched f s → reading f s ≡ judged (read f s .state)
-  unfolding reading unlessLong byFormat readBy concluded isRead
-  matched-is m =
+  -- the answer to a matched text is its judging, by every engine
+  pub matched-is : (e : Engine) → Matched f s → readingBy e f s ≡ judged e (read f s .state)
+  unfolding readingBy unlessLong byFormat readBy concluded isRead
+  matched-is e m =
       rw (le-leb (length f) longest (m .format-short), le-leb (length s) longest (m .text-short), m .format-whole)
       (concluding (read f s .outcome) (matched-read m))
     where
-      concluding : (o : Outcome) → isRead o ≡ true → concluded (read f s .state) o ≡ judged (read f s .state)
-      concluding Read e = refl
-      concluding (Mismatch p) e = absurd (false≢true e)
-      concluding (Range p) e = absurd (false≢true e)
-      concluding (Conflict p) e = absurd (false≢true e)
+      concluding : (o : Outcome) → isRead o ≡ true → concluded e (read f s .state) o ≡ judged e (read f s .state)
+      concluding Read q = refl
+      concluding (Mismatch p) q = absurd (false≢true q)
+      concluding (Range p) q = absurd (false≢true q)
+      concluding (Conflict p) q = absurd (false≢true q)
 
-  -- a text whose answer has none of the numbers before 9 is matched: each way out of the order before 9 has one of them
-  judging-matched : (a : Bool) → leb (length f) longest ≡ a → (b : Bool) → leb (length s) longest ≡ b
-      → (d : Ended) → opening Reader f .ended ≡ d → (o : Outcome) → read f s .outcome ≡ o → Judging (reading f s) → Matched f s
-  unfolding reading unlessLong byFormat readBy concluded refused showing among isRead start
-  judging-matched false e b g d h o q j = absurd (true≢false (rw e at j))
-  judging-matched true e false g d h o q j = absurd (true≢false (rw (e, g) at j))
-  judging-matched true e true g (BadAt p) h o q j = absurd (true≢false (rw (e, g, h) at j))
-  judging-matched true e true g Whole h (Mismatch p) q j = absurd (true≢false (rw (e, g, h, q) at j))
-  judging-matched true e true g Whole h (Range p) q j = absurd (true≢false (rw (e, g, h, q) at j))
-  judging-matched true e true g Whole h (Conflict p) q j = absurd (true≢false (rw (e, g, h, q) at j))
-  judging-matched true e true g Whole h Read q j =
+  -- a text that is not matched is refused by one of the numbers before 9, the same by every engine
+  pub record Before : Type 0 where
+    pub number : ℕ
+    pub place : ℕ
+    pub early : among number beforeNine ≡ true
+    pub refuses : (e : Engine) → readingBy e f s ≡ refused number place
+
+  -- each way out of the order
+  way-out : (a : Bool) → leb (length f) longest ≡ a → (b : Bool) → leb (length s) longest ≡ b
+      → (d : Ended) → opening Reader f .ended ≡ d → (o : Outcome) → read f s .outcome ≡ o → Matched f s ⊎ Before
+  unfolding readingBy unlessLong byFormat readBy concluded among isRead start
+  way-out false p b g d h o q = inr (record { number = 1; place = 0; early = refl; refuses = λ e. rw p })
+  way-out true p false g d h o q = inr (record { number = 5; place = 0; early = refl; refuses = λ e. rw (p, g) })
+  way-out true p true g (BadAt k) h o q = inr (record { number = 3; place = k; early = refl; refuses = λ e. rw (p, g, h) })
+  way-out true p true g Whole h (Mismatch k) q = inr (record { number = 6; place = k; early = refl; refuses = λ e. rw (p, g, h, q) })
+  way-out true p true g Whole h (Range k) q = inr (record { number = 7; place = k; early = refl; refuses = λ e. rw (p, g, h, q) })
+  way-out true p true g Whole h (Conflict k) q = inr (record { number = 8; place = k; early = refl; refuses = λ e. rw (p, g, h, q) })
+  way-out true p true g Whole h Read q =
       let w : isRead (read f s .outcome) ≡ true = rw q in
-      record {
-        format-short = leb-true (length f) longest e;
+      inl
+      (record {
+        format-short = leb-true (length f) longest p;
         text-short = leb-true (length s) longest g;
         format-whole = h;
         all-read = read-went w .reads;
         consistent = consistent w;
-      }
+      })
 
-  pub matched : Matched f s ↔ (among (reading f s .number) beforeNine ≡ false)
-  matched = (
-    λ m. rw (matched-is m) (judged-numbers (read f s .state)),
-    judging-matched _ refl _ refl (opening Reader f .ended) refl (read f s .outcome) refl,
+  pub matched-or-before : Matched f s ⊎ Before
+  matched-or-before = way-out _ refl _ refl (opening Reader f .ended) refl (read f s .outcome) refl
+
+  pub matched : (e : Engine) → Matched f s ↔ (among (readingBy e f s .number) beforeNine ≡ false)
+  unfolding refused showing
+  matched e = (
+    λ m. rw (matched-is e m) (judged-numbers (read f s .state) e),
+    λ j. ⊎-elim (λ m. m) (λ b. absurd (true≢false (sym (b .early) ∙ rw (b .refuses e) at j))) matched-or-before,
   )
 
   -- what the judge is handed: a kind has a number exactly if that fact is among those that the text says

@@ -21,10 +21,17 @@ use Rattle.values.specs.declared.Moment.{Moment}
 use Rattle.values.specs.declared.MomentFields.{MomentFields}
 use Rattle.strftime.specs.Writing.{numbered, text, refused, put, byFormat, forMoment, forFields, writing}
 use Rattle.strftime.specs.declared.Fields.{Fields}
+use Rattle.judge.specs.Engines.{searched}
+use Rattle.judge.specs.declared.Engine.{Engine}
+use Rattle.judge.specs.declared.Engine.the-variants.{Within}
+use Rattle.judge.specs.declared.Searched.{Searched}
+use Rattle.judge.specs.declared.Searched.the-variants.{Judged, OverBudget}
 use Rattle.judge.specs.declared.Verdict.{Verdict}
 use Rattle.judge.specs.declared.Verdict.the-variants.{Unsaid as NotSaid, Impossible, Open, Agreed}
+use Rattle.judge.proofs.Engines.{searched-over}
 use Rattle.strptime.specs.Answers as reader
-use Rattle.strptime.specs.Answers.{showing, finished, done, withHour, withDay, judged, concluded, readBy, reading}
+use Rattle.strptime.specs.Answers.{showing, finished, examining, overBudget, done, withHour, withDay, withSearched}
+use Rattle.strptime.specs.Answers.{judged, concluded, readBy, readingBy}
 use Rattle.strptime.specs.Reading.{start, readAll}
 use Rattle.strptime.specs.declared.Day.{Day}
 use Rattle.strptime.specs.declared.Outcome.{Outcome}
@@ -35,7 +42,8 @@ use Rattle.strptime.specs.declared.Shown.the-variants.{Nothing, Hours}
 use Rattle.strptime.specs.declared.State.{State}
 use Rattle.strptime.proofs.Places.{all-within}
 use Rattle.strptime.proofs.Walk.{Placed}
-use Rattle.demands.specs.Rows.{OneOf, WritingRow, ReadingRow}
+use Rattle.demands.specs.Demand.{beforeNine}
+use Rattle.demands.specs.Rows.{OneOf, WritingRow, readingNumbers, ReadingRow}
 
 -- ---- the writer
 
@@ -121,13 +129,14 @@ module _ (f b : List ℕ) where
 
 -- ---- the reader
 
-module _ (f s : List ℕ) where
-  -- a reading that hands out nothing: with what its row says of what is shown and of its place
-  shown-read : (n p : ℕ) (x : Shown) → OneOf (0 ∷ 1 ∷ 3 ∷ 5 ∷ 6 ∷ 7 ∷ 8 ∷ 9 ∷ 10 ∷ []) n → ((n ≡ 10 → ⊥) → x ≡ Nothing)
+module _ (e : Engine) (f s : List ℕ) where
+  -- a reading that hands out nothing, k days examined: with what its row says of what is shown, of its place and of the days
+  shown-read : (k n p : ℕ) (x : Shown) → OneOf readingNumbers n → ((n ≡ 10 → ⊥) → x ≡ Nothing)
       → (OneOf (1 ∷ 5 ∷ []) n → p ≡ 0) → (n ≡ 3 → p < length f) → (OneOf (0 ∷ 6 ∷ 7 ∷ 8 ∷ []) n → p ≤ length s)
-      → (OneOf (9 ∷ 10 ∷ []) n → OneOf (1 ∷ 2 ∷ []) p) → ReadingRow f s (showing n p x)
-  unfolding showing
-  shown-read n p x l none one three text judge =
+      → (OneOf (9 ∷ 10 ∷ []) n → OneOf (1 ∷ 2 ∷ []) p) → (OneOf beforeNine n → k ≡ 0) → (n ≡ 11 → (e ≡ Within p) × (k ≡ p))
+      → ReadingRow e f s (examining k (showing n p x))
+  unfolding examining showing
+  shown-read k n p x l none one three text judge early budget =
       record {
         listed = l;
         no-day = λ z. refl;
@@ -139,88 +148,116 @@ module _ (f s : List ℕ) where
         place-3 = three;
         place-0-6-7-8 = text;
         place-9-10 = judge;
+        place-11 = λ z. budget z .0;
+        none-examined = early;
+        examined-11 = λ z. budget z .1;
       }
 
-  finished-read : (p : ℕ) (d : Day) (h m c : Said) → p ≤ length s → ReadingRow f s (finished p d h m c)
-  unfolding finished among
-  finished-read p d h m c l =
-      record {
-        listed = refl;
-        no-day = λ z. absurd (z refl);
-        no-hour = λ z. absurd (z refl);
-        no-minute = λ z. absurd (z refl);
-        no-second = λ z. absurd (z refl);
-        unshown = λ z. refl;
-        place-1-5 = λ z. absurd (false≢true z);
-        place-3 = λ z. absurd (omega (arith, z));
-        place-0-6-7-8 = λ z. l;
-        place-9-10 = λ z. absurd (false≢true z);
-      }
-
-  -- 9 or 10, for the day or the hour
-  nine : (p : ℕ) → OneOf (1 ∷ 2 ∷ []) p → ReadingRow f s (reader.refused 9 p)
-  unfolding reader.refused among
-  nine p q =
-      shown-read 9 p Nothing refl (λ z. refl) (λ z. absurd (false≢true z)) (λ z. absurd (omega (arith, z))) (λ z. absurd (false≢true z))
-      (λ z. q)
-
-  ten : (p : ℕ) (x : Shown) → OneOf (1 ∷ 2 ∷ []) p → ReadingRow f s (showing 10 p x)
-  unfolding among
-  ten p x q =
-      shown-read 10 p x refl (λ z. absurd (z refl)) (λ z. absurd (false≢true z)) (λ z. absurd (omega (arith, z)))
-      (λ z. absurd (false≢true z)) (λ z. q)
+  -- a refusal before the day was judged
+  early-read : (n p : ℕ) → OneOf readingNumbers n → (OneOf (1 ∷ 5 ∷ []) n → p ≡ 0) → (n ≡ 3 → p < length f)
+      → (OneOf (0 ∷ 6 ∷ 7 ∷ 8 ∷ []) n → p ≤ length s) → among n (9 ∷ 10 ∷ []) ≡ false → (n ≡ 11 → ⊥)
+      → ReadingRow e f s (reader.refused n p)
+  unfolding examining showing reader.refused
+  early-read n p l one three text nine eleven =
+      shown-read 0 n p Nothing l (λ z. refl) one three text (λ z. absurd (false≢true (sym nine ∙ z))) (λ z. refl)
+      (λ z. absurd (eleven z))
 
   -- 6, 7 or 8, at an offset of the text
-  text-read : (n p : ℕ) → OneOf (0 ∷ 1 ∷ 3 ∷ 5 ∷ 6 ∷ 7 ∷ 8 ∷ 9 ∷ 10 ∷ []) n → among n (1 ∷ 5 ∷ []) ≡ false → (n ≡ 3 → ⊥)
-      → among n (9 ∷ 10 ∷ []) ≡ false → p ≤ length s → ReadingRow f s (reader.refused n p)
-  unfolding reader.refused
-  text-read n p l one three nine h =
-      shown-read n p Nothing l (λ z. refl) (λ z. absurd (false≢true (sym one ∙ z))) (λ z. absurd (three z)) (λ z. h)
-      (λ z. absurd (false≢true (sym nine ∙ z)))
+  text-read : (n p : ℕ) → OneOf readingNumbers n → among n (1 ∷ 5 ∷ []) ≡ false → (n ≡ 3 → ⊥)
+      → among n (9 ∷ 10 ∷ []) ≡ false → (n ≡ 11 → ⊥) → p ≤ length s → ReadingRow e f s (reader.refused n p)
+  text-read n p l one three nine eleven h =
+      early-read n p l (λ z. absurd (false≢true (sym one ∙ z))) (λ z. absurd (three z)) (λ z. h) nine eleven
+
+  -- 11, at the budget
+  budget-read : (b : ℕ) → e ≡ Within b → ReadingRow e f s (overBudget b)
+  unfolding overBudget reader.refused among
+  budget-read b q =
+      shown-read b 11 b Nothing refl (λ z. refl) (λ z. absurd (false≢true z)) (λ z. absurd (omega (arith, z)))
+      (λ z. absurd (false≢true z)) (λ z. absurd (false≢true z)) (λ z. absurd (false≢true z)) (λ z. (q, refl))
+
+  -- what is judged after k days were examined
+  module _ (k : ℕ) where
+    finished-read : (p : ℕ) (d : Day) (h m c : Said) → p ≤ length s → ReadingRow e f s (examining k (finished p d h m c))
+    unfolding examining finished among
+    finished-read p d h m c l =
+        record {
+          listed = refl;
+          no-day = λ z. absurd (z refl);
+          no-hour = λ z. absurd (z refl);
+          no-minute = λ z. absurd (z refl);
+          no-second = λ z. absurd (z refl);
+          unshown = λ z. refl;
+          place-1-5 = λ z. absurd (false≢true z);
+          place-3 = λ z. absurd (omega (arith, z));
+          place-0-6-7-8 = λ z. l;
+          place-9-10 = λ z. absurd (false≢true z);
+          place-11 = λ z. absurd (omega (arith, z));
+          none-examined = λ z. absurd (false≢true z);
+          examined-11 = λ z. absurd (omega (arith, z));
+        }
+
+    -- 9 or 10, for the day or the hour
+    nine : (p : ℕ) → OneOf (1 ∷ 2 ∷ []) p → ReadingRow e f s (examining k (reader.refused 9 p))
+    unfolding reader.refused among
+    nine p q =
+        shown-read k 9 p Nothing refl (λ z. refl) (λ z. absurd (false≢true z)) (λ z. absurd (omega (arith, z)))
+        (λ z. absurd (false≢true z)) (λ z. q) (λ z. absurd (false≢true z)) (λ z. absurd (omega (arith, z)))
+
+    ten : (p : ℕ) (x : Shown) → OneOf (1 ∷ 2 ∷ []) p → ReadingRow e f s (examining k (showing 10 p x))
+    unfolding among
+    ten p x q =
+        shown-read k 10 p x refl (λ z. absurd (z refl)) (λ z. absurd (false≢true z)) (λ z. absurd (omega (arith, z)))
+        (λ z. absurd (false≢true z)) (λ z. q) (λ z. absurd (false≢true z)) (λ z. absurd (omega (arith, z)))
+
+    module _ (t : State) (h : t .at ≤ length s) where
+      hour-read : (d : Day) (v : Verdict) → ReadingRow e f s (examining k (withHour t d v))
+      unfolding withHour done among
+      hour-read d NotSaid = finished-read (t .at) d _ _ _ h
+      hour-read d Impossible = nine 2 refl
+      hour-read d (Open a b) = ten 2 (Hours a b) refl
+      hour-read d (Agreed k) = finished-read (t .at) d _ _ _ h
+
+      day-read : (v w : Verdict) → ReadingRow e f s (examining k (withDay t v w))
+      unfolding withDay among
+      day-read NotSaid w = hour-read _ w
+      day-read Impossible w = nine 1 refl
+      day-read (Open a b) w = ten 1 _ refl
+      day-read (Agreed k) w = hour-read _ w
 
   module _ (t : State) (h : t .at ≤ length s) where
-    hour-read : (d : Day) (v : Verdict) → ReadingRow f s (withHour t d v)
-    unfolding withHour done among
-    hour-read d NotSaid = finished-read (t .at) d _ _ _ h
-    hour-read d Impossible = nine 2 refl
-    hour-read d (Open a b) = ten 2 (Hours a b) refl
-    hour-read d (Agreed k) = finished-read (t .at) d _ _ _ h
+    searched-read : (x : Searched) (w : Verdict) → ((b : ℕ) → x ≡ OverBudget b → e ≡ Within b) → ReadingRow e f s (withSearched t x w)
+    unfolding withSearched
+    searched-read (Judged v k) w q = day-read k t h v w
+    searched-read (OverBudget b) w q = budget-read b (q b refl)
 
-    day-read : (v w : Verdict) → ReadingRow f s (withDay t v w)
-    unfolding withDay among
-    day-read NotSaid w = hour-read _ w
-    day-read Impossible w = nine 1 refl
-    day-read (Open a b) w = ten 1 _ refl
-    day-read (Agreed k) w = hour-read _ w
-
-  concluded-read : (t : State) (o : Outcome) → t .at ≤ length s → Placed s o → ReadingRow f s (concluded t o)
+  concluded-read : (t : State) (o : Outcome) → t .at ≤ length s → Placed s o → ReadingRow e f s (concluded e t o)
   unfolding concluded judged Placed among
-  concluded-read t AllRead h p = day-read t h _ _
-  concluded-read t (Mismatch q) h p = text-read 6 q refl refl (λ z. omega (arith, z)) refl p
-  concluded-read t (Range q) h p = text-read 7 q refl refl (λ z. omega (arith, z)) refl p
-  concluded-read t (Conflict q) h p = text-read 8 q refl refl (λ z. omega (arith, z)) refl p
+  concluded-read t AllRead h p = searched-read t h (searched e (t .facts)) _ (λ b q. searched-over e (t .facts) q)
+  concluded-read t (Mismatch q) h p = text-read 6 q refl refl (λ z. omega (arith, z)) refl (λ z. omega (arith, z)) p
+  concluded-read t (Range q) h p = text-read 7 q refl refl (λ z. omega (arith, z)) refl (λ z. omega (arith, z)) p
+  concluded-read t (Conflict q) h p = text-read 8 q refl refl (λ z. omega (arith, z)) refl (λ z. omega (arith, z)) p
 
-  format-read : ReadingRow f s (reader.byFormat f s)
-  unfolding reader.byFormat readBy reader.refused among start
+  format-read : ReadingRow e f s (reader.byFormat e f s)
+  unfolding reader.byFormat readBy among start
   format-read = go (opening Reader f .ended) refl
     where
-      go : (d : Ended) → opening Reader f .ended ≡ d → ReadingRow f s (reader.byFormat f s)
-      go Whole e =
+      go : (d : Ended) → opening Reader f .ended ≡ d → ReadingRow e f s (reader.byFormat e f s)
+      go Whole q =
           let r = readAll (opening Reader f .elements) s start in
           let w = all-within (opening Reader f .elements) s start (omega arith) in
-          rw e (concluded-read (r .state) (r .outcome) (w .0) (w .1))
-      go (BadAt p) e =
-          rw e
-          (shown-read 3 p Nothing refl (λ z. refl) (λ z. absurd (false≢true z)) (λ z. bad-within Reader f e) (λ z. absurd (false≢true z))
-          (λ z. absurd (false≢true z)))
+          rw q (concluded-read (r .state) (r .outcome) (w .0) (w .1))
+      go (BadAt p) q =
+          rw q
+          (early-read 3 p refl (λ z. absurd (false≢true z)) (λ z. bad-within Reader f q) (λ z. absurd (false≢true z)) refl
+          (λ z. omega (arith, z)))
 
-  pub reading-rows : ReadingRow f s (reading f s)
-  unfolding reading reader.unlessLong reader.refused among
+  pub reading-rows : ReadingRow e f s (readingBy e f s)
+  unfolding readingBy reader.unlessLong among
   reading-rows =
-      let zero : (n : ℕ) → OneOf (0 ∷ 1 ∷ 3 ∷ 5 ∷ 6 ∷ 7 ∷ 8 ∷ 9 ∷ 10 ∷ []) n → (n ≡ 3 → ⊥) → among n (0 ∷ 6 ∷ 7 ∷ 8 ∷ []) ≡ false
-      → among n (9 ∷ 10 ∷ []) ≡ false → ReadingRow f s (showing n 0 Nothing) = λ n l three text nine.
-      shown-read n 0 Nothing l (λ z. refl) (λ z. refl) (λ z. absurd (three z)) (λ z. absurd (false≢true (sym text ∙ z)))
-      (λ z. absurd (false≢true (sym nine ∙ z))) in
-      picked (ReadingRow f s) (leb (length f) longest)
-      (picked (ReadingRow f s) (leb (length s) longest) format-read (zero 5 refl (λ z. omega (arith, z)) refl refl))
-      (zero 1 refl (λ z. omega (arith, z)) refl refl)
+      let zero : (n : ℕ) → OneOf readingNumbers n → (n ≡ 3 → ⊥) → among n (0 ∷ 6 ∷ 7 ∷ 8 ∷ []) ≡ false
+      → among n (9 ∷ 10 ∷ []) ≡ false → (n ≡ 11 → ⊥) → ReadingRow e f s (reader.refused n 0) = λ n l three text nine eleven.
+      early-read n 0 l (λ z. refl) (λ z. absurd (three z)) (λ z. absurd (false≢true (sym text ∙ z))) nine eleven in
+      picked (ReadingRow e f s) (leb (length f) longest)
+      (picked (ReadingRow e f s) (leb (length s) longest) format-read
+      (zero 5 refl (λ z. omega (arith, z)) refl refl (λ z. omega (arith, z))))
+      (zero 1 refl (λ z. omega (arith, z)) refl refl (λ z. omega (arith, z)))

@@ -16,6 +16,7 @@ use Rattle.format.specs.Conversions as conversions
 use Rattle.format.specs.Opening as opening
 use Rattle.strftime.specs.Writing as writer
 use Rattle.judge.specs.Agreement as agreement
+use Rattle.judge.specs.Engines as engines
 use Rattle.judge.specs.Search as search
 use Rattle.judge.specs.Verdicts as verdicts
 use Rattle.strptime.specs.Elements as elements
@@ -27,5 +28,6 @@ use Rattle.demands.specs.Starred.{Case, starred}
 pub all-hold : map (λ (c : Case). c .0) starred ≡ map (λ (c : Case). c .1) starred
 unfolding cases.computes fold cased digits plain fill isDigit digitRun decimal goesOn firstName orElse readName isSpace spaces
     calendar.computes moments.computes values.computes names.computes naming.computes conversions.computes opening.computes
-    writer.computes agreement.computes search.computes verdicts.computes elements.computes reading.computes answers.computes
+    writer.computes agreement.computes search.computes verdicts.computes engines.computes elements.computes reading.computes
+    answers.computes
 all-hold = refl

@@ -20,6 +20,7 @@ use Rattle.format.specs.declared.opening.Side.the-variants.{Writer}
 use Rattle.strftime.specs.Writing.{element, text, put, byFormat, forMoment, forFields, writing}
 use Rattle.values.specs.Values as values
 use Rattle.judge.specs.Agreement as agreement
+use Rattle.judge.specs.Engines as engines
 use Rattle.judge.specs.Search as search
 use Rattle.judge.specs.Verdicts as verdicts
 use Rattle.strptime.specs.Elements as elements
@@ -31,7 +32,8 @@ use Rattle.demands.specs.WhiteSpace.{WhiteSpace, Copied, spaceBytes, isA
 
 computed : map met (range 0 256) ≡ map (λ b. replicate 4 (among b spaceBytes)) (range 0 256)
 unfolding met spaceBytes isAnswered range bytes isSpace spaces isDigit digitRun decimal conversions.computes opening.computes
-    values.computes agreement.computes search.computes verdicts.computes elements.computes reading.computes answers.computes
+    values.computes agreement.computes search.computes verdicts.computes engines.computes elements.computes reading.computes
+    answers.computes
 computed = refl
 
 -- ---- the writer

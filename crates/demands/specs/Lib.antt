@@ -5,9 +5,11 @@
 --      (`white-space` in proofs/WhiteSpace); what flags and widths do, and who takes them, is in Columns (`columns` in proofs/Columns)
 --   3  the conclusions of RULES 8: the facts that a text says, and when it is matched, in Facts (`matched`, `handed` in proofs/Matched);
 --      what the writer would write, in Writes (`day-would`, `hour-would` in proofs/Written);
---      how a matched text is answered, `Answered` of Demand (`answered` in proofs/Demand)
+--      how a matched text is answered, `Answered` of Demand (`answered` in proofs/Demand);
+--      that it is answered alike by every engine, and what a budget does, in Engines (`one-verdict`, `engines` in proofs/Engines)
 pub mod Columns
 pub mod Demand
+pub mod Engines
 pub mod Facts
 pub mod Rows
 pub mod Starred

@@ -9,6 +9,8 @@ use Rattle.format.specs.declared.opening.Opened.{Opened}
 use Rattle.format.specs.declared.opening.Opened.the-variants.{Done, TooLong, Bad}
 use Rattle.format.specs.declared.opening.Side.{Side}
 use Rattle.format.specs.declared.opening.Side.the-variants.{Writer, Reader}
+use Rattle.judge.specs.declared.Engine.{Engine}
+use Rattle.judge.specs.declared.Engine.the-variants.{Skipping, Plain, Within}
 use Rattle.strftime.specs.declared.Writing.{Writing}
 use Rattle.strptime.specs.declared.Reading.{Reading}
 
@@ -21,6 +23,10 @@ packedWriting w = packed (w .number) (w .place)
 
 abbrev pub packedReading : Reading → ℕ
 packedReading r = packed (r .number) (r .place)
+
+-- the engine that a number asks for: 0 the one that skips, 1 the plain one, any other the plain one with a budget
+unfoldable pub engineOf : ℕ → ℕ → Engine
+engineOf n b = cond (eqb n 0) Skipping (cond (eqb n 1) Plain (Within b))
 
 -- the side that a number asks for: 0 the reader, any other the writer
 unfoldable pub sideOf : ℕ → Side

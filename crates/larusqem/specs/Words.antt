@@ -1,8 +1,9 @@
--- A moment and the reader's answer for C (RULES 10): six words and fifteen.
+-- A moment and the reader's answer for C (RULES 10): six words and sixteen.
 -- Those of an answer: 0 number, 1 place, 2 to 4 year, month and day, 5 and 6 whether the hour is said and which, 7 and 8 the minute,
--- 9 and 10 the second, 11 to 13 the second of two days, 14 the second of two hours. What the row of the number does not name is 0.
+-- 9 and 10 the second, 11 to 13 the second of two days, 14 the second of two hours, 15 the days examined. What the row of the number
+-- does not name is 0.
 use Prim.Native.Nat.{ℕ}
-use mathlib.Core.List.{List, [], _∷_}
+use mathlib.Core.List.{List, [], _∷_, _++_}
 use lib.ListN.{getD}
 use Rattle.calendar.specs.Calendar.{date}
 use Rattle.calendar.specs.declared.Date.{Date}
@@ -54,4 +55,4 @@ more r (Days a b) = a .year ∷ a .month ∷ a .day ∷ 0 ∷ 0 ∷ 0 ∷ 0 ∷ 
 more r (Hours a b) = 0 ∷ 0 ∷ 0 ∷ 0 ∷ a ∷ 0 ∷ 0 ∷ 0 ∷ 0 ∷ 0 ∷ 0 ∷ 0 ∷ b ∷ []
 
 unfoldable pub wordsOf : Reading → List ℕ
-wordsOf r = r .number ∷ r .place ∷ more r (r .shown)
+wordsOf r = r .number ∷ r .place ∷ (more r (r .shown) ++ (r .examined ∷ []))

@@ -6,6 +6,7 @@ use calendar::FromNumber;
 use format::Opened;
 use format::Side;
 use format::open;
+use judge::Engine;
 use strftime::Fields;
 use strftime::Writing;
 use strftime::strftime;
@@ -27,10 +28,10 @@ ghost use Rattle.calendar.specs.Dates.{fromFields, fromDayNumber};
 ghost use Rattle.format.specs.Opening.{openedInto};
 ghost use Rattle.kinds.specs.Kinds.{weekday, dayOfYear, isoYear, isoWeek};
 ghost use Rattle.strftime.specs.Writing.{writing, elementsWriting};
-ghost use Rattle.strptime.specs.Answers.{readingOf, reading, elementsReading};
+ghost use Rattle.strptime.specs.Answers.{readingOf, readingBy, elementsReadingBy};
 ghost use Rattle.values.specs.Values.{dayNumberOf, dateValue};
 ghost use Rattle.larusqem.specs.Dates.{valueFrom, threeInOne, dateWord, versionWord};
-ghost use Rattle.larusqem.specs.Packed.{packed, packedWriting, packedReading, sideOf, openedFor};
+ghost use Rattle.larusqem.specs.Packed.{packed, packedWriting, packedReading, engineOf, sideOf, openedFor};
 ghost use Rattle.larusqem.specs.Words.{fieldsOf, dayOrZero, flag, numberOr0, wordsOf};
 
 fn packed(number: u32, place: usize) -> u64
@@ -147,12 +148,13 @@ fn number_or_0(said: Said) -> u32
     }
 }
 
-fn words_of(r: Reading) -> [u32; 15]
+fn words_of(r: Reading) -> [u32; 16]
     requires { ⌜ r .place < 2 ^ 32 ⌝ }
     ensures { λ w. ⌜ w ≡ wordsOf r ⌝ }
 {
     let number = r.number;
     let place = r.place as u32;
+    let examined = r.examined;
     let shown = r.shown;
     match shown {
         Shown::Nothing => {
@@ -177,6 +179,7 @@ fn words_of(r: Reading) -> [u32; 15]
                 0,
                 0,
                 0,
+                examined,
             ]
         }
         Shown::Days { first, second } => [
@@ -195,6 +198,7 @@ fn words_of(r: Reading) -> [u32; 15]
             second.month as u32,
             second.day as u32,
             0,
+            examined,
         ],
         Shown::Hours { first, second } => [
             number,
@@ -212,12 +216,13 @@ fn words_of(r: Reading) -> [u32; 15]
             0,
             0,
             second,
+            examined,
         ],
     }
 }
 
 // An answer's words, and its number and place.
-fn tell(answer: Answer, words: &mut [u32; 15]) -> u64
+fn tell(answer: Answer, words: &mut [u32; 16]) -> u64
     requires { ⌜ readingOf answer .place < 2 ^ 32 ⌝ }
     ensures { λ r. ⌜ r ≡ packedReading (readingOf answer) ⌝ }
     ensures { λ _. ⌜ now (words .exit) ≡ wordsOf (readingOf answer) ⌝ }
@@ -227,22 +232,51 @@ fn tell(answer: Answer, words: &mut [u32; 15]) -> u64
     packed(r.number, r.place)
 }
 
-// Reads a text by a format.
-#[no_mangle]
-pub extern "C" fn larusqem_strptime_words(format: &[u8], text: &[u8], words: &mut [u32; 15]) -> u64
-    ensures { λ r. ⌜ r ≡ packedReading (reading (now (format .entry)) (now (text .entry))) ⌝ }
-    ensures { λ _. ⌜ now (words .exit) ≡ wordsOf (reading (now (format .entry)) (now (text .entry))) ⌝ }
+// The engine that a number asks for: 0 the one that skips, 1 the plain one, any other the plain one with the budget.
+fn engine_of(engine: u32, budget: u32) -> Engine
+    ensures { λ r. ⌜ r ≡ engineOf engine budget ⌝ }
 {
-    tell(strptime(format, text), words)
+    if engine == 0 {
+        return Engine::Skipping;
+    }
+    if engine == 1 {
+        return Engine::Plain;
+    }
+    Engine::Within { budget }
 }
 
-// Reads a text by the elements of a format that was opened before.
+// Reads a text by a format, with the engine that a number asks for.
 #[no_mangle]
-pub extern "C" fn larusqem_read_words(elements: &[u32], text: &[u8], words: &mut [u32; 15]) -> u64
-    ensures { λ r. ⌜ r ≡ packedReading (elementsReading (now (elements .entry)) (now (text .entry))) ⌝ }
-    ensures { λ _. ⌜ now (words .exit) ≡ wordsOf (elementsReading (now (elements .entry)) (now (text .entry))) ⌝ }
+pub extern "C" fn larusqem_strptime_words(
+    format: &[u8],
+    text: &[u8],
+    engine: u32,
+    budget: u32,
+    words: &mut [u32; 16],
+) -> u64
+    ensures { λ r. ⌜ r ≡ packedReading (readingBy (engineOf engine budget) (now (format .entry)) (now (text .entry))) ⌝ }
+    ensures { λ _. ⌜ now (words .exit) ≡ wordsOf (readingBy (engineOf engine budget) (now (format .entry)) (now (text .entry))) ⌝ }
 {
-    tell(read_elements(elements, text), words)
+    tell(strptime(engine_of(engine, budget), format, text), words)
+}
+
+// Reads a text by the elements of a format that was opened before, likewise.
+#[no_mangle]
+pub extern "C" fn larusqem_read_words(
+    elements: &[u32],
+    text: &[u8],
+    engine: u32,
+    budget: u32,
+    words: &mut [u32; 16],
+) -> u64
+    ensures { λ r. ⌜ r ≡ packedReading (elementsReadingBy (engineOf engine budget) (now (elements .entry)) (now (text .entry))) ⌝ }
+    ensures { λ _. ⌜ now (words .exit)
+        ≡ wordsOf (elementsReadingBy (engineOf engine budget) (now (elements .entry)) (now (text .entry))) ⌝ }
+{
+    tell(
+        read_elements(engine_of(engine, budget), elements, text),
+        words,
+    )
 }
 
 // ---- The calendar

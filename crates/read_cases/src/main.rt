@@ -1,6 +1,8 @@
 // Runs the reader on the cases that compare/src/bin/vectors/read.rs makes. The input is pairs of lines: a format, and a text. A line of the
-// output is `number place date hour minute second | shown`: what is unsaid is -, and shown has the first two days or hours of number 10.
+// output is `number place date hour minute second | shown | examined`: what is unsaid is -, shown has the first two days or hours of number
+// 10, and the days examined are those of the engine that skips.
 use calendar::Date;
+use judge::Engine;
 use libc::STDOUT_FILENO;
 use report::line_end;
 use strptime::Day;
@@ -85,6 +87,8 @@ fn print_reading(reading: Reading) {
     print_said(second);
     print(b" | ");
     print_shown(shown);
+    print(b" | ");
+    print_number(reading.examined);
     print(b"\n");
 }
 
@@ -105,7 +109,7 @@ fn print_readings(input: &[u8]) {
         let middle = line_end(input, at);
         let from = next_line(input, middle);
         let end = line_end(input, from);
-        let answer = strptime(&input[at..middle], &input[from..end]);
+        let answer = strptime(Engine::Skipping, &input[at..middle], &input[from..end]);
         print_reading(reading_of(answer));
         at = next_line(input, end);
     }

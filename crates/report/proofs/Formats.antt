@@ -14,6 +14,7 @@ use Rattle.format.specs.declared.opening.Opened.the-variants.{Done, TooLong, Ba
 use Rattle.format.specs.declared.opening.Side.the-variants.{Reader}
 use Rattle.format.proofs.Elements.{are-bytes}
 use Rattle.format.proofs.Opened.{opened-done, opened-bad, opened-long, stored}
+use Rattle.judge.specs.declared.Engine.the-variants.{Skipping}
 use Rattle.report.specs.Parts.{readingBy}
 use Rattle.strptime.specs.Answers.{reading}
 use Rattle.strptime.proofs.Opened.{read-by-elements}
@@ -41,9 +42,9 @@ answers f room {r} {es} b h k e g s = go r refl
     go : (q : Opened) → r ≡ q → readingBy q es s ≡ reading f s
     go (Done n) d =
         let o = opened-done Reader f e d in
-        rw (stored Reader f room g o (omega (arith, o .few))) (read-by-elements f (o .short) b (o .whole) s)
-    go TooLong d = format-long f s (opened-long Reader f e d)
+        rw (stored Reader f room g o (omega (arith, o .few))) (read-by-elements Skipping f (o .short) b (o .whole) s)
+    go TooLong d = format-long Skipping f s (opened-long Reader f e d)
     go (Bad p) d =
         let o = opened-bad Reader f e d in
         let m : min p longest ≡ p = omega (arith, o .within, o .short) in
-        rw m (conversion-bad f s (o .short) (o .bad))
+        rw m (conversion-bad Skipping f s (o .short) (o .bad))

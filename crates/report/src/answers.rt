@@ -1,6 +1,7 @@
 // How the texts of a list are answered by its format, which is opened once.
 use format::LONGEST;
 use format::Opened;
+use judge::Engine;
 use strptime::Answer;
 use strptime::read_elements;
 ghost use mathlib.Core.Path.{_≡_};
@@ -14,14 +15,14 @@ fn smaller(a: usize, b: usize) -> usize
     if a < b { a } else { b }
 }
 
-// The answer to a text.
+// The answer to a text, by the engine that skips.
 pub(crate) fn answer_to(opened: Opened, elements: &[u32], text: &[u8]) -> Answer
     ensures { λ r. ⌜ readingOf r ≡ readingBy opened (now (elements .entry)) (now (text .entry)) ⌝ }
 {
     match opened {
         Opened::Done { count } => {
             let count = smaller(count, elements.len());
-            read_elements(&elements[..count], text)
+            read_elements(Engine::Skipping, &elements[..count], text)
         }
         Opened::TooLong => Answer::FormatTooLong,
         Opened::Bad { at } => {

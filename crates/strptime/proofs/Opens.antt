@@ -7,17 +7,18 @@ use borrow.Author.Tests.{le-leb, lt-leb, eq-eqb, ne-eqb}
 use lib.ListN.{length}
 use Rattle.format.specs.Opening.{Whole, BadAt, longest, opening, mostElements, elementsIn, entryPlace}
 use Rattle.format.specs.declared.opening.Side.the-variants.{Reader}
-use Rattle.strptime.specs.Answers.{refused, concluded, readBy, byFormat, byElements, unlessLong, reading, elementsReading}
+use Rattle.judge.specs.declared.Engine.{Engine}
+use Rattle.strptime.specs.Answers.{refused, concluded, readBy, byFormat, byElements, unlessLong, readingBy, elementsReadingBy}
 use Rattle.strptime.specs.Reading.{start, readAll}
 use Rattle.strptime.specs.declared.Outcome.{Outcome}
 use Rattle.strptime.specs.declared.Reading.{Reading}
 use Rattle.strptime.specs.declared.Stepped.{Stepped}
 
 -- ---- what the elements' reading comes to
-pub by-outcome : (es s : List ℕ) {r : Stepped} {o : Outcome} {a : Reading}
-    → r ≡ readAll es s start → r .outcome ≡ o → a ≡ concluded (r .state) o → a ≡ readBy es s
+pub by-outcome : (e : Engine) (es s : List ℕ) {r : Stepped} {o : Outcome} {a : Reading}
+    → r ≡ readAll es s start → r .outcome ≡ o → a ≡ concluded e (r .state) o → a ≡ readBy e es s
 unfolding readBy
-by-outcome es s {r} e g h = h ∙ ap (concluded (r .state)) (sym g) ∙ ap (λ (x : Stepped). concluded (x .state) (x .outcome)) e
+by-outcome e es s {r} q g h = h ∙ ap (concluded e (r .state)) (sym g) ∙ ap (λ (x : Stepped). concluded e (x .state) (x .outcome)) q
 
 -- ---- 5
 module _ (s : List ℕ) (r : Reading) where
@@ -30,29 +31,29 @@ module _ (s : List ℕ) (r : Reading) where
   text-short h = rw (le-leb (length s) longest h)
 
 -- ---- by a format: 1, and 3 after 5
-pub format-long : (f s : List ℕ) → longest < length f → refused 1 0 ≡ reading f s
-unfolding reading
-format-long f s h = rw (lt-leb (length f) longest h)
+pub format-long : (e : Engine) (f s : List ℕ) → longest < length f → refused 1 0 ≡ readingBy e f s
+unfolding readingBy
+format-long e f s h = rw (lt-leb (length f) longest h)
 
-module _ (f s : List ℕ) (h : length f ≤ longest) where
-  format-short : unlessLong s (byFormat f s) ≡ reading f s
-  unfolding reading
+module _ (e : Engine) (f s : List ℕ) (h : length f ≤ longest) where
+  format-short : unlessLong s (byFormat e f s) ≡ readingBy e f s
+  unfolding readingBy
   format-short = rw (le-leb (length f) longest h)
 
-  pub conversion-bad : {p : ℕ} → opening Reader f .ended ≡ BadAt p → unlessLong s (refused 3 p) ≡ reading f s
+  pub conversion-bad : {p : ℕ} → opening Reader f .ended ≡ BadAt p → unlessLong s (refused 3 p) ≡ readingBy e f s
   unfolding byFormat
-  conversion-bad e = rw e at format-short
+  conversion-bad q = rw q at format-short
 
-  pub format-read : opening Reader f .ended ≡ Whole → unlessLong s (readBy (opening Reader f .elements) s) ≡ reading f s
+  pub format-read : opening Reader f .ended ≡ Whole → unlessLong s (readBy e (opening Reader f .elements) s) ≡ readingBy e f s
   unfolding byFormat
-  format-read e = rw e at format-short
+  format-read q = rw q at format-short
 
 -- ---- by elements: 3 after 5
-module _ (es s : List ℕ) {n : ℕ} (e : n ≡ elementsIn Reader mostElements es) where
-  pub entry-bad : (n ≡ length es → ⊥) → {p : ℕ} → p ≡ entryPlace es n → unlessLong s (refused 3 p) ≡ elementsReading es s
-  unfolding elementsReading byElements
-  entry-bad d q = rw (← e, ne-eqb n (length es) d, q)
+module _ (e : Engine) (es s : List ℕ) {n : ℕ} (c : n ≡ elementsIn Reader mostElements es) where
+  pub entry-bad : (n ≡ length es → ⊥) → {p : ℕ} → p ≡ entryPlace es n → unlessLong s (refused 3 p) ≡ elementsReadingBy e es s
+  unfolding elementsReadingBy byElements
+  entry-bad d q = rw (← c, ne-eqb n (length es) d, q)
 
-  pub entries-read : n ≡ length es → unlessLong s (readBy es s) ≡ elementsReading es s
-  unfolding elementsReading byElements
-  entries-read d = rw (← e, eq-eqb n (length es) d)
+  pub entries-read : n ≡ length es → unlessLong s (readBy e es s) ≡ elementsReadingBy e es s
+  unfolding elementsReadingBy byElements
+  entries-read d = rw (← c, eq-eqb n (length es) d)

@@ -1,12 +1,13 @@
--- Places that a reading answers are offsets of its text or its format, or 1 or 2: none is above 1,024.
+-- Places that a reading answers are offsets of its text or its format, or 1 or 2, or the engine's budget: but for the last none is above
+-- 1,024.
 -- Assumes nothing.
-use Prim.Native.Nat.{ℕ, _≤_}
+use Prim.Native.Nat.{ℕ, _≤_, _<_, _^_}
 use mathlib.Core.Bool.{true, not, _&&_}
 use mathlib.Core.List.{List, [], _∷_}
-use mathlib.Core.Path.{_≡_, refl}
+use mathlib.Core.Path.{_≡_, refl, ap}
 use native.Mathlib.Omega.{arith}
 use borrow.Author.Tests.{leb-true}
-use lib.Dec.{eqb, leb, lit≤}
+use lib.Dec.{eqb, leb}
 use lib.ListN.{length, getD}
 use Rattle.laws.proofs.Cases.{either, picked}
 use Rattle.format.specs.Opening.{Ended, opening, longest, mostElements, isElement, elementsIn, entryPlace}
@@ -14,10 +15,17 @@ use Rattle.format.specs.Opening.Ended.{Whole, BadAt}
 use Rattle.format.specs.declared.opening.Side.the-variants.{Writer, Reader}
 use Rattle.format.proofs.Entries.{counted-few}
 use Rattle.format.proofs.Refused.{bad-within}
+use Rattle.judge.specs.Engines.{searched}
+use Rattle.judge.specs.declared.Engine.{Engine}
+use Rattle.judge.specs.declared.Engine.the-variants.{Skipping, Plain, Within as Budget}
+use Rattle.judge.specs.declared.Searched.{Searched}
+use Rattle.judge.specs.declared.Searched.the-variants.{Judged, OverBudget}
 use Rattle.judge.specs.declared.Verdict.{Verdict}
 use Rattle.judge.specs.declared.Verdict.the-variants.{Unsaid, Impossible, Open, Agreed}
-use Rattle.strptime.specs.Answers.{showing, refused, finished, done, withHour, withDay, judged, concluded}
-use Rattle.strptime.specs.Answers.{readBy, byFormat, byElements, unlessLong, reading, elementsReading}
+use Rattle.judge.proofs.Engines.{searched-over}
+use Rattle.strptime.specs.Answers.{showing, refused, finished, examining, overBudget, done, withHour, withDay, withSearched}
+use Rattle.strptime.specs.Answers.{judged, concluded, readBy, byFormat, byElements, unlessLong, readingBy, elementsReadingBy}
+use Rattle.strptime.specs.Answers.{reading, elementsReading}
 use Rattle.strptime.specs.Reading.{start, stays, stepOn, isRead, readAll}
 use Rattle.strptime.specs.declared.Day.{Day}
 use Rattle.strptime.specs.declared.Outcome.{Outcome}
@@ -33,43 +41,61 @@ all-within (e ∷ es) s t h =
     let w = step-placed e s t h in
     picked (Within s) (isRead (stepOn e s t .outcome)) (all-within es s (stepOn e s t .state) (w .0)) w
 
-module _ (t : State) (h : t .at ≤ longest) where
-  hour-place : (d : Day) (v : Verdict) → withHour t d v .place ≤ longest
+module _ (t : State) (n : ℕ) (h : t .at ≤ n) (l : longest ≤ n) where
+  hour-place : (d : Day) (v : Verdict) → withHour t d v .place ≤ n
   unfolding withHour done showing refused finished
   hour-place d Unsaid = h
-  hour-place d Impossible = lit≤ tt
-  hour-place d (Open a b) = lit≤ tt
+  hour-place d Impossible = omega arith
+  hour-place d (Open a b) = omega arith
   hour-place d (Agreed k) = h
 
-  day-place : (v w : Verdict) → withDay t v w .place ≤ longest
+  day-place : (v w : Verdict) → withDay t v w .place ≤ n
   unfolding withDay showing refused
   day-place Unsaid w = hour-place _ w
-  day-place Impossible w = lit≤ tt
-  day-place (Open a b) w = lit≤ tt
+  day-place Impossible w = omega arith
+  day-place (Open a b) w = omega arith
   day-place (Agreed k) w = hour-place _ w
 
-module _ (s : List ℕ) (short : length s ≤ longest) where
-  concluded-place : (t : State) (o : Outcome) → t .at ≤ length s → Placed s o → concluded t o .place ≤ longest
-  unfolding concluded judged showing refused Placed
-  concluded-place t Read h p = day-place t (omega arith) _ _
-  concluded-place t (Mismatch q) h p = omega arith
-  concluded-place t (Range q) h p = omega arith
-  concluded-place t (Conflict q) h p = omega arith
+  searched-place : (x : Searched) (w : Verdict) → ((b : ℕ) → x ≡ OverBudget b → b ≤ n) → withSearched t x w .place ≤ n
+  unfolding withSearched examining overBudget showing refused
+  searched-place (Judged v k) w m = day-place _ _
+  searched-place (OverBudget b) w m = m b refl
 
-  by-place : (es : List ℕ) → readBy es s .place ≤ longest
-  unfolding readBy start
-  by-place es =
-      let r = readAll es s start in
-      let w = all-within es s start (omega arith) in
-      concluded-place (r .state) (r .outcome) (w .0) (w .1)
+-- an engine, and a bound of the longest format and text and of the engine's budget
+unfoldable pub budget : Engine → ℕ
+budget Skipping = 0
+budget Plain = 0
+budget (Budget b) = b
 
-  format-place : (f : List ℕ) → length f ≤ longest → byFormat f s .place ≤ longest
-  unfolding byFormat showing refused
-  format-place f h = go (opening Reader f .ended) refl
-    where
-      go : (d : Ended) → opening Reader f .ended ≡ d → byFormat f s .place ≤ longest
-      go Whole e = rw e (by-place (opening Reader f .elements))
-      go (BadAt p) e = rw e (omega (arith, bad-within Reader f e))
+module _ (e : Engine) (n : ℕ) (l : longest ≤ n) (m : budget e ≤ n) where
+  judged-place : (t : State) → t .at ≤ n → judged e t .place ≤ n
+  unfolding judged budget
+  judged-place t h =
+      searched-place t n h l (searched e (t .facts)) _
+      (λ b q. omega (arith, m, ap budget (searched-over e (t .facts) q)))
+
+  module _ (s : List ℕ) (short : length s ≤ longest) where
+    concluded-place : (t : State) (o : Outcome) → t .at ≤ length s → Placed s o → concluded e t o .place ≤ n
+    unfolding concluded showing refused Placed
+    concluded-place t Read h p = judged-place t (omega arith)
+    concluded-place t (Mismatch q) h p = omega arith
+    concluded-place t (Range q) h p = omega arith
+    concluded-place t (Conflict q) h p = omega arith
+
+    by-place : (es : List ℕ) → readBy e es s .place ≤ n
+    unfolding readBy start
+    by-place es =
+        let r = readAll es s start in
+        let w = all-within es s start (omega arith) in
+        concluded-place (r .state) (r .outcome) (w .0) (w .1)
+
+    format-place : (f : List ℕ) → length f ≤ longest → byFormat e f s .place ≤ n
+    unfolding byFormat showing refused
+    format-place f h = go (opening Reader f .ended) refl
+      where
+        go : (d : Ended) → opening Reader f .ended ≡ d → byFormat e f s .place ≤ n
+        go Whole q = rw q (by-place (opening Reader f .elements))
+        go (BadAt p) q = rw q (omega (arith, bad-within Reader f q))
 
 -- 0 for too long a text
 unless-place : (s : List ℕ) (r : Reading) (n : ℕ) → (length s ≤ longest → r .place ≤ n) → unlessLong s r .place ≤ n
@@ -79,14 +105,6 @@ unless-place s r n h =
     (λ (e : leb (length s) longest ≡ true). h (leb-true (length s) longest e))
     (λ _. omega arith)
 
-pub reading-place : (f s : List ℕ) → reading f s .place ≤ longest
-unfolding reading showing refused
-reading-place f s =
-    either (λ (r : Reading). r .place ≤ longest) (leb (length f) longest)
-    (λ (e : leb (length f) longest ≡ true).
-    unless-place s _ longest (λ l. format-place s l f (leb-true (length f) longest e)))
-    (λ _. lit≤ tt)
-
 -- the offset of a %, or the entry's index
 entry-place : (es : List ℕ) (k : ℕ) → k ≤ mostElements → entryPlace es k ≤ mostElements
 unfolding entryPlace
@@ -94,12 +112,37 @@ entry-place es k h =
     let e = getD es k 0 in
     picked (λ p. p ≤ mostElements) (isElement Writer e && not (isElement Reader e)) (omega arith) h
 
-pub elements-place : (es s : List ℕ) → elementsReading es s .place ≤ mostElements
-unfolding elementsReading byElements showing refused
-elements-place es s =
+-- ---- by any engine
+
+pub place-by : (e : Engine) (n : ℕ) → longest ≤ n → budget e ≤ n → (f s : List ℕ) → readingBy e f s .place ≤ n
+unfolding readingBy showing refused
+place-by e n l m f s =
+    either (λ (r : Reading). r .place ≤ n) (leb (length f) longest)
+    (λ (q : leb (length f) longest ≡ true).
+    unless-place s _ n (λ h. format-place e n l m s h f (leb-true (length f) longest q)))
+    (λ _. omega arith)
+
+pub elements-place-by : (e : Engine) (n : ℕ) → mostElements ≤ n → budget e ≤ n → (es s : List ℕ) → elementsReadingBy e es s .place ≤ n
+unfolding elementsReadingBy byElements showing refused
+elements-place-by e n l m es s =
     let good = elementsIn Reader mostElements es in
-    unless-place s _ mostElements
-    (λ l.
-    picked (λ (r : Reading). r .place ≤ mostElements) (eqb good (length es))
-    (omega (arith, by-place s l es))
-    (entry-place es good (counted-few Reader mostElements es)))
+    unless-place s _ n
+    (λ h.
+    picked (λ (r : Reading). r .place ≤ n) (eqb good (length es))
+    (by-place e n (omega arith) m s h es)
+    (omega (arith, entry-place es good (counted-few Reader mostElements es))))
+
+-- a place fits 32 bits where the budget does
+pub place-fits : (e : Engine) → budget e < 2 ^ 32 → (f s : List ℕ) → readingBy e f s .place < 2 ^ 32
+place-fits e m f s = omega (arith, place-by e 4294967295 (omega arith) (omega (arith, m)) f s)
+
+pub elements-place-fits : (e : Engine) → budget e < 2 ^ 32 → (es s : List ℕ) → elementsReadingBy e es s .place < 2 ^ 32
+elements-place-fits e m es s = omega (arith, elements-place-by e 4294967295 (omega arith) (omega (arith, m)) es s)
+
+-- ---- by the engine that skips
+
+pub reading-place : (f s : List ℕ) → reading f s .place ≤ longest
+reading-place f s = place-by Skipping longest (omega arith) (unfold budget in omega arith) f s
+
+pub elements-place : (es s : List ℕ) → elementsReading es s .place ≤ mostElements
+elements-place es s = elements-place-by Skipping mostElements (omega arith) (unfold budget in omega arith) es s

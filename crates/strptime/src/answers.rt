@@ -20,6 +20,8 @@ use format::Side;
 use format::elements_in;
 use format::entry_place;
 use format::open;
+use judge::Engine;
+use judge::Searched;
 use judge::Verdict;
 use judge::judge_day;
 use judge::judge_hour;
@@ -28,13 +30,13 @@ ghost use Prim.Native.Nat.{_*_, _≤_, _<_};
 ghost use lib.ListN.{length};
 ghost use Rattle.calendar.specs.Calendar.{days, dateOf};
 ghost use Rattle.format.specs.Opening.{longest};
-ghost use Rattle.judge.specs.Verdicts.{hourVerdict};
-ghost use Rattle.strptime.specs.Answers.{showing, refused, readingOf, saidOf, done, withHour, judged, readBy};
-ghost use Rattle.strptime.specs.Answers.{unlessLong, reading, elementsReading};
+ghost use Rattle.judge.specs.Verdicts.{dayVerdict, hourVerdict};
+ghost use Rattle.strptime.specs.Answers.{showing, refused, examining, readingOf, saidOf, done, withHour, withDay, judged};
+ghost use Rattle.strptime.specs.Answers.{readBy, unlessLong, readingBy, elementsReadingBy};
 
-// A number and a place, and what is shown; all else is unsaid.
-fn showing(number: u32, place: usize, shown: Shown) -> Reading
-    ensures { λ r. ⌜ r ≡ showing number place shown ⌝ }
+// A number and a place, what is shown, and the days examined; all else is unsaid.
+fn showing(number: u32, place: usize, shown: Shown, examined: u32) -> Reading
+    ensures { λ r. ⌜ r ≡ examining examined (showing number place shown) ⌝ }
 {
     Reading {
         number,
@@ -44,13 +46,14 @@ fn showing(number: u32, place: usize, shown: Shown) -> Reading
         minute: Said::Unsaid,
         second: Said::Unsaid,
         shown,
+        examined,
     }
 }
 
-fn refused(number: u32, place: usize) -> Reading
-    ensures { λ r. ⌜ r ≡ refused number place ⌝ }
+fn refused(number: u32, place: usize, examined: u32) -> Reading
+    ensures { λ r. ⌜ r ≡ examining examined (refused number place) ⌝ }
 {
-    showing(number, place, Shown::Nothing)
+    showing(number, place, Shown::Nothing, examined)
 }
 
 // The number, place and values of each answer.
@@ -64,6 +67,7 @@ pub fn reading_of(answer: Answer) -> Reading
             hour,
             minute,
             second,
+            examined,
         } => Reading {
             number: 0,
             place: unread,
@@ -72,17 +76,27 @@ pub fn reading_of(answer: Answer) -> Reading
             minute,
             second,
             shown: Shown::Nothing,
+            examined,
         },
-        Answer::FormatTooLong => refused(1, 0),
-        Answer::TextTooLong => refused(5, 0),
-        Answer::BadConversion { at } => refused(3, at),
-        Answer::NoMatch { at } => refused(6, at),
-        Answer::OutOfRange { at } => refused(7, at),
-        Answer::Contradiction { at } => refused(8, at),
-        Answer::NoDay => refused(9, 1),
-        Answer::NoHour => refused(9, 2),
-        Answer::OpenDay { first, second } => showing(10, 1, Shown::Days { first, second }),
-        Answer::OpenHour { first, second } => showing(10, 2, Shown::Hours { first, second }),
+        Answer::FormatTooLong => refused(1, 0, 0),
+        Answer::TextTooLong => refused(5, 0, 0),
+        Answer::BadConversion { at } => refused(3, at, 0),
+        Answer::NoMatch { at } => refused(6, at, 0),
+        Answer::OutOfRange { at } => refused(7, at, 0),
+        Answer::Contradiction { at } => refused(8, at, 0),
+        Answer::OverBudget { budget } => refused(11, budget as usize, budget),
+        Answer::NoDay { examined } => refused(9, 1, examined),
+        Answer::NoHour { examined } => refused(9, 2, examined),
+        Answer::OpenDay {
+            first,
+            second,
+            examined,
+        } => showing(10, 1, Shown::Days { first, second }, examined),
+        Answer::OpenHour {
+            first,
+            second,
+            examined,
+        } => showing(10, 2, Shown::Hours { first, second }, examined),
     }
 }
 
@@ -95,8 +109,10 @@ fn said_of(s: u32) -> Said
     Said::Is(s - 1)
 }
 
-fn done(state: State, day: Day, hour: Said) -> Answer
-    ensures { λ r. ⌜ readingOf r ≡ done state day hour ⌝ }
+// What follows has the days examined in its answer.
+
+fn done(state: State, day: Day, hour: Said, examined: u32) -> Answer
+    ensures { λ r. ⌜ readingOf r ≡ examining examined (done state day hour) ⌝ }
 {
     let facts = state.facts;
     let said = facts.said;
@@ -106,65 +122,85 @@ fn done(state: State, day: Day, hour: Said) -> Answer
         hour,
         minute: said_of(said[kinds::MINUTE as usize]),
         second: said_of(said[kinds::SECOND as usize]),
+        examined,
     }
 }
 
-fn with_hour(state: State, day: Day) -> Answer
-    ensures { λ r. ⌜ readingOf r ≡ withHour state day (hourVerdict (state .facts)) ⌝ }
+fn with_hour(state: State, day: Day, examined: u32) -> Answer
+    ensures { λ r. ⌜ readingOf r ≡ examining examined (withHour state day (hourVerdict (state .facts))) ⌝ }
 {
     match judge_hour(state.facts) {
-        Verdict::Unsaid => done(state, day, Said::Unsaid),
-        Verdict::Impossible => Answer::NoHour,
-        Verdict::Open { first, second } => Answer::OpenHour { first, second },
-        Verdict::Agreed(hour) => done(state, day, Said::Is(hour)),
+        Verdict::Unsaid => done(state, day, Said::Unsaid, examined),
+        Verdict::Impossible => Answer::NoHour { examined },
+        Verdict::Open { first, second } => Answer::OpenHour {
+            first,
+            second,
+            examined,
+        },
+        Verdict::Agreed(hour) => done(state, day, Said::Is(hour), examined),
     }
 }
 
 // The one day that agrees, by its number. A number of no day is refused; the search gives none.
-fn with_day(state: State, number: u32) -> Answer
+fn with_day(state: State, number: u32, examined: u32) -> Answer
     requires { ⌜ (0 < number) × (number ≤ days) ⌝ }
-    ensures { λ r. ⌜ readingOf r ≡ withHour state (Day.On (dateOf number)) (hourVerdict (state .facts)) ⌝ }
+    ensures { λ r. ⌜ readingOf r ≡ examining examined (withHour state (Day.On (dateOf number)) (hourVerdict (state .facts))) ⌝ }
 {
     let FromNumber::Day(date) = Date::from_day_number(number) else {
-        return Answer::NoDay;
+        return Answer::NoDay { examined };
     };
-    with_hour(state, Day::On(date))
+    with_hour(state, Day::On(date), examined)
 }
 
 // The first two days that agree, in the same way.
-fn open_day(first: u32, second: u32) -> Answer
+fn open_day(first: u32, second: u32, examined: u32) -> Answer
     requires { ⌜ (0 < first) × (first ≤ days) ⌝ }
     requires { ⌜ (0 < second) × (second ≤ days) ⌝ }
-    ensures { λ r. ⌜ readingOf r ≡ showing 10 1 (Shown.Days (dateOf first) (dateOf second)) ⌝ }
+    ensures { λ r. ⌜ readingOf r ≡ examining examined (showing 10 1 (Shown.Days (dateOf first) (dateOf second))) ⌝ }
 {
     let FromNumber::Day(first) = Date::from_day_number(first) else {
-        return Answer::NoDay;
+        return Answer::NoDay { examined };
     };
     let FromNumber::Day(second) = Date::from_day_number(second) else {
-        return Answer::NoDay;
+        return Answer::NoDay { examined };
     };
-    Answer::OpenDay { first, second }
+    Answer::OpenDay {
+        first,
+        second,
+        examined,
+    }
 }
 
-fn judged(state: State) -> Answer
-    ensures { λ r. ⌜ readingOf r ≡ judged state ⌝ }
+// The day by the verdict on it, then the hour.
+fn with_verdict(state: State, verdict: Verdict, examined: u32) -> Answer
+    requires { ⌜ verdict ≡ dayVerdict (state .facts) ⌝ }
+    ensures { λ r. ⌜ readingOf r ≡ examining examined (withDay state verdict (hourVerdict (state .facts))) ⌝ }
 {
-    match judge_day(state.facts) {
-        Verdict::Unsaid => with_hour(state, Day::NoDate),
-        Verdict::Impossible => Answer::NoDay,
-        Verdict::Open { first, second } => open_day(first, second),
-        Verdict::Agreed(day) => with_day(state, day),
+    match verdict {
+        Verdict::Unsaid => with_hour(state, Day::NoDate, examined),
+        Verdict::Impossible => Answer::NoDay { examined },
+        Verdict::Open { first, second } => open_day(first, second, examined),
+        Verdict::Agreed(day) => with_day(state, day, examined),
+    }
+}
+
+fn judged(engine: Engine, state: State) -> Answer
+    ensures { λ r. ⌜ readingOf r ≡ judged engine state ⌝ }
+{
+    match judge_day(engine, state.facts) {
+        Searched::Judged { verdict, examined } => with_verdict(state, verdict, examined),
+        Searched::OverBudget { budget } => Answer::OverBudget { budget },
     }
 }
 
 // Reads a text by elements that opening a format stored.
-fn read_by(elements: &[u32], s: &[u8]) -> Answer
-    ensures { λ r. ⌜ readingOf r ≡ readBy (now (elements .entry)) (now (s .entry)) ⌝ }
+fn read_by(engine: Engine, elements: &[u32], s: &[u8]) -> Answer
+    ensures { λ r. ⌜ readingOf r ≡ readBy engine (now (elements .entry)) (now (s .entry)) ⌝ }
 {
     let stepped = read_all(elements, s);
     let outcome = stepped.outcome;
     match outcome {
-        Outcome::Read => judged(stepped.state),
+        Outcome::Read => judged(engine, stepped.state),
         Outcome::Mismatch { at } => Answer::NoMatch { at },
         Outcome::Range { at } => Answer::OutOfRange { at },
         Outcome::Conflict { at } => Answer::Contradiction { at },
@@ -172,13 +208,13 @@ fn read_by(elements: &[u32], s: &[u8]) -> Answer
 }
 
 // 5, then the reading.
-fn read_short(elements: &[u32], text: &[u8]) -> Answer
-    ensures { λ r. ⌜ readingOf r ≡ unlessLong (now (text .entry)) (readBy (now (elements .entry)) (now (text .entry))) ⌝ }
+fn read_short(engine: Engine, elements: &[u32], text: &[u8]) -> Answer
+    ensures { λ r. ⌜ readingOf r ≡ unlessLong (now (text .entry)) (readBy engine (now (elements .entry)) (now (text .entry))) ⌝ }
 {
     if LONGEST < text.len() {
         return Answer::TextTooLong;
     }
-    read_by(elements, text)
+    read_by(engine, elements, text)
 }
 
 // 5, then 3.
@@ -192,41 +228,41 @@ fn bad_conversion(at: usize, text: &[u8]) -> Answer
 }
 
 // Reads a text by the elements of a format that was opened before.
-pub fn read_elements(elements: &[u32], text: &[u8]) -> Answer
-    ensures { λ r. ⌜ readingOf r ≡ elementsReading (now (elements .entry)) (now (text .entry)) ⌝ }
+pub fn read_elements(engine: Engine, elements: &[u32], text: &[u8]) -> Answer
+    ensures { λ r. ⌜ readingOf r ≡ elementsReadingBy engine (now (elements .entry)) (now (text .entry)) ⌝ }
 {
     let good = elements_in(Side::Reader, elements);
     if good != elements.len() {
         return bad_conversion(entry_place(elements, good), text);
     }
-    read_short(elements, text)
+    read_short(engine, elements, text)
 }
 
 // Opens the format into `room`, which has space for all its elements, and reads.
-fn read_opened(format: &[u8], text: &[u8], room: &mut [u32]) -> Answer
+fn read_opened(engine: Engine, format: &[u8], text: &[u8], room: &mut [u32]) -> Answer
     requires { ⌜ (length (now format) ≤ longest → 13 * length (now format) ≤ 2 * length (now room)) ⌝ }
-    ensures { λ r. ⌜ readingOf r ≡ reading (now (format .entry)) (now (text .entry)) ⌝ }
+    ensures { λ r. ⌜ readingOf r ≡ readingBy engine (now (format .entry)) (now (text .entry)) ⌝ }
 {
     match open(Side::Reader, format, room) {
         Opened::TooLong => Answer::FormatTooLong,
         Opened::Bad { at } => bad_conversion(at, text),
-        Opened::Done { count } => read_short(&room[..count], text),
+        Opened::Done { count } => read_short(engine, &room[..count], text),
     }
 }
 
 // Reads a text by a format: the day and hour that all its facts fix, or the refusal with its place. The format is opened into the smallest
 // of three arrays that has room for it.
-pub fn strptime(format: &[u8], text: &[u8]) -> Answer
-    ensures { λ r. ⌜ readingOf r ≡ reading (now (format .entry)) (now (text .entry)) ⌝ }
+pub fn strptime(engine: Engine, format: &[u8], text: &[u8]) -> Answer
+    ensures { λ r. ⌜ readingOf r ≡ readingBy engine (now (format .entry)) (now (text .entry)) ⌝ }
 {
     if format.len() <= SHORT_BYTES {
         let mut elements = [0; SHORT_ELEMENTS];
-        return read_opened(format, text, &mut elements);
+        return read_opened(engine, format, text, &mut elements);
     }
     if format.len() <= MIDDLE_BYTES {
         let mut elements = [0; MIDDLE_ELEMENTS];
-        return read_opened(format, text, &mut elements);
+        return read_opened(engine, format, text, &mut elements);
     }
     let mut elements = [0; MOST_ELEMENTS];
-    read_opened(format, text, &mut elements)
+    read_opened(engine, format, text, &mut elements)
 }

@@ -13,14 +13,14 @@ enum-told c = search needs
 day-or-zero-requires : tie.Need-day-or-zero-requires
 day-or-zero-requires c κs = search needs
 
-cast-t15 : tie.Need-cast-t15
-cast-t15 c = search needs
-
 cast-t16 : tie.Need-cast-t16
 cast-t16 c = search needs
 
 cast-t17 : tie.Need-cast-t17
 cast-t17 c = search needs
+
+cast-t18 : tie.Need-cast-t18
+cast-t18 c = search needs
 
 flag-requires : tie.Need-flag-requires
 flag-requires c κs = search needs
@@ -43,9 +43,6 @@ number-or-0-requires-3 c κs = search needs
 enum-known-shown : tie.Need-enum-known-shown
 enum-known-shown c = search needs
 
-cast-t24 : tie.Need-cast-t24
-cast-t24 c = search needs
-
 cast-t25 : tie.Need-cast-t25
 cast-t25 c = search needs
 
@@ -60,6 +57,9 @@ cast-t28 c = search needs
 
 cast-t29 : tie.Need-cast-t29
 cast-t29 c = search needs
+
+cast-t30 : tie.Need-cast-t30
+cast-t30 c = search needs
 
 enum-known-shown-2 : tie.Need-enum-known-shown-2
 enum-known-shown-2 c = search needs
@@ -93,9 +93,9 @@ words-of-spec =
     cast-place
     enum-told
     day-or-zero-requires
-    cast-t15
     cast-t16
     cast-t17
+    cast-t18
     flag-requires
     number-or-0-requires
     flag-requires-2
@@ -103,12 +103,12 @@ words-of-spec =
     flag-requires-3
     number-or-0-requires-3
     enum-known-shown
-    cast-t24
     cast-t25
     cast-t26
     cast-t27
     cast-t28
     cast-t29
+    cast-t30
     enum-known-shown-2
     returns
     returns-2

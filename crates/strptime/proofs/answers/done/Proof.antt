@@ -1,6 +1,6 @@
 -- `strptime::answers::done` meets its contract. Assumes nothing.
 use borrow.Author.Needs.{needs}
-use Rattle.strptime.specs.Answers.{readingOf, done}
+use Rattle.strptime.specs.Answers.{readingOf, examining, done}
 use Rattle.strptime.proofs.answers.done.Statement.{statement}
 use Rattle.strptime.proofs.answers.done.Tie as tie
 
@@ -29,7 +29,7 @@ said-of-requires-2 : tie.Need-said-of-requires-2
 said-of-requires-2 c κs = search needs
 
 returns : tie.Need-returns
-unfolding readingOf done
+unfolding readingOf examining done
 returns c = rw (← c .before .said-of .ensures, ← c .said-of2 .ensures)
 
 pub done-spec : {M : Type 1} → statement M

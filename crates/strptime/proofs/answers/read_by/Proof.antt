@@ -26,19 +26,19 @@ enum-known-outcome-3 c = search needs
 
 returns : tie.Need-returns
 unfolding concluded readingOf
-returns c = by-outcome _ _ (c .before .before .before .read-all .ensures) (c .before .enum-told .given .1) (c .judged .ensures)
+returns c = by-outcome _ _ _ (c .before .before .before .read-all .ensures) (c .before .enum-told .given .1) (c .judged .ensures)
 
 returns-2 : tie.Need-returns-2
 unfolding concluded readingOf
-returns-2 c = by-outcome _ _ (c .before .before .before .read-all .ensures) (c .before .outcome .given .1) refl
+returns-2 c = by-outcome _ _ _ (c .before .before .before .read-all .ensures) (c .before .outcome .given .1) refl
 
 returns-3 : tie.Need-returns-3
 unfolding concluded readingOf
-returns-3 c = by-outcome _ _ (c .before .before .before .read-all .ensures) (c .before .outcome2 .given .1) refl
+returns-3 c = by-outcome _ _ _ (c .before .before .before .read-all .ensures) (c .before .outcome2 .given .1) refl
 
 returns-4 : tie.Need-returns-4
 unfolding concluded readingOf
-returns-4 c = by-outcome _ _ (c .before .before .before .read-all .ensures) (c .before .outcome3 .given .1) refl
+returns-4 c = by-outcome _ _ _ (c .before .before .before .read-all .ensures) (c .before .outcome3 .given .1) refl
 
 pub read-by-spec : {M : Type 1} → statement M
 read-by-spec =

@@ -17,13 +17,13 @@ bad-conversion-requires c κs = search needs
 returns : tie.Need-returns
 returns c =
     let d = c .before .before in
-    c .bad-conversion .ensures ∙ entry-bad _ _ (d .before .elements-in .ensures) (d .if1 .taken) (c .before .entry-place .ensures)
+    c .bad-conversion .ensures ∙ entry-bad _ _ _ (d .before .elements-in .ensures) (d .if1 .taken) (c .before .entry-place .ensures)
 
 read-short-requires : tie.Need-read-short-requires
 read-short-requires c κs = search needs
 
 returns-2 : tie.Need-returns-2
-returns-2 c = c .read-short .ensures ∙ entries-read _ _ (c .before .before .elements-in .ensures) (c .before .if1 .left)
+returns-2 c = c .read-short .ensures ∙ entries-read _ _ _ (c .before .before .elements-in .ensures) (c .before .if1 .left)
 
 pub read-elements-spec : {M : Type 1} → statement M
 read-elements-spec =

@@ -55,7 +55,7 @@ same-length c = search needs
 
 returns : tie.Need-returns
 unfolding readingOf
-returns c = format-long _ _ (opened-long _ _ (c .before .before .before .before .«open» .ensures .0) (c .enum-told .given .1))
+returns c = format-long _ _ _ (opened-long _ _ (c .before .before .before .before .«open» .ensures .0) (c .enum-told .given .1))
 
 same-length-2 : tie.Need-same-length-2
 same-length-2 c = search needs
@@ -64,7 +64,7 @@ returns-2 : tie.Need-returns-2
 returns-2 c =
     let d = c .before .before in
     let b = opened-bad _ _ (d .before .before .before .before .«open» .ensures .0) (d .at .given .1) in
-    c .bad-conversion .ensures ∙ conversion-bad _ _ (b .short) (b .bad)
+    c .bad-conversion .ensures ∙ conversion-bad _ _ _ (b .short) (b .bad)
 
 same-length-3 : tie.Need-same-length-3
 same-length-3 c = search needs
@@ -73,7 +73,7 @@ returns-3 : tie.Need-returns-3
 returns-3 c =
     let d = c .before .before .before in
     let o = d .before .before .before .before .«open» .ensures in
-    c .read-short .ensures ∙ rw (stored _ _ _ (o .1) (whole d) (fits d)) (format-read _ _ (whole d .short) (whole d .whole))
+    c .read-short .ensures ∙ rw (stored _ _ _ (o .1) (whole d) (fits d)) (format-read _ _ _ (whole d .short) (whole d .whole))
 
 pub read-opened-spec : {M : Type 1} → statement M
 read-opened-spec =
