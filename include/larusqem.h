@@ -195,13 +195,13 @@ struct larusqem_reading {
  *                      said of year, century, year in century and month.
  *   the plain one      examines each day in order, and counts them all.
  * Each counts through the second day that agrees, and where there are not two through the last day, 9999-12-31; so the plain one counts
- * 3,652,059 for every text that has one day or none. Where nothing that is said bears on the day, and where the reading is refused before
- * the day is judged, no day is examined.
+ * 3,652,059 wherever one day agrees, or none. Where nothing that is said bears on the day, and where the reading is refused before the day
+ * is judged, no day is examined.
  *
  * The plain engine can be given a budget of days. If it is smaller than what the plain engine would count without one, the reading is
  * refused by 11, with the budget as its place and in `examined`; otherwise the answer is as without a budget. So the time of a call has a
  * bound of the caller's choice: "5 Mar", which is open, needs a budget of 429 days. A text that says one day needs the whole calendar,
- * since no other day may agree; the skipping engine tells that sooner.
+ * since no other day may agree. The skipping engine takes no budget.
  */
 enum larusqem_engine {
     LARUSQEM_SKIPPING = 0,
