@@ -51,7 +51,7 @@ yearSpan f horizon =
     let c = numberOf (said f kinds.century) 100 * 100 in
     let g = numberOf (said f kinds.isoYear) 20000 in
     narrowed (narrowed (narrowed (span 1 horizon) (said f kinds.year) y y) (said f kinds.century) c (c + 99))
-    (said f kinds.isoYear) (g - 1) (g + 1)
+    (said f kinds.isoYear) (max g 1 - 1) (g + 1)
 
 -- from a year to the next with the same year in the century, where one was said
 unfoldable pub yearStep : Facts → ℕ
