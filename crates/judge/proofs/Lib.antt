@@ -4,3 +4,4 @@ pub mod Every
 pub mod Position
 pub mod SoFar
 pub mod Tells
+pub mod Through
