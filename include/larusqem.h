@@ -17,7 +17,7 @@
  *
  * The functions are pure: they keep nothing, allocate nothing, read no locale, no time zone and no clock, and have no state of their own.
  * Any number of threads may call them at once, on arrays of their own. A call takes at most 40 KB of stack (2 KB by opened elements), and
- * it always returns; what takes longest, tens of milliseconds, is a reading that says ISO years or weeks and no year, month or day.
+ * it always returns. What takes longest is a reading by the plain engine, which examines up to 3,652,059 days one by one (see "Engines").
  *
  * The calendar is Gregorian from 0001-01-01 to 9999-12-31. The conversions of a format are
  *   %Y %C %y %m %b %h %B %d %e %j %u %w %a %A %U %W %G %g %V %H %k %I %l %p %P %M %S
@@ -52,7 +52,7 @@ extern "C" {
 #define LARUSQEM_WIDEST 25344
 /* the words of a moment and of a reading, for the functions on words */
 #define LARUSQEM_MOMENT_WORDS 6
-#define LARUSQEM_READING_WORDS 15
+#define LARUSQEM_READING_WORDS 16
 
 /* ---- Numbers that come back (RULES 3)
  *
@@ -72,9 +72,12 @@ extern "C" {
  *        differently
  *   9    no day or no hour agrees            1 day, 2 hour
  *   10   two or more agree                   1 day, 2 hour                                  the first two, earliest first
+ *   11   more days to examine than           the budget
+ *        the budget
  *
- * The writer judges 1, 2, 3, 4 in this order; the reader 1, 5, 3, then 6, 7, 8 from left to right, then 9 or 10 for the day, then for
- * the hour. Text left over is no refusal: a text was read whole only where the place is its length.
+ * The writer judges 1, 2, 3, 4 in this order; the reader 1, 5, 3, then 6, 7, 8 from left to right, then 11, 9 or 10 for the day, then 9
+ * or 10 for the hour. Text left over is no refusal: a text was read whole only where the place is its length. 11 comes only where a
+ * budget is given.
  */
 enum larusqem_number {
     LARUSQEM_DONE = 0,
@@ -87,7 +90,8 @@ enum larusqem_number {
     LARUSQEM_OUT_OF_RANGE = 7,
     LARUSQEM_CONTRADICTION = 8,
     LARUSQEM_NONE_AGREES = 9,
-    LARUSQEM_TWO_AGREE = 10
+    LARUSQEM_TWO_AGREE = 10,
+    LARUSQEM_OVER_BUDGET = 11
 };
 
 /* what a number means, for a message: words without a capital or a full stop */
@@ -116,6 +120,8 @@ static inline const char *larusqem_sentence(uint32_t number)
         return "no day or no hour agrees with all that is said";
     case LARUSQEM_TWO_AGREE:
         return "two or more days or hours agree with all that is said";
+    case LARUSQEM_OVER_BUDGET:
+        return "more days would have to be examined than the budget allows";
     default:
         return "no number of this library";
     }
@@ -159,6 +165,8 @@ struct larusqem_moment {
  *   other_year, other_month  0 0 0                          the second of the     0 0 0                   0 0 0
  *     and other_day                                         two days
  *   other_hour               0                              0                     the second hour         0
+ *   examined                 the days examined              the days examined     the days examined       9: the days examined;
+ *                                                                                                         11: the budget; else 0
  */
 struct larusqem_reading {
     uint32_t number;
@@ -176,24 +184,54 @@ struct larusqem_reading {
     uint32_t other_month;
     uint32_t other_day;
     uint32_t other_hour;
+    uint32_t examined;
+};
+
+/* ---- Engines (RULES 8.4)
+ *
+ * The day is looked for among all days of the calendar, up to the second that agrees. Both engines answer the same, shown days included;
+ * they differ in time, and in the days that they count as examined:
+ *   the skipping one   passes over what cannot agree. It counts the days of those months alone whose year and month agree with all that is
+ *                      said of year, century, year in century and month.
+ *   the plain one      examines each day in order, and counts them all.
+ * Each counts through the second day that agrees, and where there are not two through the last day, 9999-12-31; so the plain one counts
+ * 3,652,059 wherever one day agrees, or none. Where nothing that is said bears on the day, and where the reading is refused before the day
+ * is judged, no day is examined.
+ *
+ * The plain engine can be given a budget of days. If it is smaller than what the plain engine would count without one, the reading is
+ * refused by 11, with the budget as its place and in `examined`; otherwise the answer is as without a budget. So the time of a call has a
+ * bound of the caller's choice: "5 Mar", which is open, needs a budget of 429 days. A text that says one day needs the whole calendar,
+ * since no other day may agree. The skipping engine takes no budget.
+ */
+enum larusqem_engine {
+    LARUSQEM_SKIPPING = 0,
+    LARUSQEM_PLAIN = 1,
+    LARUSQEM_WITHIN = 2 /* the plain one with a budget */
+};
+
+/* how a text is read: by an engine of the enum (any other number is as LARUSQEM_WITHIN), and with a budget, which only WITHIN looks at */
+struct larusqem_options {
+    uint32_t engine;
+    uint32_t budget;
 };
 
 /* ---- The functions of the library, on words
  *
  * They are what is proved; the functions below hand them structs. As these they take a moment and leave a reading, as words in the order of
- * the members, all of which are written. A format is opened for reading by 0, and for writing by any other number. Every result is
- * number * 2^32 + place (larusqem_answer_of takes it apart). No pointer may be NULL.
+ * the members, all of which are written. A format is opened for reading by 0, and for writing by any other number. A text is read by the
+ * skipping engine by 0, by the plain one by 1, where the budget is not looked at, and by the plain one with the budget by any other number.
+ * Every result is number * 2^32 + place (larusqem_answer_of takes it apart). No pointer may be NULL.
  */
 uint64_t larusqem_strftime_words(const uint8_t *format, size_t format_length, const uint32_t moment[LARUSQEM_MOMENT_WORDS], uint8_t *out,
                                  size_t out_length);
-uint64_t larusqem_strptime_words(const uint8_t *format, size_t format_length, const uint8_t *text, size_t text_length,
-                                 uint32_t reading[LARUSQEM_READING_WORDS]);
+uint64_t larusqem_strptime_words(const uint8_t *format, size_t format_length, const uint8_t *text, size_t text_length, uint32_t engine,
+                                 uint32_t budget, uint32_t reading[LARUSQEM_READING_WORDS]);
 uint64_t larusqem_open_words(const uint8_t *format, size_t format_length, uint32_t for_writing, uint32_t *elements,
                              size_t elements_length);
 uint64_t larusqem_write_words(const uint32_t *elements, size_t elements_length, const uint32_t moment[LARUSQEM_MOMENT_WORDS], uint8_t *out,
                               size_t out_length);
-uint64_t larusqem_read_words(const uint32_t *elements, size_t elements_length, const uint8_t *text, size_t text_length,
-                             uint32_t reading[LARUSQEM_READING_WORDS]);
+uint64_t larusqem_read_words(const uint32_t *elements, size_t elements_length, const uint8_t *text, size_t text_length, uint32_t engine,
+                             uint32_t budget, uint32_t reading[LARUSQEM_READING_WORDS]);
 
 /* Each member is the word of its place, and nothing lies between or after them. All members are uint32_t, so the library reaches each of
    them by its own type, and a pointer to the struct serves as one to its words. */
@@ -231,6 +269,7 @@ LARUSQEM_WORD(larusqem_reading, 11, other_year);
 LARUSQEM_WORD(larusqem_reading, 12, other_month);
 LARUSQEM_WORD(larusqem_reading, 13, other_day);
 LARUSQEM_WORD(larusqem_reading, 14, other_hour);
+LARUSQEM_WORD(larusqem_reading, 15, examined);
 LARUSQEM_ASSERT(larusqem_reading_is_its_words, sizeof(struct larusqem_reading) == LARUSQEM_READING_WORDS * sizeof(uint32_t));
 
 #undef LARUSQEM_WORD
@@ -267,14 +306,24 @@ static inline struct larusqem_answer larusqem_strftime(const char *format, size_
                                                       out_length ? (uint8_t *)out : &none, out_length));
 }
 
-/* Reads a text by a format: the one day and hour that all that it says fits, or why there is none. Answers 0, 1, 3 or 5 to 10. */
-static inline struct larusqem_reading larusqem_strptime(const char *format, size_t format_length, const char *text, size_t text_length)
+/* Reads a text by a format and with options: the one day and hour that all that it says fits, or why there is none. Answers 0, 1, 3 or 5
+   to 11. */
+static inline struct larusqem_reading larusqem_strptime_with(const char *format, size_t format_length, const char *text,
+                                                             size_t text_length, struct larusqem_options options)
 {
     struct larusqem_reading reading;
 
     larusqem_strptime_words(larusqem_bytes(format, format_length), format_length, larusqem_bytes(text, text_length), text_length,
-                            (uint32_t *)&reading);
+                            options.engine, options.budget, (uint32_t *)&reading);
     return reading;
+}
+
+/* The same by the skipping engine. Answers 0, 1, 3 or 5 to 10. */
+static inline struct larusqem_reading larusqem_strptime(const char *format, size_t format_length, const char *text, size_t text_length)
+{
+    struct larusqem_options skipping = {LARUSQEM_SKIPPING, 0};
+
+    return larusqem_strptime_with(format, format_length, text, text_length, skipping);
 }
 
 /* ---- Formats opened once (RULES 10)
@@ -325,17 +374,26 @@ static inline struct larusqem_answer larusqem_write(const uint32_t *elements, si
 }
 
 /*
- * As larusqem_strptime, by elements that larusqem_open stored. Answers 0, 3 or 5 to 10: 5, then 3, then the others. 3 is for the first
+ * As larusqem_strptime_with, by elements that larusqem_open stored. Answers 0, 3 or 5 to 11: 5, then 3, then the others. 3 is for the first
  * entry that is no element for reading; its place is the p of an element that has a width or a flag, and otherwise the entry's index.
  */
-static inline struct larusqem_reading larusqem_read(const uint32_t *elements, size_t elements_length, const char *text, size_t text_length)
+static inline struct larusqem_reading larusqem_read_with(const uint32_t *elements, size_t elements_length, const char *text,
+                                                         size_t text_length, struct larusqem_options options)
 {
     struct larusqem_reading reading;
     uint32_t none = 0;
 
     larusqem_read_words(elements_length ? elements : &none, elements_length, larusqem_bytes(text, text_length), text_length,
-                        (uint32_t *)&reading);
+                        options.engine, options.budget, (uint32_t *)&reading);
     return reading;
+}
+
+/* The same by the skipping engine. Answers 0, 3 or 5 to 10. */
+static inline struct larusqem_reading larusqem_read(const uint32_t *elements, size_t elements_length, const char *text, size_t text_length)
+{
+    struct larusqem_options skipping = {LARUSQEM_SKIPPING, 0};
+
+    return larusqem_read_with(elements, elements_length, text, text_length, skipping);
 }
 
 /* ---- The calendar (RULES 2). The functions of a date answer 0 where the three are no date of the calendar. */

@@ -1,9 +1,10 @@
 #!/usr/bin/env python3
-"""Runs the readings and writings that docs/RULES.md shows: python3 tests/rules.py PROGRAM PREFIX
+"""Runs the readings, counts and writings that docs/RULES.md shows: python3 tests/rules.py PROGRAM PREFIX
 
 Each row of its tables of texts, formats and answers is run as a list of one text; the number, the place and, with 0, the date must be the
 program's. The input and the report of the section on the program must be what the program makes of it. Each row of its table of moments,
-formats and answers is run by the library that is installed under PREFIX; all of the buffer must be as the row says.
+formats and answers is run by the library that is installed under PREFIX; all of the buffer must be as the row says. Each row of its table
+of days examined is run there too, by both engines, and with the smallest budget that is enough and the largest that is not.
 """
 import ctypes
 import itertools
@@ -13,6 +14,7 @@ import subprocess
 import sys
 
 ROOT = os.path.dirname(os.path.dirname(os.path.abspath(__file__)))
+COUNTS = r"(?m)^\| `([^`|]*)` \| `([^`|]*)` \| (\d+) \| (\d+) \|"
 ROW = r"(?m)^\| (`[^|]*`|any text[^|`]*?)(?: \*)? \| (`[^|]*`|empty) \| (\d+), place (\d+)([^|\n]*)"
 BLANKS = {"": 0, "a blank and ": 1, "two blanks and ": 2, "three blanks and ": 3, "seven blanks and ": 7}
 
@@ -66,19 +68,40 @@ def writings(rules):
         yield from (((form, moment, room), given) for (moment, form), given in zip(asked, answers))
 
 
+def examined(library, form, text, engine, budget):
+    """The number, the place and the days examined."""
+    words = (ctypes.c_uint32 * 16)()
+    lengths = [ctypes.c_size_t(len(form)), ctypes.c_size_t(len(text))]
+    arguments = [form.encode(), lengths[0], text.encode(), lengths[1], ctypes.c_uint32(engine), ctypes.c_uint32(budget), words]
+    library.larusqem_strptime_words(*arguments)
+    return words[0], words[1], words[15]
+
+
+def counts(library, rules):
+    """A text, a format, an engine and a budget, each with what they shall give and what they give: numbers, places, days examined."""
+    for text, form, plain, skipping in re.findall(COUNTS, rules):
+        asked = [(form, text, *by) for by in [(0, 0), (1, 0), (2, int(plain))] + [(2, int(plain) - 1)] * (plain != "0")]
+        given = [examined(library, *each) for each in asked]
+        number, place, _ = given[0]
+        expected = [(number, place, int(n)) for n in [skipping, plain, plain]] + [(11, int(plain) - 1, int(plain) - 1)]
+        yield from zip(asked, expected, given)
+
+
 def main(program, prefix):
     with open(os.path.join(ROOT, "docs", "RULES.md"), encoding="utf-8") as file:
         rules = file.read()
     library = ctypes.CDLL(os.path.join(os.path.abspath(prefix), "lib", "liblarusqem.so"))
     library.larusqem_strftime_words.restype = ctypes.c_uint64
-    read, wrote = list(readings(rules)), list(writings(rules))
+    read, wrote, counted = list(readings(rules)), list(writings(rules)), list(counts(library, rules))
     wrong = [(text, expected, reported(program, text)) for text, expected in read]
-    wrong += [(asked, expected, written(library, *asked)) for asked, expected in wrote]
+    wrong += [(asked, expected, written(library, *asked)) for asked, expected in wrote] + counted
     wrong = [case for case in wrong if case[1] != case[2]]
     for asked, expected, got in wrong:
         print(f"docs/RULES.md says of\n{asked}\nthat the answer is\n{expected}\nand it is\n{got}")
-    print(f"{len(read)} readings and {len(wrote)} writings of docs/RULES.md tried, {len(wrong)} not as it says")
-    if len(read) != 1 + len(rows(rules, "| text | format | answer")) or not wrote:
+    print(f"{len(read)} readings, {len(counted)} counts and {len(wrote)} writings of docs/RULES.md tried, {len(wrong)} not as it says")
+    rows_read = len(rows(rules, "| text | format | answer")) == len(read) - 1
+    rows_counted = len(rows(rules, "| said | by")) == len(re.findall(COUNTS, rules))
+    if not (rows_read and rows_counted and wrote and counted):
         print("docs/RULES.md has a row of a text, a format and an answer that was not understood")
         return 1
     return 1 if wrong else 0

@@ -49,13 +49,13 @@ static struct larusqem_answer write_opened(const char *format, struct larusqem_m
 
 static void sentences(void)
 {
-    for (uint32_t a = 0; a <= LARUSQEM_TWO_AGREE + 1; a++) {
+    for (uint32_t a = 0; a <= LARUSQEM_OVER_BUDGET + 1; a++) {
         CHECK(larusqem_sentence(a)[0] != '\0');
         for (uint32_t b = 0; b < a; b++)
             CHECK(strcmp(larusqem_sentence(a), larusqem_sentence(b)) != 0);
     }
     CHECK(strcmp(larusqem_sentence(LARUSQEM_DONE), "done") == 0);
-    CHECK(strcmp(larusqem_sentence(UINT32_MAX), larusqem_sentence(LARUSQEM_TWO_AGREE + 1)) == 0);
+    CHECK(strcmp(larusqem_sentence(UINT32_MAX), larusqem_sentence(LARUSQEM_OVER_BUDGET + 1)) == 0);
 }
 
 static void writing(void)
@@ -192,57 +192,96 @@ static void limits(void)
     CHECK(i == LARUSQEM_WIDEST);
 }
 
-/* a text with the reading that its format shall give it, both ways and on words */
-static void reads(const char *format, const char *text, struct larusqem_reading expected, int line)
-{
-    size_t format_length = strlen(format), text_length = strlen(text);
-    struct larusqem_reading anew = larusqem_strptime(format, format_length, text, text_length), opened;
-    struct larusqem_answer answer = larusqem_open(format, format_length, LARUSQEM_FOR_READING, elements, LARUSQEM_ELEMENTS);
-    uint32_t words[LARUSQEM_READING_WORDS];
-
-    check(memcmp(&anew, &expected, sizeof expected) == 0, text, line);
-    larusqem_strptime_words((const uint8_t *)format, format_length, (const uint8_t *)text, text_length, words);
-    check(memcmp(words, &expected, sizeof expected) == 0, text, line);
-    if (answer.number != LARUSQEM_DONE)
-        return;
-    opened = larusqem_read(elements, answer.place, text, text_length);
-    check(memcmp(&opened, &expected, sizeof expected) == 0, text, line);
-}
-
-static struct larusqem_reading refusal(uint32_t number, uint32_t place)
+static struct larusqem_reading refusal(uint32_t number, uint32_t place, uint32_t examined)
 {
     struct larusqem_reading r;
 
     memset(&r, 0, sizeof r);
     r.number = number;
     r.place = place;
+    r.examined = examined;
     return r;
+}
+
+/* a text with the reading that its format shall give it with some options, both ways and on words */
+static void reads_by(struct larusqem_options options, const char *format, const char *text, struct larusqem_reading expected, int line)
+{
+    size_t format_length = strlen(format), text_length = strlen(text);
+    struct larusqem_reading anew = larusqem_strptime_with(format, format_length, text, text_length, options), opened;
+    struct larusqem_answer answer = larusqem_open(format, format_length, LARUSQEM_FOR_READING, elements, LARUSQEM_ELEMENTS);
+    uint32_t words[LARUSQEM_READING_WORDS];
+
+    check(memcmp(&anew, &expected, sizeof expected) == 0, text, line);
+    larusqem_strptime_words((const uint8_t *)format, format_length, (const uint8_t *)text, text_length, options.engine, options.budget,
+                            words);
+    check(memcmp(words, &expected, sizeof expected) == 0, text, line);
+    if (answer.number != LARUSQEM_DONE)
+        return;
+    opened = larusqem_read_with(elements, answer.place, text, text_length, options);
+    check(memcmp(&opened, &expected, sizeof expected) == 0, text, line);
+    if (options.engine != LARUSQEM_SKIPPING)
+        return;
+    anew = larusqem_strptime(format, format_length, text, text_length);
+    opened = larusqem_read(elements, answer.place, text, text_length);
+    check(memcmp(&anew, &expected, sizeof expected) == 0 && memcmp(&opened, &expected, sizeof expected) == 0, text, line);
+}
+
+/* the same by every engine: by the plain one with its own count of days, which is also the smallest budget that is enough */
+static void reads(const char *format, const char *text, struct larusqem_reading expected, uint32_t plain_count, int line)
+{
+    struct larusqem_options options = {LARUSQEM_SKIPPING, 0};
+
+    reads_by(options, format, text, expected, line);
+    expected.examined = plain_count;
+    options.engine = LARUSQEM_PLAIN;
+    reads_by(options, format, text, expected, line);
+    options.engine = LARUSQEM_WITHIN;
+    options.budget = plain_count;
+    reads_by(options, format, text, expected, line);
+    options.engine = UINT32_MAX;
+    options.budget = plain_count + 1;
+    reads_by(options, format, text, expected, line);
+    if (plain_count == 0)
+        return;
+    options.budget = plain_count - 1;
+    reads_by(options, format, text, refusal(LARUSQEM_OVER_BUDGET, plain_count - 1, plain_count - 1), line);
+    options.engine = LARUSQEM_WITHIN;
+    options.budget = 0;
+    reads_by(options, format, text, refusal(LARUSQEM_OVER_BUDGET, 0, 0), line);
 }
 
 static void reading(void)
 {
-    static const struct larusqem_reading whole = {0, 24, 1934, 3, 5, 1, 7, 1, 8, 1, 9, 0, 0, 0, 0};
-    static const struct larusqem_reading minute = {0, 2, 0, 0, 0, 0, 0, 1, 8, 0, 0, 0, 0, 0, 0};
-    static const struct larusqem_reading ten_bytes = {0, 10, 1934, 3, 5, 0, 0, 0, 0, 0, 0, 0, 0, 0, 0};
-    static const struct larusqem_reading twelve_bytes = {0, 12, 1934, 3, 5, 0, 0, 0, 0, 0, 0, 0, 0, 0, 0};
-    static const struct larusqem_reading two_days = {10, 1, 1, 3, 5, 0, 0, 0, 0, 0, 0, 2, 3, 5, 0};
-    static const struct larusqem_reading two_hours = {10, 2, 0, 0, 0, 0, 7, 0, 0, 0, 0, 0, 0, 0, 19};
+    static const uint32_t all = 3652059;
+    static const struct larusqem_reading whole = {0, 24, 1934, 3, 5, 1, 7, 1, 8, 1, 9, 0, 0, 0, 0, 31};
+    static const struct larusqem_reading minute = {0, 2, 0, 0, 0, 0, 0, 1, 8, 0, 0, 0, 0, 0, 0, 0};
+    static const struct larusqem_reading ten_bytes = {0, 10, 1934, 3, 5, 0, 0, 0, 0, 0, 0, 0, 0, 0, 0, 31};
+    static const struct larusqem_reading twelve_bytes = {0, 12, 1934, 3, 5, 0, 0, 0, 0, 0, 0, 0, 0, 0, 0, 31};
+    static const struct larusqem_reading friday = {0, 9, 2010, 1, 1, 0, 0, 0, 0, 0, 0, 0, 0, 0, 0, 3652059};
+    static const struct larusqem_reading two_days = {10, 1, 1, 3, 5, 0, 0, 0, 0, 0, 0, 2, 3, 5, 0, 36};
+    static const struct larusqem_reading two_hours = {10, 2, 0, 0, 0, 0, 7, 0, 0, 0, 0, 0, 0, 0, 19, 31};
+    static const struct larusqem_reading two_hours_alone = {10, 2, 0, 0, 0, 0, 7, 0, 0, 0, 0, 0, 0, 0, 19, 0};
     struct larusqem_reading r;
 
-    reads("%c", "Mon Mar  5 07:08:09 1934", whole, __LINE__);
-    reads("%M", "08", minute, __LINE__);
-    reads("%d %b %Y", "5 Mar 19345", ten_bytes, __LINE__);
-    reads("%d %b %Y%n", "5 Mar 1934\r\n", twelve_bytes, __LINE__);
-    reads("%d\v%b\f%Y\r", "5 Mar 1934", ten_bytes, __LINE__);
-    reads("%d %Q", "5", refusal(LARUSQEM_BAD_CONVERSION, 3), __LINE__);
-    reads("%d %b", "5 Mai", refusal(LARUSQEM_NO_MATCH, 2), __LINE__);
-    reads("%H%M", "930", refusal(LARUSQEM_OUT_OF_RANGE, 0), __LINE__);
-    reads("%d %e", "5 6", refusal(LARUSQEM_CONTRADICTION, 2), __LINE__);
-    reads("%a %d %b %Y", "Tue 5 Mar 1934", refusal(LARUSQEM_NONE_AGREES, 1), __LINE__);
-    reads("%H %p", "7 PM", refusal(LARUSQEM_NONE_AGREES, 2), __LINE__);
-    reads("%d %b", "5 mar", two_days, __LINE__);
-    reads("%d %b %Y %I", "5 Mar 1934 07", two_hours, __LINE__);
+    reads("%c", "Mon Mar  5 07:08:09 1934", whole, all, __LINE__);
+    reads("%M", "08", minute, 0, __LINE__);
+    reads("%d %b %Y", "5 Mar 19345", ten_bytes, all, __LINE__);
+    reads("%d %b %Y%n", "5 Mar 1934\r\n", twelve_bytes, all, __LINE__);
+    reads("%d\v%b\f%Y\r", "5 Mar 1934", ten_bytes, all, __LINE__);
+    reads("%G %V %u", "2009 53 5", friday, all, __LINE__);
+    reads("%d %Q", "5", refusal(LARUSQEM_BAD_CONVERSION, 3, 0), 0, __LINE__);
+    reads("%d %b", "5 Mai", refusal(LARUSQEM_NO_MATCH, 2, 0), 0, __LINE__);
+    reads("%H%M", "930", refusal(LARUSQEM_OUT_OF_RANGE, 0, 0), 0, __LINE__);
+    reads("%d %e", "5 6", refusal(LARUSQEM_CONTRADICTION, 2, 0), 0, __LINE__);
+    reads("%a %d %b %Y", "Tue 5 Mar 1934", refusal(LARUSQEM_NONE_AGREES, 1, 31), all, __LINE__);
+    reads("%C %y", "00 00", refusal(LARUSQEM_NONE_AGREES, 1, 0), all, __LINE__);
+    reads("%H %p", "7 PM", refusal(LARUSQEM_NONE_AGREES, 2, 0), 0, __LINE__);
+    reads("%d %b %Y %H %p", "5 Mar 1934 7 PM", refusal(LARUSQEM_NONE_AGREES, 2, 31), all, __LINE__);
+    reads("%d %b", "5 mar", two_days, 429, __LINE__);
+    reads("%d %b %Y %I", "5 Mar 1934 07", two_hours, all, __LINE__);
+    reads("%I:%M", "07:08", two_hours_alone, 0, __LINE__);
     CHECK(two_days.other_year == 2 && two_days.other_month == 3 && two_days.other_day == 5 && two_hours.other_hour == 19);
+    CHECK(two_days.examined == 36 && all == larusqem_days());
 
     r = larusqem_strptime(longer, sizeof longer, "5", 1);
     CHECK(r.number == LARUSQEM_FORMAT_TOO_LONG && r.place == 0);

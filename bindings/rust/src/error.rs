@@ -211,25 +211,26 @@ impl From<FormatError> for WriteError {
     }
 }
 
-/// Why a text is not read. Judged are 1, 5, 3, then 6, 7 and 8 from left to right, then 9 or 10 for the day, then 9 or 10 for the hour.
+/// Why a text is not read. Judged are 1, 5, 3, then 6, 7 and 8 from left to right, then 11, 9 or 10 for the day, then 9 or 10 for the hour.
 ///
 /// ```
-/// use larusqem::{strptime, Date, FormatError, ReadError};
+/// use larusqem::{strptime, strptime_with, Date, Engine, FormatError, ReadError};
 ///
 /// assert_eq!(strptime("%d %Q", "5 x"), Err(ReadError::Format(FormatError::BadConversion { offset: 3 })));
 /// assert_eq!(strptime("%F", "1934-March"), Err(ReadError::NoMatch { offset: 5 }));
 /// assert_eq!(strptime("%H%M", "930"), Err(ReadError::OutOfRange { offset: 0 }));
 /// assert_eq!(strptime("%d %e", "5 6"), Err(ReadError::Contradiction { offset: 2 }));
-/// assert_eq!(strptime("%G %V %u", "2016 53 7"), Err(ReadError::NoDay));
-/// assert_eq!(strptime("%H %p", "7 PM"), Err(ReadError::NoHour));
+/// assert_eq!(strptime("%a %d %b %Y", "Tue 5 Mar 1934"), Err(ReadError::NoDay { examined: 31 }));
+/// assert_eq!(strptime("%H %p", "7 PM"), Err(ReadError::NoHour { examined: 0 }));
 /// assert_eq!(
 ///     strptime("%d %b", "5 mar"),
-///     Err(ReadError::TwoDays { first: Date::new(1, 3, 5).unwrap(), second: Date::new(2, 3, 5).unwrap() })
+///     Err(ReadError::TwoDays { first: Date::new(1, 3, 5).unwrap(), second: Date::new(2, 3, 5).unwrap(), examined: 36 })
 /// );
-/// assert_eq!(strptime("%I:%M", "07:08"), Err(ReadError::TwoHours { first: 7, second: 19 }));
+/// assert_eq!(strptime("%I:%M", "07:08"), Err(ReadError::TwoHours { first: 7, second: 19, examined: 0 }));
+/// assert_eq!(strptime_with("%F", "1934-03-05", Engine::Within(1000)), Err(ReadError::OverBudget { budget: 1000 }));
 ///
 /// let refusal = strptime("%I:%M", "07:08").unwrap_err();
-/// assert_eq!((refusal.number(), refusal.place()), (10, 2));
+/// assert_eq!((refusal.number(), refusal.place(), refusal.examined()), (10, 2, 0));
 /// ```
 #[derive(Clone, Copy, PartialEq, Eq, Hash, Debug)]
 #[non_exhaustive]
@@ -254,15 +255,23 @@ pub enum ReadError {
         offset: usize,
     },
     /// 9, place 1: no day fits all that is said.
-    NoDay,
+    NoDay {
+        /// How many days were examined.
+        examined: u32,
+    },
     /// 9, place 2: no hour fits all that is said.
-    NoHour,
+    NoHour {
+        /// How many days were examined.
+        examined: u32,
+    },
     /// 10, place 1: two or more days fit.
     TwoDays {
         /// The earliest.
         first: Date,
         /// The next.
         second: Date,
+        /// How many days were examined.
+        examined: u32,
     },
     /// 10, place 2: two or more hours fit.
     TwoHours {
@@ -270,6 +279,13 @@ pub enum ReadError {
         first: u32,
         /// The next.
         second: u32,
+        /// How many days were examined.
+        examined: u32,
+    },
+    /// 11: more days would have to be examined than the budget allows. Only [`Engine::Within`](crate::Engine::Within) has one.
+    OverBudget {
+        /// The budget, and how many days were examined.
+        budget: u32,
     },
 }
 
@@ -282,8 +298,9 @@ impl ReadError {
             ReadError::NoMatch { .. } => 6,
             ReadError::OutOfRange { .. } => 7,
             ReadError::Contradiction { .. } => 8,
-            ReadError::NoDay | ReadError::NoHour => 9,
+            ReadError::NoDay { .. } | ReadError::NoHour { .. } => 9,
             ReadError::TwoDays { .. } | ReadError::TwoHours { .. } => 10,
+            ReadError::OverBudget { .. } => 11,
         }
     }
 
@@ -293,8 +310,20 @@ impl ReadError {
             ReadError::Format(error) => error.place(),
             ReadError::TextTooLong => 0,
             ReadError::NoMatch { offset } | ReadError::OutOfRange { offset } | ReadError::Contradiction { offset } => offset,
-            ReadError::NoDay | ReadError::TwoDays { .. } => 1,
-            ReadError::NoHour | ReadError::TwoHours { .. } => 2,
+            ReadError::NoDay { .. } | ReadError::TwoDays { .. } => 1,
+            ReadError::NoHour { .. } | ReadError::TwoHours { .. } => 2,
+            ReadError::OverBudget { budget } => budget as usize,
+        }
+    }
+
+    /// How many days were examined: none where the text was refused before its day was judged.
+    pub fn examined(&self) -> u32 {
+        match *self {
+            ReadError::Format(_) | ReadError::TextTooLong => 0,
+            ReadError::NoMatch { .. } | ReadError::OutOfRange { .. } | ReadError::Contradiction { .. } => 0,
+            ReadError::NoDay { examined } | ReadError::NoHour { examined } => examined,
+            ReadError::TwoDays { examined, .. } | ReadError::TwoHours { examined, .. } => examined,
+            ReadError::OverBudget { budget } => budget,
         }
     }
 }
@@ -307,10 +336,11 @@ impl fmt::Display for ReadError {
             ReadError::NoMatch { offset } => write!(f, "the text does not match the format at byte {offset}"),
             ReadError::OutOfRange { offset } => write!(f, "the number at byte {offset} of the text is outside its range"),
             ReadError::Contradiction { offset } => write!(f, "what stands at byte {offset} of the text was said before, differently"),
-            ReadError::NoDay => write!(f, "no day fits all that the text says"),
-            ReadError::NoHour => write!(f, "no hour fits all that the text says"),
-            ReadError::TwoDays { first, second } => write!(f, "two or more days fit what the text says: {first}, {second}"),
-            ReadError::TwoHours { first, second } => write!(f, "two or more hours fit what the text says: {first}, {second}"),
+            ReadError::NoDay { .. } => write!(f, "no day fits all that the text says"),
+            ReadError::NoHour { .. } => write!(f, "no hour fits all that the text says"),
+            ReadError::TwoDays { first, second, .. } => write!(f, "two or more days fit what the text says: {first}, {second}"),
+            ReadError::TwoHours { first, second, .. } => write!(f, "two or more hours fit what the text says: {first}, {second}"),
+            ReadError::OverBudget { budget } => write!(f, "more days would have to be examined than the budget of {budget}"),
         }
     }
 }

@@ -1,11 +1,12 @@
 //! The proved C functions (RULES 10), each behind a safe function on slices. All `unsafe` code of the crate is here: a call hands over
 //! pointers with their true lengths, and Rust's borrows keep the written slice apart from the others; nothing else is asked of a caller.
+use crate::engine::Engine;
 
 /// Year, month, day, hour, minute, second.
 pub type MomentWords = [u32; 6];
 
-/// Number, place, the day, said and number of hour, minute and second, the other day, the other hour.
-pub type ReadingWords = [u32; 15];
+/// Number, place, the day, said and number of hour, minute and second, the other day, the other hour, the days examined.
+pub type ReadingWords = [u32; 16];
 
 /// What a format is opened for: flags and widths are taken for writing, and refused for reading.
 #[derive(Clone, Copy)]
@@ -30,6 +31,8 @@ mod c {
             format_length: usize,
             text: *const u8,
             text_length: usize,
+            engine: u32,
+            budget: u32,
             reading: *mut ReadingWords,
         ) -> u64;
         pub fn larusqem_open_words(
@@ -51,6 +54,8 @@ mod c {
             elements_length: usize,
             text: *const u8,
             text_length: usize,
+            engine: u32,
+            budget: u32,
             reading: *mut ReadingWords,
         ) -> u64;
         #[cfg(test)]
@@ -74,10 +79,11 @@ pub fn strftime(format: &[u8], moment: &MomentWords, out: &mut [u8]) -> (u32, us
     split(unsafe { c::larusqem_strftime_words(format.as_ptr(), format.len(), moment, out.as_mut_ptr(), out.len()) })
 }
 
-pub fn strptime(format: &[u8], text: &[u8]) -> ReadingWords {
-    let mut reading = [0; 15];
+pub fn strptime(format: &[u8], text: &[u8], engine: Engine) -> ReadingWords {
+    let (engine, budget) = engine.numbers();
+    let mut reading = [0; 16];
     unsafe {
-        c::larusqem_strptime_words(format.as_ptr(), format.len(), text.as_ptr(), text.len(), &mut reading);
+        c::larusqem_strptime_words(format.as_ptr(), format.len(), text.as_ptr(), text.len(), engine, budget, &mut reading);
     }
     reading
 }
@@ -90,10 +96,11 @@ pub fn write(elements: &[u32], moment: &MomentWords, out: &mut [u8]) -> (u32, us
     split(unsafe { c::larusqem_write_words(elements.as_ptr(), elements.len(), moment, out.as_mut_ptr(), out.len()) })
 }
 
-pub fn read(elements: &[u32], text: &[u8]) -> ReadingWords {
-    let mut reading = [0; 15];
+pub fn read(elements: &[u32], text: &[u8], engine: Engine) -> ReadingWords {
+    let (engine, budget) = engine.numbers();
+    let mut reading = [0; 16];
     unsafe {
-        c::larusqem_read_words(elements.as_ptr(), elements.len(), text.as_ptr(), text.len(), &mut reading);
+        c::larusqem_read_words(elements.as_ptr(), elements.len(), text.as_ptr(), text.len(), engine, budget, &mut reading);
     }
     reading
 }

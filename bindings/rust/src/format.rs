@@ -1,4 +1,5 @@
 //! Formats that are opened once.
+use crate::engine::Engine;
 use crate::error::{FormatError, ReadError, WriteError};
 use crate::ffi;
 use crate::moment::Moment;
@@ -132,7 +133,21 @@ impl Format {
     /// assert!(!format.read(text).unwrap().is_whole(text));
     /// ```
     pub fn read(&self, text: impl AsRef<[u8]>) -> Result<Reading, ReadError> {
-        Reading::from_words(ffi::read(&self.elements.0, text.as_ref()))
+        self.read_with(text, Engine::Skipping)
+    }
+
+    /// The same by an engine.
+    ///
+    /// ```
+    /// use larusqem::{Engine, Format, ReadError};
+    ///
+    /// let format = Format::new("%d %b").unwrap();
+    /// let within = |budget| format.read_with("5 Mar", Engine::Within(budget)).unwrap_err();
+    /// assert_eq!(within(400), ReadError::OverBudget { budget: 400 });
+    /// assert_eq!((within(500).number(), within(500).examined()), (10, 429));
+    /// ```
+    pub fn read_with(&self, text: impl AsRef<[u8]>, engine: Engine) -> Result<Reading, ReadError> {
+        Reading::from_words(ffi::read(&self.elements.0, text.as_ref(), engine))
     }
 }
 

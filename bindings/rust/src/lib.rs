@@ -19,7 +19,7 @@
 //! assert_eq!(&text[reading.unread..], " in the margin");
 //!
 //! // 5 March 1934 was no Tuesday
-//! assert_eq!(format.read("Tue 5 Mar 1934 07:08"), Err(ReadError::NoDay));
+//! assert!(matches!(format.read("Tue 5 Mar 1934 07:08"), Err(ReadError::NoDay { .. })));
 //! ```
 //!
 //! # Read loosely has a price
@@ -57,6 +57,12 @@
 //! A [`WriteFormat`] takes them, and so does [`strftime`]: `%-d` writes no zero in front, `%_3d` fills to three places with blanks, `%^a`
 //! writes capitals. A [`Format`], which also reads, refuses them, and so does [`strptime`].
 //!
+//! # Engines
+//!
+//! The day is looked for by an [`Engine`]: one that passes over what cannot fit, or a plain one that examines day after day. Both give the
+//! same answer, and tell how many days they examined. The plain one can be given a budget of days; where that is too small, the reading is
+//! refused. [`strptime`] and [`Format::read`] skip; [`strptime_with`] and [`Format::read_with`] take an engine.
+//!
 //! # What is proved
 //!
 //! The C functions of the repository's library. This crate gives them types, and is tested. A [`Date`] or a [`Moment`] that exists is
@@ -74,6 +80,7 @@ extern crate alloc;
 extern crate std;
 
 mod date;
+mod engine;
 mod error;
 #[allow(unsafe_code)]
 mod ffi;
@@ -83,6 +90,7 @@ mod reading;
 mod shape;
 
 pub use date::{Date, Weekday};
+pub use engine::Engine;
 pub use error::{Field, FieldError, FormatError, ParseError, ReadError, WriteError};
 pub use format::{Format, WriteFormat};
 pub use moment::Moment;
@@ -124,7 +132,21 @@ pub fn strftime(format: impl AsRef<[u8]>, moment: Moment, out: &mut [u8]) -> Res
 /// assert!(!reading.is_whole(text));
 /// ```
 pub fn strptime(format: impl AsRef<[u8]>, text: impl AsRef<[u8]>) -> Result<Reading, ReadError> {
-    Reading::from_words(ffi::strptime(format.as_ref(), text.as_ref()))
+    strptime_with(format, text, Engine::Skipping)
+}
+
+/// The same by an engine.
+///
+/// ```
+/// use larusqem::{strptime_with, Engine, ReadError};
+///
+/// let read = |engine| strptime_with("%d %b %Y", "5 Mar 1934", engine);
+/// assert_eq!(read(Engine::Within(1000)), Err(ReadError::OverBudget { budget: 1000 }));
+/// assert_eq!(read(Engine::Skipping).unwrap().to_string(), "1934-03-05 --:--:--");
+/// assert_eq!(read(Engine::Skipping).unwrap().examined, 31);
+/// ```
+pub fn strptime_with(format: impl AsRef<[u8]>, text: impl AsRef<[u8]>, engine: Engine) -> Result<Reading, ReadError> {
+    Reading::from_words(ffi::strptime(format.as_ref(), text.as_ref(), engine))
 }
 
 /// The version of the library that is linked: major, minor, patch.

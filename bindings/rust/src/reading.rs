@@ -22,6 +22,8 @@ pub struct Reading {
     pub minute: Option<u32>,
     /// The second, 0 to 60, where it was said.
     pub second: Option<u32>,
+    /// How many days the [`Engine`](crate::Engine) examined for it.
+    pub examined: u32,
 }
 
 impl Reading {
@@ -56,7 +58,7 @@ impl Reading {
     /// What the words of a reading say.
     pub(crate) fn from_words(words: ffi::ReadingWords) -> Result<Reading, ReadError> {
         let [number, place, year, month, day, hour_said, hour, minute_said, minute, second_said, second, ..] = words;
-        let [.., other_year, other_month, other_day, other_hour] = words;
+        let [.., other_year, other_month, other_day, other_hour, examined] = words;
         let offset = place as usize;
         let said = |said: u32, number: u32| (said == 1).then_some(number);
         Err(match (number, place) {
@@ -67,6 +69,7 @@ impl Reading {
                     hour: said(hour_said, hour),
                     minute: said(minute_said, minute),
                     second: said(second_said, second),
+                    examined,
                 })
             }
             (1, _) => ReadError::Format(FormatError::TooLong),
@@ -75,10 +78,14 @@ impl Reading {
             (6, _) => ReadError::NoMatch { offset },
             (7, _) => ReadError::OutOfRange { offset },
             (8, _) => ReadError::Contradiction { offset },
-            (9, 1) => ReadError::NoDay,
-            (9, _) => ReadError::NoHour,
-            (10, 1) => ReadError::TwoDays { first: Date::known(year, month, day), second: Date::known(other_year, other_month, other_day) },
-            (10, _) => ReadError::TwoHours { first: hour, second: other_hour },
+            (9, 1) => ReadError::NoDay { examined },
+            (9, _) => ReadError::NoHour { examined },
+            (10, 1) => {
+                let second = Date::known(other_year, other_month, other_day);
+                ReadError::TwoDays { first: Date::known(year, month, day), second, examined }
+            }
+            (10, _) => ReadError::TwoHours { first: hour, second: other_hour, examined },
+            (11, budget) => ReadError::OverBudget { budget },
             _ => unreachable!("the reader answers no number {number}"),
         })
     }

@@ -1,6 +1,6 @@
-//! Worked cases through the Rust types, by a format that is opened once and by one that is not.
-use larusqem::{strftime, strptime, Date, Field, Format, FormatError, Moment, ParseError, ReadError, Reading, Weekday, WriteError};
-use larusqem::{WriteFormat, LONGEST_WRITING};
+//! Worked cases through the Rust types, by a format that is opened once and by one that is not; readings by every engine.
+use larusqem::{strftime, strptime, strptime_with, Date, Engine, Field, Format, FormatError, Moment, ParseError, ReadError, Reading};
+use larusqem::{Weekday, WriteError, WriteFormat, LONGEST_WRITING};
 
 fn date(year: u32, month: u32, day: u32) -> Date {
     Date::new(year, month, day).unwrap()
@@ -35,10 +35,48 @@ fn write_styled(format: &str, m: Moment) -> String {
     text
 }
 
+/// By the engine that skips; the plain one answers the same but for its count, and with a budget that is enough what it answers without.
 fn read(format: &str, text: &str) -> Result<Reading, ReadError> {
-    let answer = strptime(format, text);
+    let answer = read_by(Engine::Skipping, format, text);
+    assert_eq!(strptime(format, text), answer);
     assert_eq!(Format::new(format).unwrap().read(text), answer);
+    let plain = read_by(Engine::Plain, format, text);
+    assert_eq!(uncounted(plain), uncounted(answer));
+    let count = examined(plain);
+    for budget in [count, count + 1, u32::MAX] {
+        assert_eq!(read_by(Engine::Within(budget), format, text), plain);
+    }
+    for budget in [0, 1, count / 2, count.saturating_sub(1)] {
+        let refused = if budget < count { Err(ReadError::OverBudget { budget }) } else { plain };
+        assert_eq!(read_by(Engine::Within(budget), format, text), refused);
+    }
     answer
+}
+
+fn read_by(engine: Engine, format: &str, text: &str) -> Result<Reading, ReadError> {
+    let answer = strptime_with(format, text, engine);
+    assert_eq!(Format::new(format).unwrap().read_with(text, engine), answer);
+    answer
+}
+
+fn examined(answer: Result<Reading, ReadError>) -> u32 {
+    answer.map_or_else(|refused| refused.examined(), |reading| reading.examined)
+}
+
+/// An answer without the count of days.
+fn uncounted(answer: Result<Reading, ReadError>) -> Result<Reading, ReadError> {
+    let examined = 0;
+    match answer {
+        Ok(mut reading) => {
+            reading.examined = examined;
+            Ok(reading)
+        }
+        Err(ReadError::NoDay { .. }) => Err(ReadError::NoDay { examined }),
+        Err(ReadError::NoHour { .. }) => Err(ReadError::NoHour { examined }),
+        Err(ReadError::TwoDays { first, second, .. }) => Err(ReadError::TwoDays { first, second, examined }),
+        Err(ReadError::TwoHours { first, second, .. }) => Err(ReadError::TwoHours { first, second, examined }),
+        other => other,
+    }
 }
 
 #[test]
@@ -185,17 +223,55 @@ fn whole_readings() {
 
 #[test]
 fn refused_reading() {
-    assert_eq!(read("%G %V %u", "2016 53 7"), Err(ReadError::NoDay));
-    assert_eq!(read("%a %d %b %Y", "Tue 5 Mar 1934"), Err(ReadError::NoDay));
-    assert_eq!(read("%C %y", "00 00"), Err(ReadError::NoDay));
-    assert_eq!(read("%d %b %Y %I", "5 Mar 1934 07"), Err(ReadError::TwoHours { first: 7, second: 19 }));
-    assert_eq!(read("%d %b", "5 mar"), Err(ReadError::TwoDays { first: date(1, 3, 5), second: date(2, 3, 5) }));
+    assert_eq!(read("%G %V %u", "2016 53 7"), Err(ReadError::NoDay { examined: Date::DAYS }));
+    assert_eq!(read("%a %d %b %Y", "Tue 5 Mar 1934"), Err(ReadError::NoDay { examined: 31 }));
+    assert_eq!(read("%C %y", "00 00"), Err(ReadError::NoDay { examined: 0 }));
+    assert_eq!(read("%d %b %Y %I", "5 Mar 1934 07"), Err(ReadError::TwoHours { first: 7, second: 19, examined: 31 }));
+    assert_eq!(read("%d %b", "5 mar"), Err(ReadError::TwoDays { first: date(1, 3, 5), second: date(2, 3, 5), examined: 36 }));
     assert_eq!(read("%H%M", "930"), Err(ReadError::OutOfRange { offset: 0 }));
     assert_eq!(read("%d %e", "5 6"), Err(ReadError::Contradiction { offset: 2 }));
-    assert_eq!(read("%H %p", "7 PM"), Err(ReadError::NoHour));
+    assert_eq!(read("%H %p", "7 PM"), Err(ReadError::NoHour { examined: 0 }));
     assert_eq!(strptime("%5Y", "x"), Err(ReadError::Format(FormatError::BadConversion { offset: 0 })));
     assert_eq!(strptime("%5Y", vec![b'x'; 1025]), Err(ReadError::TextTooLong));
     assert_eq!(strptime(vec![b'x'; 1025], "x"), Err(ReadError::Format(FormatError::TooLong)));
+}
+
+#[test]
+fn days_examined() {
+    assert_eq!(Engine::default(), Engine::Skipping);
+    let years_34 = 100; // 0034 to 9934
+    for (format, text, plain, skipping) in [
+        ("%d %b %Y", "5 Mar 1934", Date::DAYS, 31),
+        ("%Y %j", "1934 64", Date::DAYS, 365),
+        ("%Y", "1934", date(1934, 1, 2).day_number(), 2),
+        ("%d %b", "5 mar", date(2, 3, 5).day_number(), 31 + 5),
+        ("%d %b %y", "5 Mar 34", date(134, 3, 5).day_number(), 31 + 5),
+        ("%d %b %y", "30 Feb 34", Date::DAYS, 28 * years_34),
+        ("%d %b", "30 Feb", Date::DAYS, 28 * 9999 + 2424),
+        ("%C %m", "99 12", date(9900, 12, 2).day_number(), 2),
+        ("%G %V %u", "2009 53 5", Date::DAYS, Date::DAYS),
+        ("%a", "Mon", 8, 8),
+        ("%C %y", "00 00", Date::DAYS, 0),
+        ("%C %Y", "18 1934", Date::DAYS, 0),
+        ("%H:%M", "7:08", 0, 0),
+        ("%H%M", "930", 0, 0),
+        ("", "", 0, 0),
+    ] {
+        assert_eq!(examined(read(format, text)), skipping, "{format} {text}");
+        assert_eq!(examined(read_by(Engine::Plain, format, text)), plain, "{format} {text}");
+    }
+}
+
+#[test]
+fn over_budget() {
+    let refused = read_by(Engine::Within(1000), "%d %b %Y %I", "5 Mar 1934 07").unwrap_err();
+    assert_eq!((refused.number(), refused.place(), refused.examined()), (11, 1000, 1000));
+    assert_eq!(refused.to_string(), "more days would have to be examined than the budget of 1000");
+    let early = |format: &str, text: &str| read_by(Engine::Within(0), format, text);
+    assert_eq!(early("%d %b %Y", "5 Mai 1934"), Err(ReadError::NoMatch { offset: 2 }));
+    assert_eq!(early("%d %e", "5 6"), Err(ReadError::Contradiction { offset: 2 }));
+    assert_eq!(early("%H", "7").unwrap().hour, Some(7));
+    assert_eq!(early("%I", "7"), Err(ReadError::TwoHours { first: 7, second: 19, examined: 0 }));
 }
 
 #[test]
@@ -279,7 +355,7 @@ fn errors_have_sources() {
     assert_eq!(source(&strptime("%Q", "").unwrap_err()), unknown);
     assert_eq!(source(&strftime("%Q", Moment::midnight(Date::FIRST), &mut []).unwrap_err()), unknown);
     assert_eq!(source(&"1934-13-01".parse::<Date>().unwrap_err()), Some("the month is not 1 to 12".to_string()));
-    assert_eq!(source(&ReadError::NoDay), None);
+    assert_eq!(source(&ReadError::NoDay { examined: 31 }), None);
     let field: &dyn Error = &Date::new(0, 1, 1).unwrap_err();
     assert!(field.downcast_ref::<larusqem::FieldError>().is_some() && field.source().is_none());
 }
