@@ -1,14 +1,15 @@
 //! Vectors for the reader: the input of the program read_cases, and what it must write.
 //!
 //! The input is pairs of lines: a format, and a text, each its own bytes up to the newline. A line of the output is
-//! `number place date hour minute second | shown`: what is unsaid is -, and shown has the first two days or hours of number 10.
+//! `number place date hour minute second | shown examined`: what is unsaid is -, shown has the first two days or hours of number 10 or is
+//! empty, and the last is how many days the skipping engine examined.
 //!
 //! Texts that the C library's strftime wrote for a known moment must moreover be read as that moment, where the format names one day and
 //! one hour.
 use crate::{cat, Counts};
 use compare::c_library;
 use compare::random::Random;
-use compare::rules::{numeric, read, write, Calendar, Moment, Reading, HALVES, MONTHS, WEEKDAYS};
+use compare::rules::{self, numeric, write, Calendar, Engine, Moment, Reading, HALVES, MONTHS, WEEKDAYS};
 use std::fs;
 use std::path::Path;
 
@@ -459,6 +460,11 @@ impl Cases<'_> {
     }
 }
 
+/// As read_cases reads: by the skipping engine.
+fn read(cal: &Calendar, format: &[u8], text: &[u8]) -> Reading {
+    rules::read(cal, Engine::Skipping, format, text)
+}
+
 /// One line of the output.
 fn line_of(r: &Reading) -> String {
     let date = |(y, m, d): (u32, u32, u32)| format!("{y:04}-{m:02}-{d:02}");
@@ -469,7 +475,7 @@ fn line_of(r: &Reading) -> String {
         (_, Some([a, b])) => format!("{a} {b}"),
         _ => String::new(),
     };
-    format!("{} {} {day} {} {} {} | {shown}\n", r.number, r.place, said(r.hour), said(r.minute), said(r.second))
+    format!("{} {} {day} {} {} {} | {shown} {}\n", r.number, r.place, said(r.hour), said(r.minute), said(r.second), r.examined)
 }
 
 pub fn make(cal: &Calendar, input_path: &Path, output_path: &Path) -> std::io::Result<()> {
