@@ -6,7 +6,7 @@ use compare::rules::{Engine, Matched, Reading};
 use std::fmt::Debug;
 
 /// The days that the plain engine may examine for a case, on the average: a search of more days is run less often, by so much.
-const FEW: u32 = 1000;
+const FEW: u32 = 3000;
 
 /// The numbers by which the library is told of the plain engine with a budget: any but 0 and 1.
 const WITHIN: [u32; 10] = [2, 2, 2, 3, 255, 256, 257, 1 << 16, 1 << 31, u32::MAX];
@@ -55,17 +55,19 @@ fn told(random: &mut Random, engine: Engine) -> Told {
 }
 
 /// The engines that a case is read by: always the skipping one, and a small budget. Where the plain one examines few days, or once in a
-/// while, or `whole`, also that, and budgets at that number of days, one above and one below, and the greatest.
+/// while, or `whole`, also that, and budgets at that number of days, one above and one below, and the greatest. Where nothing is searched,
+/// once in a while too.
 fn engines(random: &mut Random, matched: &Matched, whole: bool) -> Vec<Engine> {
     let plain = matched.reading(Engine::Plain).examined;
     let skipping = matched.reading(Engine::Skipping).examined;
     let small = match random.below(4) {
-        0 if skipping < 10 * FEW => skipping,
+        0 if skipping <= FEW => skipping,
         1 => random.from(0, 2),
         _ => random.from(0, FEW),
     };
     let mut all = vec![Engine::Skipping, Engine::Within(small)];
-    if whole || random.from(0, plain) < FEW {
+    let odds = if plain == 0 { 15 } else { 100 };
+    if whole || random.from(0, plain) < FEW && random.chance(odds) {
         all.extend([Engine::Plain, Engine::Within(plain), Engine::Within(plain + 1)]);
         all.extend(plain.checked_sub(1).map(Engine::Within));
         if random.chance(20) {
