@@ -1,8 +1,8 @@
 //! Vectors for the reader: the input of the program read_cases, and what it must write.
 //!
 //! The input is pairs of lines: a format, and a text, each its own bytes up to the newline. A line of the output is
-//! `number place date hour minute second | shown examined`: what is unsaid is -, shown has the first two days or hours of number 10 or is
-//! empty, and the last is how many days the skipping engine examined.
+//! `number place date hour minute second | shown | examined`: what is unsaid is -, shown has the first two days or hours of number 10,
+//! and examined is how many days the skipping engine examined.
 //!
 //! Texts that the C library's strftime wrote for a known moment must moreover be read as that moment, where the format names one day and
 //! one hour.
@@ -487,7 +487,7 @@ fn line_of(r: &Reading) -> String {
         (_, Some([a, b])) => format!("{a} {b}"),
         _ => String::new(),
     };
-    format!("{} {} {day} {} {} {} | {shown} {}\n", r.number, r.place, said(r.hour), said(r.minute), said(r.second), r.examined)
+    format!("{} {} {day} {} {} {} | {shown} | {}\n", r.number, r.place, said(r.hour), said(r.minute), said(r.second), r.examined)
 }
 
 pub fn make(cal: &Calendar, input_path: &Path, output_path: &Path) -> std::io::Result<()> {
