@@ -228,6 +228,7 @@ static void reading_dates(void) {
 /* ---- the slowest readings: of every set of kinds 1 to 12, one set of facts that agrees with a day, some of which one fact is another
    day's, and some of which each is another day's */
 
+#define SETS 4095
 #define QUARRELS 3
 #define TURNS 6
 #define KEPT 40
@@ -277,35 +278,32 @@ static void say(char *text, char letter, struct larusqem_date d) {
 
 static void slowest(void) {
     static const char letters[] = "YCymdjuUWGgV";
-    static struct timed worst[KEPT + 1];
+    static struct timed worst[SETS];
     double sum = 0;
-    size_t kept = 0, sets = 0;
-    for (uint32_t set = 1; set < 1 << 12; set++)
+    for (uint32_t set = 1; set <= SETS; set++)
         for (int turn = 0; turn < TURNS; turn++) {
-            struct timed t = {"", "", 0, 0, 0};
+            struct timed t = {"", "", 0, 0, 0}, *least = &worst[set - 1];
             struct larusqem_date day = any_day();
             uint32_t kinds = 0, quarrel;
             for (int k = 0; k < 12; k++) kinds += set >> k & 1;
             quarrel = turn ? below(kinds) : kinds;
             for (int k = 0; k < 12; k++)
                 if (set >> k & 1) {
-                    char *end = t.format + strlen(t.format);
-                    end[0] = '%', end[1] = letters[k], end[2] = ' ', end[3] = 0;
+                    char conversion[] = {'%', letters[k], ' ', 0};
+                    strcat(t.format, conversion);
                     say(t.text, letters[k], quarrel-- && turn <= QUARRELS ? day : any_day());
                 }
             time_reading(&t, 3);
             sum += t.best;
-            sets++;
-            worst[kept] = t;
-            if (kept < KEPT) kept++;
-            else qsort(worst, KEPT + 1, sizeof *worst, by_time);
+            if (t.best > least->best) *least = t;
         }
-    for (size_t i = 0; i < kept; i++) time_reading(&worst[i], 25);
-    qsort(worst, kept, sizeof *worst, by_time);
-    printf("| the slowest of %zu readings (mean %.2f microseconds) | format | number | days examined | microseconds |\n", sets, sum / sets / 1e3);
-    printf("|---|---|---|---|---|\n");
-    for (size_t i = 0; i < 5; i++)
-        printf("| `%s` | `%s` | %u | %u | %.2f |\n", worst[i].text, worst[i].format, worst[i].number, worst[i].examined, worst[i].best / 1e3);
+    qsort(worst, SETS, sizeof *worst, by_time);
+    for (size_t i = 0; i < KEPT; i++) time_reading(&worst[i], 25);
+    qsort(worst, KEPT, sizeof *worst, by_time);
+    printf("| the slowest of %d readings, of each format one (mean of all %.2f microseconds) | format | number | days examined | "
+           "microseconds |\n|---|---|---|---|---|\n", SETS * TURNS, sum / (SETS * TURNS) / 1e3);
+    for (struct timed *t = worst; t < worst + 5; t++)
+        printf("| `%s` | `%s` | %u | %u | %.2f |\n", t->text, t->format, t->number, t->examined, t->best / 1e3);
     printf("\n");
 }
 
@@ -384,8 +382,6 @@ static void scan_within(void) {
     sink += larusqem_read_with(elements, element_count, texts[0], text_lengths[0], within).place;
 }
 
-static void scan_skipping(void) { sink += larusqem_read(elements, element_count, texts[0], text_lengths[0]).place; }
-
 static void scanning(void) {
     static const struct { const char *what, *format, *text; struct facts facts; } cases[] = {
         {"a complete date", "%d %b %Y", "5 Mar 1934", {{[1] = 1935, [4] = 4, [5] = 6}}},
@@ -399,7 +395,8 @@ static void scanning(void) {
     printf("| plain search of %u days | the same loop in C | ours, the whole reading | ratio | with a budget | ratio | ns for a day | "
            "the skipping engine |\n|---|---|---|---|---|---|---|---|\n", larusqem_days());
     for (size_t k = 0; k < COUNT(cases); k++) {
-        struct racer r[] = {{scan_c, 0}, {scan_plain, 0}, {scan_within, 0}, {scan_skipping, 0}};
+        struct racer r[] = {{scan_c, 0}, {scan_plain, 0}, {scan_within, 0}};
+        struct timed skipping = {"", "", 0, 0, 0};
         struct larusqem_options plain = {LARUSQEM_PLAIN, 0};
         uint32_t hits[2];
         facts = cases[k].facts;
@@ -408,9 +405,12 @@ static void scanning(void) {
         uint32_t examined = larusqem_read_with(elements, element_count, texts[0], text_lengths[0], plain).examined;
         if (examined != search(&facts, UINT32_MAX, hits)) fail("the loop in C examined another number of days", format, texts[0]);
         race(r, COUNT(r), SCANS);
+        strcpy(skipping.format, format);
+        strcpy(skipping.text, texts[0]);
+        time_reading(&skipping, ROUNDS);
         double c = r[0].best / 1e6, p = r[1].best / 1e6, w = r[2].best / 1e6;
-        printf("| %s (`%s`) | %.2f ms | %.2f ms | %.2f | %.2f ms | %.2f | %.2f | %.2f microseconds |\n", cases[k].what, texts[0], c, p, p / c,
-               w, w / c, r[1].best / examined, r[3].best / 1e3);
+        printf("| %s (`%s`) | %.2f ms | %.2f ms | %.2f | %.2f ms | %.2f | %.2f | %.2f microseconds |\n", cases[k].what, texts[0], c, p,
+               p / c, w, w / c, r[1].best / examined, skipping.best / 1e3);
     }
     printf("\n");
 }

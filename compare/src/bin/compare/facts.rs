@@ -103,7 +103,7 @@ pub fn compare(random: &mut Random, cal: &Calendar, tally: &mut Tally) -> usize 
     let mut count = 0;
     for set in 1..1usize << 12 {
         let kinds: Vec<usize> = (1..=12).filter(|kind| set >> (kind - 1) & 1 == 1).collect();
-        for _ in 0..4 {
+        for _ in 0..8 {
             compare_set(random, cal, tally, &kinds);
             count += 1;
         }
