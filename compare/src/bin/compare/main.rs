@@ -307,6 +307,17 @@ fn main() {
     let total: u64 = tally.counts.values().sum();
     let columned = |number| tally.counts.iter().filter(|((_, n, w), _)| (*n, *w) == (number, COLUMNS)).map(|(_, n)| n).sum::<u64>();
     println!("\nwritings with flags and widths: {} taken, {} refused", columned(0) + columned(4), columned(3));
+    let by = |engine: usize, over: bool| {
+        let names = [STRPTIME[engine], READ[engine], STRANGE[engine]];
+        tally.counts.iter().filter(|((f, n, _), _)| names.contains(f) && (*n == 11) == over).map(|(_, n)| n).sum::<u64>()
+    };
+    println!(
+        "readings: {} by the skipping engine, {} by the plain one, {} within their budget, {} refused by it",
+        by(0, false),
+        by(1, false),
+        by(2, false),
+        by(2, true)
+    );
     println!("\nspeed of the library alone, one thread:");
     speed::measure();
     println!("\n{total} cases, {} differences", tally.differences);
