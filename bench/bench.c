@@ -225,12 +225,10 @@ static void reading_dates(void) {
     printf("\n");
 }
 
-/* ---- the slowest readings: of every set of kinds 1 to 12, one set of facts that agrees with a day, some of which one fact is another
-   day's, and some of which each is another day's */
+/* ---- the slowest readings: of every set of kinds 1 to 12 a set of facts that agrees with a day, three of which one fact is another
+   day's, and two of which each is another day's; ten times as many where the kinds are three or fewer */
 
 #define SETS 4095
-#define QUARRELS 3
-#define TURNS 6
 #define KEPT 40
 
 struct timed {
@@ -280,28 +278,30 @@ static void slowest(void) {
     static const char letters[] = "YCymdjuUWGgV";
     static struct timed worst[SETS];
     double sum = 0;
-    for (uint32_t set = 1; set <= SETS; set++)
-        for (int turn = 0; turn < TURNS; turn++) {
-            struct timed t = {"", "", 0, 0, 0}, *least = &worst[set - 1];
+    int count = 0;
+    for (uint32_t set = 1; set <= SETS; set++) {
+        uint32_t kinds = (uint32_t)__builtin_popcount(set);
+        for (int turn = 0; turn < (kinds <= 3 ? 60 : 6); turn++) {
+            struct timed t = {"", "", 0, 0, 0};
             struct larusqem_date day = any_day();
-            uint32_t kinds = 0, quarrel;
-            for (int k = 0; k < 12; k++) kinds += set >> k & 1;
-            quarrel = turn ? below(kinds) : kinds;
+            uint32_t quarrel = turn % 6 ? below(kinds) : kinds;
             for (int k = 0; k < 12; k++)
                 if (set >> k & 1) {
                     char conversion[] = {'%', letters[k], ' ', 0};
                     strcat(t.format, conversion);
-                    say(t.text, letters[k], quarrel-- && turn <= QUARRELS ? day : any_day());
+                    say(t.text, letters[k], quarrel-- && turn % 6 <= 3 ? day : any_day());
                 }
             time_reading(&t, 3);
             sum += t.best;
-            if (t.best > least->best) *least = t;
+            count++;
+            if (t.best > worst[set - 1].best) worst[set - 1] = t;
         }
+    }
     qsort(worst, SETS, sizeof *worst, by_time);
     for (size_t i = 0; i < KEPT; i++) time_reading(&worst[i], 25);
     qsort(worst, KEPT, sizeof *worst, by_time);
     printf("| the slowest of %d readings, of each format one (mean of all %.2f microseconds) | format | number | days examined | "
-           "microseconds |\n|---|---|---|---|---|\n", SETS * TURNS, sum / (SETS * TURNS) / 1e3);
+           "microseconds |\n|---|---|---|---|---|\n", count, sum / count / 1e3);
     for (struct timed *t = worst; t < worst + 5; t++)
         printf("| `%s` | `%s` | %u | %u | %.2f |\n", t->text, t->format, t->number, t->examined, t->best / 1e3);
     printf("\n");
