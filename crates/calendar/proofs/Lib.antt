@@ -1,3 +1,4 @@
+pub mod Cycle
 pub mod Dates
 pub mod Sum
 pub mod Years

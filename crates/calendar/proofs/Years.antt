@@ -89,7 +89,7 @@ pub days-before-is : (y p : ℕ) → y ≡ suc p → daysBefore y ≡ sum yearLe
 unfolding daysBefore
 days-before-is y p e = ap (sum yearLength) (omega arith)
 
-year-least : (y : ℕ) → 365 ≤ yearLength y
+pub year-least : (y : ℕ) → 365 ≤ yearLength y
 unfolding yearLength
 year-least y = least (leap y)
   where

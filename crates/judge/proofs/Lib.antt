@@ -1,6 +1,11 @@
+pub mod Agreeing
+pub mod Cycle
 pub mod DayValues
 pub mod Demand
 pub mod Every
 pub mod Position
 pub mod SoFar
+pub mod SpanLaws
 pub mod Tells
+pub mod Through
+pub mod Upto

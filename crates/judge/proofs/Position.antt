@@ -127,8 +127,11 @@ module _ (p : ℕ → Bool) where
         so-far = a .so-far;
       }
 
-  pub no-more-years : (y k : ℕ) (h : Found) → AtYear p y k h → 9999 < y → h ≡ firstTwo p 1 days
+  pub years-over : (y k : ℕ) (h : Found) → AtYear p y k h → 9999 < y → k ≡ days + 1
   unfolding daysBefore days
-  no-more-years y k h a l =
+  years-over y k h a l =
       let e : y ≡ 10000 = omega (arith, a .year-high) in
-      so-far-end p 1 days k h (a .so-far) (omega (arith, rw e at (a .at)))
+      rw e at (a .at)
+
+  pub no-more-years : (y k : ℕ) (h : Found) → AtYear p y k h → 9999 < y → h ≡ firstTwo p 1 days
+  no-more-years y k h a l = so-far-end p 1 days k h (a .so-far) (omega (arith, years-over y k h a l))

@@ -10,7 +10,7 @@ use Rattle.judge.specs.declared.Found.{Found}
 use Rattle.judge.specs.declared.Found.the-variants.{Nothing, One, Two}
 
 module _ (p : ℕ → Bool) where
-  two-stay : (n k : ℕ) (h : Found) → isTwo h ≡ true → searchFrom p n k h ≡ h
+  pub two-stay : (n k : ℕ) (h : Found) → isTwo h ≡ true → searchFrom p n k h ≡ h
   unfolding searchFrom
   two-stay zero k h e = refl
   two-stay (suc n) k h e = rw e

@@ -3,8 +3,9 @@
 use Prim.Native.Nat.{ℕ, zero, suc, _+_, _≤_, _<_}
 use mathlib.Core.Bool.{Bool, true, false, cond, false≢true}
 use mathlib.Core.Logic.{⊎-elim}
-use mathlib.Core.Path.{_≡_, refl, sym, ap, _∙_}
-use native.Mathlib.Nat.{eq-or-lt-of-le, le-of-suc-le-suc, add-suc, add-zero, suc-add}
+use mathlib.Core.Path.{_≡_, refl, sym, ap, ap₂, _∙_}
+use native.Mathlib.Decide.{decLe}
+use native.Mathlib.Nat.{eq-or-lt-of-le, le-of-suc-le-suc, le-antisymm, lt-of-not-le, add-suc, add-zero, suc-add}
 use native.Mathlib.Omega.{arith}
 use Rattle.judge.specs.Search.{hit, searchFrom, firstTwo}
 use Rattle.judge.specs.declared.Found.{Found}
@@ -51,3 +52,37 @@ module _ (p : ℕ → Bool) (from : ℕ) where
   pub tells : (n : ℕ) → Tells (from + n) (firstTwo p from n)
   unfolding firstTwo
   tells n = tells-search n from Nothing (omega arith) (none (λ k l m. absurd (omega arith)))
+
+  -- the second of two is at most that of any other two
+  second-least : (a b c d : ℕ) → from ≤ c → c < d → p c ≡ true → p d ≡ true
+      → ((k : ℕ) → from ≤ k → k < b → p k ≡ true → k ≡ a) → b ≤ d
+  second-least a b c d l m q r f =
+      elim (decLe b d) [
+        | yes n ↦ n
+        | no n ↦
+            (let o : d < b = lt-of-not-le n in
+            let x : c ≡ a = f c l (omega arith) q in
+            let y : d ≡ a = f d (omega arith) o r in
+            absurd (omega arith))
+      ]
+
+  -- a range tells one thing only
+  pub tells-same : {end : ℕ} (h i : Found) → Tells end h → Tells end i → h ≡ i
+  tells-same Nothing Nothing (none f) (none g) = refl
+  tells-same Nothing (One a) (none f) (single l m q g) = absurd (false≢true (sym (f a l m) ∙ q))
+  tells-same Nothing (Two a b) (none f) (double l m n q r g) = absurd (false≢true (sym (f a l (omega arith)) ∙ q))
+  tells-same (One a) Nothing (single l m q g) (none f) = absurd (false≢true (sym (f a l m) ∙ q))
+  tells-same (One a) (One c) (single l m q f) (single l' m' q' g) = ap One (g a l m q)
+  tells-same (One a) (Two c d) (single l m q f) (double l' m' n' q' r' g) =
+      let x : c ≡ a = f c l' (omega arith) q' in
+      let y : d ≡ a = f d (omega arith) n' r' in
+      absurd (omega arith)
+  tells-same (Two a b) Nothing (double l m n q r g) (none f) = absurd (false≢true (sym (f a l (omega arith)) ∙ q))
+  tells-same (Two a b) (One c) (double l m n q r g) (single l' m' q' f) =
+      let x : a ≡ c = f a l (omega arith) q in
+      let y : b ≡ c = f b (omega arith) n r in
+      absurd (omega arith)
+  tells-same (Two a b) (Two c d) (double l m n q r f) (double l' m' n' q' r' g) =
+      let e : b ≡ d = le-antisymm (second-least a b c d l' m' q' r' f) (second-least c d a b l m q r g) in
+      let x : c ≡ a = f c l' (omega arith) q' in
+      ap₂ Two (sym x) e

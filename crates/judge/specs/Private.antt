@@ -13,10 +13,17 @@ use Rattle.judge.specs.declared.Found.{Found}
 use Rattle.judge.specs.declared.Found.the-variants.{Nothing, One, Two}
 use Rattle.judge.specs.declared.Searched.{Searched}
 use Rattle.judge.specs.declared.Searched.the-variants.{Judged, OverBudget}
+use Rattle.judge.specs.declared.plain.Scanned.{Scanned}
+use Rattle.judge.specs.declared.plain.Scanned.the-variants.{Ended, Over}
 use Rattle.judge.specs.declared.spans.Span.{Span}
 use Rattle.kinds.specs.Kinds as kinds
 
 -- ---- what each engine gives where a fact bears on the day
+
+unfoldable pub scanned : ℕ → Facts → Scanned
+scanned budget f =
+    let ended = Ended (daysFound f) (plainCount f) in
+    cond (leb (plainCount f) budget) ended Over
 
 unfoldable pub plainly : ℕ → Facts → Searched
 plainly budget f =
@@ -51,7 +58,7 @@ yearSpan f horizon =
     let c = numberOf (said f kinds.century) 100 * 100 in
     let g = numberOf (said f kinds.isoYear) 20000 in
     narrowed (narrowed (narrowed (span 1 horizon) (said f kinds.year) y y) (said f kinds.century) c (c + 99))
-    (said f kinds.isoYear) (g - 1) (g + 1)
+    (said f kinds.isoYear) (max g 1 - 1) (g + 1)
 
 -- from a year to the next with the same year in the century, where one was said
 unfoldable pub yearStep : Facts → ℕ

@@ -11,11 +11,16 @@ use crate::search::is_two;
 use calendar::Date;
 use calendar::month_length;
 ghost use mathlib.Core.Path.{_≡_};
-ghost use Rattle.judge.specs.Private.{plainly};
+ghost use Rattle.judge.specs.Private.{scanned, plainly};
 
-// The verdict and the days examined, or that the budget was used up before.
-pub(crate) fn judge_plainly(facts: Facts, budget: u32) -> Searched
-    ensures { λ r. ⌜ r ≡ plainly budget facts ⌝ }
+// What a scan comes to: the days found and how many were examined, or that the budget was used up before.
+pub enum Scanned {
+    Ended { found: Found, examined: u32 },
+    Over,
+}
+
+fn scan_days(facts: Facts, budget: u32) -> Scanned
+    ensures { λ r. ⌜ r ≡ scanned budget facts ⌝ }
 {
     let iso = any_said(facts, kinds::ISO_YEAR, kinds::ISO_WEEK);
     let mut found = Found::Nothing;
@@ -29,7 +34,7 @@ pub(crate) fn judge_plainly(facts: Facts, budget: u32) -> Searched
             let mut day = Date::FIRST.day as u32;
             while day <= length {
                 if examined == budget {
-                    return Searched::OverBudget { budget };
+                    return Scanned::Over;
                 }
                 examined += 1;
                 if day_agrees(facts, iso, date_at(year, month, day), examined, before) {
@@ -44,8 +49,18 @@ pub(crate) fn judge_plainly(facts: Facts, budget: u32) -> Searched
         }
         year += 1;
     }
-    Searched::Judged {
-        verdict: verdict_of(found),
-        examined,
+    Scanned::Ended { found, examined }
+}
+
+// The verdict and the days examined, or that there are more than the budget.
+pub(crate) fn judge_plainly(facts: Facts, budget: u32) -> Searched
+    ensures { λ r. ⌜ r ≡ plainly budget facts ⌝ }
+{
+    match scan_days(facts, budget) {
+        Scanned::Ended { found, examined } => Searched::Judged {
+            verdict: verdict_of(found),
+            examined,
+        },
+        Scanned::Over => Searched::OverBudget { budget },
     }
 }

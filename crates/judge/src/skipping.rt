@@ -52,7 +52,13 @@ fn search_years(facts: Facts, horizon: u32) -> Found
             let span = month_days(facts, days, start, month_length(year, month));
             let mut number = span.first;
             while number <= span.last {
-                if day_agrees(facts, iso, date_at(year, month, number - start), number, before) {
+                if day_agrees(
+                    facts,
+                    iso,
+                    date_at(year, month, number - start),
+                    number,
+                    before,
+                ) {
                     found = hit(number, found);
                     if is_two(found) {
                         break 'years;

@@ -85,7 +85,7 @@ pub(crate) fn year_span(facts: Facts, horizon: u32) -> Span
     let span = narrowed(span, century, hundreds, hundreds + 99);
     let iso = said_of(facts, kinds::ISO_YEAR);
     let number = number_of(iso, 20000);
-    narrowed(span, iso, number_of(number, 20000), number + 1)
+    narrowed(span, iso, later(number, 1) - 1, number + 1)
 }
 
 // From one year that can agree to the next: a century where the year in it was said.

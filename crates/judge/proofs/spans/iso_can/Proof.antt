@@ -1,0 +1,31 @@
+-- `judge::spans::iso_can` meets its contract. Assumes nothing.
+use borrow.Author.Needs.{needs}
+use mathlib.Core.Path.{sym, _∙_}
+use borrow.Author.Tests.{eq-eqb, ne-eqb}
+use Rattle.judge.specs.Private.{isoCan}
+use Rattle.judge.proofs.spans.iso_can.Statement.{statement}
+use Rattle.judge.proofs.spans.iso_can.Tie as tie
+
+said-of-requires : tie.Need-said-of-requires
+said-of-requires c κs = search needs
+
+returns : tie.Need-returns
+unfolding isoCan
+returns c = rw (eq-eqb _ 0 (sym (c .before .said-of .ensures) ∙ c .if1 .taken))
+
+add-result : tie.Need-add-result
+add-result c = search needs
+
+sub-result : tie.Need-sub-result
+sub-result c = search needs
+
+sub-result-2 : tie.Need-sub-result-2
+sub-result-2 c = search needs
+
+returns-2 : tie.Need-returns-2
+unfolding isoCan
+returns-2 c = rw (ne-eqb _ 0 (λ z. c .if1 .left (c .before .said-of .ensures ∙ z)), c .before .said-of .ensures)
+
+pub iso-can-spec : {M : Type 1} → statement M
+iso-can-spec =
+    tie.close (tie.spec said-of-requires returns add-result sub-result sub-result-2 returns-2)
