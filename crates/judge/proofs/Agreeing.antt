@@ -15,7 +15,7 @@ use Rattle.values.specs.Values.{dateValue, dateValues}
 use Rattle.judge.specs.Agreement.{said, agrees, dateAgrees, dayAgrees}
 use Rattle.judge.specs.Private.{monthStart}
 use Rattle.judge.specs.declared.Facts.{Facts}
-use Rattle.calendar.proofs.Dates.{Valid, Found, Parts, parts, number-of-date, within-year}
+use Rattle.calendar.proofs.Dates.{Valid, Found, Parts, parts, number-of-date, within-year, number-within, date-of-number}
 use Rattle.calendar.proofs.Ranges.{thursday-within, iso-year-range}
 use Rattle.calendar.proofs.Sum.{sum-mono}
 use Rattle.calendar.proofs.Years.{year-least, days-before-next}
@@ -40,7 +40,7 @@ pub record Agreeing (f : Facts) (k y m d g : ℕ) : Type 0 where
   pub not-after : g ≤ y + 1
 
 -- days before two years
-before-mono : (y z : ℕ) → y ≤ z → daysBefore y ≤ daysBefore z
+pub before-mono : (y z : ℕ) → y ≤ z → daysBefore y ≤ daysBefore z
 unfolding daysBefore
 before-mono y z h = sum-mono yearLength (y - 1) (z - 1) (omega arith)
 
@@ -103,3 +103,11 @@ module _ (f : Facts) (k : ℕ) (low : 0 < k) (high : k ≤ days) (e : dayAgrees 
         not-before = near (thursday k) k (isoYear k) (t .year) iso-year-low (about .start) (omega (arith, about .end, days-before-next (isoYear k) iso-year-low)) (in-year .0) (apart .1);
         not-after = near k (thursday k) (t .year) (isoYear k) (placed .valid .year-low) (in-year .0) (in-year .1) (about .start) (apart .0);
       }
+
+-- the same of a day whose year, month and day are known
+pub agreeing-at : (f : Facts) (y m d : ℕ) → Valid y m d → dayAgrees f (dayNumber y m d) ≡ true
+    → Agreeing f (dayNumber y m d) y m d (isoYear (dayNumber y m d))
+agreeing-at f y m d v e =
+    let w = number-within y m d v in
+    let t = date-of-number y m d v in
+    rw t at (agreeing f (dayNumber y m d) (w .0) (w .1) e)

@@ -3,6 +3,7 @@ pub mod Cycle
 pub mod DayValues
 pub mod Demand
 pub mod Every
+pub mod Moves
 pub mod Position
 pub mod SoFar
 pub mod SpanLaws

@@ -115,6 +115,9 @@ module _ (f : Facts) where
       (λ e. ((omega arith, omega arith), (omega arith, omega arith)))
       (λ n. ((omega arith, omega arith), (omega arith, omega arith)))
 
+  pub no-steps : 0 % yearStep f ≡ 0
+  no-steps = by-step (λ s _. 0 % s ≡ 0) 0 (λ e. refl) (λ n. refl)
+
   -- a year that agrees is reached: no sooner than the first, and after whole steps
   pub stepped-on : (first y : ℕ) → first ≤ y → agrees (said f kinds.yearInCentury) (y % 100) ≡ true
       → (firstYear f first ≤ y) × ((y - firstYear f first) % yearStep f ≡ 0)

@@ -70,11 +70,17 @@ module _ (p : ℕ → Bool) (n : ℕ) where
         left = λ k a b q. a;
       }
 
-  pub upto-end : (m : ℕ) (h : Found) → Upto m h → n < m → h ≡ firstTwo p 1 n
-  upto-end m h u l =
-      so-far-end p 1 n (1 + n) h
-      (here (1 + n) h (record { reached = u .reached; low = u .so-far .upto; so-far = u .so-far; left = λ k a b q. omega (arith, u .left k a b q) }) (omega arith))
-      (omega arith)
+  -- none is left
+  pub upto-none : (m : ℕ) (h : Found) → Upto m h → ((k : ℕ) → m ≤ k → k ≤ n → p k ≡ true → ⊥) → h ≡ firstTwo p 1 n
+  upto-none m h u f =
+      let v : Upto (1 + n) h
+      = record {
+        reached = u .reached;
+        low = u .so-far .upto;
+        so-far = u .so-far;
+        left = λ k a b q. absurd (f k (u .left k a b q) b q);
+      } in
+      so-far-end p 1 n (1 + n) h (here (1 + n) h v (omega arith)) (omega arith)
 
   pub upto-two : (m : ℕ) (h : Found) → Upto m h → isTwo h ≡ true → h ≡ firstTwo p 1 n
   upto-two m h u e = so-far-two p 1 n (u .reached) h (u .so-far) e

@@ -118,7 +118,7 @@ cast-month : tie.Need-cast-month Inv-loop2 μ-loop2 Inv-loop μ-loop Inv-years �
 cast-month c = search needs
 
 loop-holds : tie.Need-loop-holds Inv-loop2 μ-loop2 Inv-loop μ-loop Inv-years μ-years
-loop-holds c = 
+loop-holds c =
     let y = c .before .before .before .years .inv in
     (first-month _ _ _ _ (y .0) (omega arith), y .1)
 
@@ -133,12 +133,12 @@ cast-day : tie.Need-cast-day Inv-loop2 μ-loop2 Inv-loop μ-loop Inv-years μ-ye
 cast-day c = search needs
 
 loop2-holds : tie.Need-loop2-holds Inv-loop2 μ-loop2 Inv-loop μ-loop Inv-years μ-years
-loop2-holds c = 
+loop2-holds c =
     let m = c .before .before .before .before .loop .inv in
     (first-day _ _ _ _ _ (m .0) (omega arith), m .1)
 
 returns : tie.Need-returns Inv-loop2 μ-loop2 Inv-loop μ-loop Inv-years μ-years
-returns c = 
+returns c =
     let i = c .before .before .loop2 .inv in
     let e = c .if3 .taken in
     over-budget _ _ _ (rw e at (i .0 .so-far)) (i .1 .open-yet) (omega (arith, one-of (c .before)))
@@ -147,14 +147,14 @@ add-examined : tie.Need-add-examined Inv-loop2 μ-loop2 Inv-loop μ-loop Inv-yea
 add-examined c = search needs
 
 date-at-requires : tie.Need-date-at-requires Inv-loop2 μ-loop2 Inv-loop μ-loop Inv-years μ-years
-date-at-requires c κs = 
+date-at-requires c κs =
     let d = c .before in
     omega (arith, at-day d .year-high, at-day d .month-high, short d)
 
 day-agrees-requires :
     tie.Need-day-agrees-requires Inv-loop2 μ-loop2 Inv-loop μ-loop Inv-years μ-years
 unfolding isoKinds range
-day-agrees-requires c κs = 
+day-agrees-requires c κs =
     let d = c .before .before in
     rw (c .date-at .ensures)
     ((at-day d .at, omega (arith, entered d .years .inv .0 .at)), (omega (arith, one-of d, days-is), entered d .before .before .any-said .ensures))
@@ -172,15 +172,16 @@ loop2-less : tie.Need-loop2-less Inv-loop2 μ-loop2 Inv-loop μ-loop Inv-years �
 loop2-less c = search needs
 
 loop2-again : tie.Need-loop2-again Inv-loop2 μ-loop2 Inv-loop μ-loop Inv-years μ-years
-loop2-again c = 
+loop2-again c =
     let d = within (c .before) in
     let i = d .before .loop2 .inv in
     let e = tested (c .before) in
     let l : d .before .loop2 .examined + 1 ≤ entered d .before .before .before .args .budget = omega (arith, i .1 .few, c .before .before .before .if3 .left) in
     ⊎-elim
-    (λ w.
-    (rw (w .4, w .1 .ensures) (next-day-hit _ _ _ _ _ _ (i .0) (in-month d) (sym e ∙ w .0 .taken)),
-    record { few = l; open-yet = rw (w .4) (sym (w .2 .ensures) ∙ w .3 .left) }))
+    (λ w. (
+      rw (w .4, w .1 .ensures) (next-day-hit _ _ _ _ _ _ (i .0) (in-month d) (sym e ∙ w .0 .taken)),
+      record { few = l; open-yet = rw (w .4) (sym (w .2 .ensures) ∙ w .3 .left) },
+    ))
     (λ w. (rw (w .1) (next-day-miss _ _ _ _ _ _ (i .0) (in-month d) (sym e ∙ w .0 .left)), record { few = l; open-yet = rw (w .1) (i .1 .open-yet) }))
     (c .if4 .came)
 
@@ -191,7 +192,7 @@ loop-less : tie.Need-loop-less Inv-loop2 μ-loop2 Inv-loop μ-loop Inv-years μ-
 loop-less c = search needs
 
 loop-again : tie.Need-loop-again Inv-loop2 μ-loop2 Inv-loop μ-loop Inv-years μ-years
-loop-again c = 
+loop-again c =
     let i = c .before .loop2 .inv in
     (next-month _ _ _ _ _ _ (i .0) (omega (arith, c .loop2-test .left, c .before .before .before .month-length .ensures)), i .1)
 
@@ -202,18 +203,18 @@ years-less : tie.Need-years-less Inv-loop2 μ-loop2 Inv-loop μ-loop Inv-years �
 years-less c = search needs
 
 years-again : tie.Need-years-again Inv-loop2 μ-loop2 Inv-loop μ-loop Inv-years μ-years
-years-again c = 
+years-again c =
     let i = c .before .before .loop .inv in
     (next-year _ _ _ _ _ (i .0) (omega arith), i .1)
 
 returns-2 : tie.Need-returns-2 Inv-loop2 μ-loop2 Inv-loop μ-loop Inv-years μ-years
-returns-2 c = 
+returns-2 c =
     let i = c .before .before .years .inv in
     let e = no-more-years _ _ _ _ (i .0) (omega arith) in
     within-budget _ _ _ _ e (omega (arith, through-all days _ (i .1 .open-yet), years-over _ _ _ _ (i .0) (omega arith))) (i .1 .few)
 
 returns-3 : tie.Need-returns-3 Inv-loop2 μ-loop2 Inv-loop μ-loop Inv-years μ-years
-returns-3 c = 
+returns-3 c =
     let t = c .before .before .before in
     let d = within (t .before) in
     let i = d .before .loop2 .inv in

@@ -179,7 +179,7 @@ unfolding dateAgrees dayKinds
 returns-5 c = fails-here _ kinds.day _ (tested-5 (c .before)) (c .if5 .taken) ∙ past-4 (c .before .before .before)
 
 sub-says-other : tie.Need-sub-says-other
-sub-says-other c = 
+sub-says-other c =
     let s = start-5 (c .before) in
     omega (arith, before-number (s .args .date) (s .pre .0 .0) (s .pre .0 .1))
 
@@ -204,7 +204,7 @@ unfolding dateAgrees dayKinds
 returns-7 c = fails-here _ kinds.weekday _ (tested-7 (c .before)) (c .if7 .taken) ∙ past-6 (c .before .before)
 
 sub-says-other-2 : tie.Need-sub-says-other-2
-sub-says-other-2 c = 
+sub-says-other-2 c =
     let s = start-7 (c .before) in
     omega (arith, before-number (s .args .date) (s .pre .0 .0) (s .pre .0 .1))
 
@@ -219,12 +219,12 @@ add-says-other-3 : tie.Need-add-says-other-3
 add-says-other-3 c = search needs
 
 add-says-other-4 : tie.Need-add-says-other-4
-add-says-other-4 c = 
+add-says-other-4 c =
     let s = start-8 (c .before) in
     omega (arith, before-number (s .args .date) (s .pre .0 .0) (s .pre .0 .1))
 
 sub-says-other-3 : tie.Need-sub-says-other-3
-sub-says-other-3 c = 
+sub-says-other-3 c =
     let s = start-8 (c .before) in
     omega (arith, before-number (s .args .date) (s .pre .0 .0) (s .pre .0 .1))
 
@@ -237,7 +237,7 @@ returns-9 c = fails-here _ kinds.mondayWeek _ (tested-9 (c .before)) (c .if9 .ta
 
 returns-10 : tie.Need-returns-10
 unfolding dateAgrees dayKinds isoKinds
-returns-10 c = 
+returns-10 c =
     let s = start-9 (c .before .before) in
     let none = not-false _ (sym (s .pre .1 .1) ∙ not-true _ (c .if10 .taken)) in
     sym (unsaid-agree (s .args .facts) isoKinds (λ k. dateValue k (s .args .date)) none) ∙ past-9 (c .before)
