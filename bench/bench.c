@@ -1,4 +1,5 @@
-/* Ratios of the library's time to the C library's, or to the same loop in C: each pair is measured in this run, best of several rounds. */
+/* Ratios of the library's time to the C library's, to chrono's, or to the same loop in C. What a row compares is measured in this run, in
+   turns: each round runs every one of them once, and the best round of each counts. */
 #define _GNU_SOURCE
 #include <stdio.h>
 #include <stdlib.h>
@@ -9,11 +10,43 @@
 
 #define DATES 1000
 #define ROUNDS 100
+#define SCANS 15
 
 static double now(void) {
     struct timespec t;
     clock_gettime(CLOCK_MONOTONIC, &t);
     return t.tv_sec * 1e9 + t.tv_nsec;
+}
+
+/* one of those that a row compares: what it does in a round, and its best round, in ns */
+struct racer {
+    void (*work)(void);
+    double best;
+};
+
+static void race(struct racer *racers, size_t count, int rounds) {
+    for (size_t i = 0; i < count; i++) racers[i].best = 1e18;
+    for (int round = 0; round < rounds; round++)
+        for (size_t i = 0; i < count; i++) {
+            double start = now();
+            racers[i].work();
+            double took = now() - start;
+            if (took < racers[i].best) racers[i].best = took;
+        }
+}
+
+#define COUNT(array) (sizeof array / sizeof *array)
+
+static void fail(const char *what, const char *format, const char *text) {
+    fprintf(stderr, "bench: %s: `%s`, `%s`\n", what, format, text);
+    exit(1);
+}
+
+static uint32_t state = 12345;
+
+static uint32_t below(uint32_t n) {
+    state = state * 1664525u + 1013904223u;
+    return (state >> 8) % n;
 }
 
 static struct tm dates[DATES];
@@ -22,18 +55,13 @@ static volatile uint64_t sink;
 
 /* dates of the years 1000 to 9999, for both libraries; the C library's have their weekday and day of the year filled in */
 static void make_dates(void) {
-    uint32_t state = 12345;
     for (int i = 0; i < DATES; i++) {
         struct tm t = {0};
-        state = state * 1664525u + 1013904223u;
-        t.tm_year = (int)(1000 + (state >> 8) % 8999) - 1900;
-        state = state * 1664525u + 1013904223u;
-        t.tm_yday = 0;
-        t.tm_mon = 0;
-        t.tm_mday = 1 + (int)((state >> 8) % 365);
-        t.tm_hour = (int)((state >> 16) % 24);
-        t.tm_min = (int)((state >> 4) % 60);
-        t.tm_sec = (int)((state >> 10) % 60);
+        t.tm_year = (int)(1000 + below(8999)) - 1900;
+        t.tm_mday = 1 + (int)below(365);
+        t.tm_hour = (int)below(24);
+        t.tm_min = (int)below(60);
+        t.tm_sec = (int)below(60);
         timegm(&t);
         dates[i] = t;
         moments[i] = (struct larusqem_moment){(uint32_t)(t.tm_year + 1900), (uint32_t)(t.tm_mon + 1), (uint32_t)t.tm_mday,
@@ -41,73 +69,249 @@ static void make_dates(void) {
     }
 }
 
-/* the best of some rounds, in ns for one of `count` */
-#define BEST(best, count, work)                                   \
-    double best = 1e18;                                           \
-    for (int round = 0; round < ROUNDS; round++) {                \
-        double start = now();                                     \
-        work;                                                     \
-        double took = (now() - start) / (count);                  \
-        if (took < best) best = took;                             \
-    }
+/* the format of the row, its elements, and the texts to read by it */
+static const char *format;
+static size_t format_length;
+static uint32_t elements[LARUSQEM_ELEMENTS], element_count;
+static char texts[DATES][64];
+static size_t text_lengths[DATES];
+static char out[256];
 
-static uint32_t open_all(const char *f, enum larusqem_use use, uint32_t elements[LARUSQEM_ELEMENTS]) {
-    return larusqem_open(f, strlen(f), use, elements, LARUSQEM_ELEMENTS).place;
+static void open_format(const char *f, enum larusqem_use use) {
+    format = f;
+    format_length = strlen(f);
+    element_count = larusqem_open(f, format_length, use, elements, LARUSQEM_ELEMENTS).place;
+}
+
+/* ---- writing */
+
+static void write_theirs(void) {
+    for (int i = 0; i < DATES; i++) sink += strftime(out, sizeof out, format, &dates[i]);
+}
+
+static void write_anew(void) {
+    for (int i = 0; i < DATES; i++) sink += larusqem_strftime(format, format_length, moments[i], out, sizeof out).place;
+}
+
+static void write_opened(void) {
+    for (int i = 0; i < DATES; i++) sink += larusqem_write(elements, element_count, moments[i], out, sizeof out).place;
 }
 
 /* ends the program where the two libraries do not write the same for a date */
-static void check_same(const char *f) {
-    char theirs[256], ours[256];
+static void check_writing(void) {
+    char theirs[256];
     for (int i = 0; i < DATES; i++) {
-        size_t length = strftime(theirs, sizeof theirs, f, &dates[i]);
-        struct larusqem_answer a = larusqem_strftime(f, strlen(f), moments[i], ours, sizeof ours);
-        if (a.number != LARUSQEM_DONE || a.place != length || memcmp(theirs, ours, length) != 0) {
-            fprintf(stderr, "bench: %s is not written as the C library writes it: %.*s\n", f, (int)length, theirs);
-            exit(1);
-        }
+        size_t length = strftime(theirs, sizeof theirs, format, &dates[i]);
+        struct larusqem_answer a = larusqem_strftime(format, format_length, moments[i], out, sizeof out);
+        if (a.number != LARUSQEM_DONE || a.place != length || memcmp(theirs, out, length) != 0)
+            fail("not written as the C library writes it", format, theirs);
     }
 }
 
 static void writing(void) {
     static const char *formats[] = {"%c", "%F %T", "%G-W%V-%u", "%A %d %B %Y", "%-d %^b %_5Y"};
-    static uint32_t elements[LARUSQEM_ELEMENTS];
     printf("| write | C library | ours, format opened each time | ratio | ours, opened once | ratio |\n|---|---|---|---|---|---|\n");
-    for (size_t k = 0; k < sizeof formats / sizeof *formats; k++) {
-        const char *f = formats[k];
-        size_t n = strlen(f);
-        char out[256];
-        check_same(f);
-        BEST(libc, DATES, for (int i = 0; i < DATES; i++) sink += strftime(out, sizeof out, f, &dates[i]));
-        BEST(anew, DATES, for (int i = 0; i < DATES; i++) sink += larusqem_strftime(f, n, moments[i], out, sizeof out).place);
-        uint32_t count = open_all(f, LARUSQEM_FOR_WRITING, elements);
-        BEST(once, DATES, for (int i = 0; i < DATES; i++) sink += larusqem_write(elements, count, moments[i], out, sizeof out).place);
-        printf("| `%s` | %.0f ns | %.0f ns | %.2f | %.0f ns | %.2f |\n", f, libc, anew, anew / libc, once, once / libc);
+    for (size_t k = 0; k < COUNT(formats); k++) {
+        struct racer r[] = {{write_theirs, 0}, {write_anew, 0}, {write_opened, 0}};
+        open_format(formats[k], LARUSQEM_FOR_WRITING);
+        check_writing();
+        race(r, COUNT(r), ROUNDS);
+        double c = r[0].best / DATES, anew = r[1].best / DATES, once = r[2].best / DATES;
+        printf("| `%s` | %.0f ns | %.0f ns | %.2f | %.0f ns | %.2f |\n", format, c, anew, anew / c, once, once / c);
     }
     printf("\n");
 }
+
+/* ---- reading */
+
+static void read_theirs(void) {
+    for (int i = 0; i < DATES; i++) {
+        struct tm t;
+        memset(&t, 0, sizeof t);
+        sink += (uint64_t)(strptime(texts[i], format, &t) - texts[i]);
+    }
+}
+
+static void read_theirs_to_time(void) {
+    for (int i = 0; i < DATES; i++) {
+        struct tm t;
+        memset(&t, 0, sizeof t);
+        strptime(texts[i], format, &t);
+        sink += (uint64_t)timegm(&t);
+    }
+}
+
+static void read_anew(void) {
+    for (int i = 0; i < DATES; i++) sink += larusqem_strptime(format, format_length, texts[i], text_lengths[i]).place;
+}
+
+static void read_opened(void) {
+    for (int i = 0; i < DATES; i++) sink += larusqem_read(elements, element_count, texts[i], text_lengths[i]).place;
+}
+
+#ifdef WITH_CHRONO
+void *chrono_open(const char *format, size_t length);
+int64_t chrono_read(const void *items, const char *text, size_t length);
+static void *chrono_items;
+
+static void read_chrono(void) {
+    for (int i = 0; i < DATES; i++) sink += (uint64_t)chrono_read(chrono_items, texts[i], text_lengths[i]);
+}
+#endif
 
 /* readings with nothing to judge by day or hour, and one that judges the hour */
-static void reading(void) {
+static void reading_clocks(void) {
     static const struct { const char *format, *text; } cases[] = {
         {"%M:%S", "08:09"}, {"month %n%M min", "month   8 min"}, {"%H:%M:%S", "07:08:09"}};
-    static uint32_t elements[LARUSQEM_ELEMENTS];
     printf("| read, no day to judge | C library | ours, format opened each time | ratio | ours, opened once | ratio |\n");
     printf("|---|---|---|---|---|---|\n");
-    for (size_t k = 0; k < sizeof cases / sizeof *cases; k++) {
-        const char *f = cases[k].format, *s = cases[k].text;
-        struct tm t;
-        BEST(libc, DATES, for (int i = 0; i < DATES; i++) { memset(&t, 0, sizeof t); sink += (uint64_t)(strptime(s, f, &t) - s); });
-        BEST(anew, DATES, for (int i = 0; i < DATES; i++) sink += larusqem_strptime(f, strlen(f), s, strlen(s)).place);
-        uint32_t count = open_all(f, LARUSQEM_FOR_READING, elements);
-        BEST(once, DATES, for (int i = 0; i < DATES; i++) sink += larusqem_read(elements, count, s, strlen(s)).place);
-        printf("| `%s` | %.0f ns | %.0f ns | %.2f | %.0f ns | %.2f |\n", f, libc, anew, anew / libc, once, once / libc);
+    for (size_t k = 0; k < COUNT(cases); k++) {
+        struct racer r[] = {{read_theirs, 0}, {read_anew, 0}, {read_opened, 0}};
+        open_format(cases[k].format, LARUSQEM_FOR_READING);
+        for (int i = 0; i < DATES; i++) text_lengths[i] = strlen(strcpy(texts[i], cases[k].text));
+        race(r, COUNT(r), ROUNDS);
+        double c = r[0].best / DATES, anew = r[1].best / DATES, once = r[2].best / DATES;
+        printf("| `%s` | %.0f ns | %.0f ns | %.2f | %.0f ns | %.2f |\n", format, c, anew, anew / c, once, once / c);
     }
     printf("\n");
 }
 
-/* ---- the day search: the same triple loop in C, over the facts of kinds 1 to 12 that the texts below say */
+/* ends the program where a text is not read as the date and time that it was written for, by any of them */
+static void check_reading(void) {
+    for (int i = 0; i < DATES; i++) {
+        struct tm t = dates[i], theirs = {0};
+        struct larusqem_reading r = larusqem_read(elements, element_count, texts[i], text_lengths[i]);
+        t.tm_sec = 0;
+        if (r.number != LARUSQEM_DONE || r.year != moments[i].year || r.month != moments[i].month || r.day != moments[i].day ||
+            r.hour != moments[i].hour || r.minute != moments[i].minute)
+            fail("not read back", format, texts[i]);
+        if (!strptime(texts[i], format, &theirs) || timegm(&theirs) != timegm(&t))
+            fail("not read back by the C library", format, texts[i]);
+#ifdef WITH_CHRONO
+        if (chrono_read(chrono_items, texts[i], text_lengths[i]) != timegm(&t)) fail("not read back by chrono", format, texts[i]);
+#endif
+    }
+}
+
+/* readings with their conclusion: the day is judged, and theirs made a time */
+static void reading_dates(void) {
+    static const char *formats[] = {"%d %b %Y %H:%M", "%Y-%m-%d %H:%M"};
+    printf("| read, day and time | C library, strptime and timegm | chrono, opened once | ours, format opened each time | "
+           "to C | to chrono | ours, opened once | to C | to chrono |\n|---|---|---|---|---|---|---|---|---|\n");
+    for (size_t k = 0; k < COUNT(formats); k++) {
+        struct racer r[] = {{read_theirs_to_time, 0},
+                            {read_anew, 0},
+                            {read_opened, 0},
+#ifdef WITH_CHRONO
+                            {read_chrono, 0}
+#endif
+        };
+        open_format(formats[k], LARUSQEM_FOR_READING);
+        for (int i = 0; i < DATES; i++) text_lengths[i] = strftime(texts[i], sizeof texts[i], format, &dates[i]);
+#ifdef WITH_CHRONO
+        chrono_items = chrono_open(format, format_length);
+#endif
+        check_reading();
+        race(r, COUNT(r), ROUNDS);
+        double c = r[0].best / DATES, anew = r[1].best / DATES, once = r[2].best / DATES;
+#ifdef WITH_CHRONO
+        double ch = r[3].best / DATES;
+        printf("| `%s` | %.0f ns | %.0f ns | %.0f ns | %.2f | %.2f | %.0f ns | %.2f | %.2f |\n", format, c, ch, anew, anew / c, anew / ch,
+               once, once / c, once / ch);
+#else
+        printf("| `%s` | %.0f ns | not installed | %.0f ns | %.2f | | %.0f ns | %.2f | |\n", format, c, anew, anew / c, once, once / c);
+#endif
+    }
+    printf("\n");
+}
+
+/* ---- the slowest readings: of every set of kinds 1 to 12 a set of facts that agrees with a day, three of which one fact is another
+   day's, and two of which each is another day's; ten times as many where the kinds are three or fewer */
+
+#define SETS 4095
+#define KEPT 40
+
+struct timed {
+    char format[64], text[64];
+    uint32_t number, examined;
+    double best;
+};
+
+static int by_time(const void *a, const void *b) {
+    double x = ((const struct timed *)a)->best, y = ((const struct timed *)b)->best;
+    return (x < y) - (x > y);
+}
+
+/* the best of some readings, in ns */
+static void time_reading(struct timed *t, int rounds) {
+    size_t length = strlen(t->text);
+    open_format(t->format, LARUSQEM_FOR_READING);
+    t->best = 1e18;
+    for (int round = 0; round < rounds; round++) {
+        double start = now();
+        struct larusqem_reading r = larusqem_read(elements, element_count, t->text, length);
+        double took = now() - start;
+        if (took < t->best) t->best = took;
+        t->number = r.number;
+        t->examined = r.examined;
+    }
+}
+
+/* a day of any year, or about the end of one of those at a century's or the calendar's ends */
+static struct larusqem_date any_day(void) {
+    static const uint32_t years[] = {1, 9999, 100, 400, 2000, 1999, 9900, 9899};
+    uint32_t last;
+    if (below(2)) return larusqem_date_of(1 + below(larusqem_days()));
+    last = larusqem_day_number(years[below(COUNT(years))], 12, 31);
+    return larusqem_date_of(last - below(4));
+}
+
+/* what a conversion shows for a day, and a blank */
+static void say(char *text, char letter, struct larusqem_date d) {
+    char conversion[] = {'%', letter, ' '};
+    size_t length = strlen(text);
+    struct larusqem_moment m = {d.year, d.month, d.day, 0, 0, 0};
+    text[length + larusqem_strftime(conversion, 3, m, text + length, 16).place] = 0;
+}
+
+static void slowest(void) {
+    static const char letters[] = "YCymdjuUWGgV";
+    static struct timed worst[SETS];
+    double sum = 0;
+    int count = 0;
+    for (uint32_t set = 1; set <= SETS; set++) {
+        uint32_t kinds = (uint32_t)__builtin_popcount(set);
+        for (int turn = 0; turn < (kinds <= 3 ? 60 : 6); turn++) {
+            struct timed t = {"", "", 0, 0, 0};
+            struct larusqem_date day = any_day();
+            uint32_t quarrel = turn % 6 ? below(kinds) : kinds;
+            for (int k = 0; k < 12; k++)
+                if (set >> k & 1) {
+                    char conversion[] = {'%', letters[k], ' ', 0};
+                    strcat(t.format, conversion);
+                    say(t.text, letters[k], quarrel-- && turn % 6 <= 3 ? day : any_day());
+                }
+            time_reading(&t, 3);
+            sum += t.best;
+            count++;
+            if (t.best > worst[set - 1].best) worst[set - 1] = t;
+        }
+    }
+    qsort(worst, SETS, sizeof *worst, by_time);
+    for (size_t i = 0; i < KEPT; i++) time_reading(&worst[i], 25);
+    qsort(worst, KEPT, sizeof *worst, by_time);
+    printf("| the slowest of %d readings, of each format one (mean of all %.2f microseconds) | format | number | days examined | "
+           "microseconds |\n|---|---|---|---|---|\n", count, sum / count / 1e3);
+    for (struct timed *t = worst; t < worst + 5; t++)
+        printf("| `%s` | `%s` | %u | %u | %.2f |\n", t->text, t->format, t->number, t->examined, t->best / 1e3);
+    printf("\n");
+}
+
+/* ---- the plain engine: the same loop in C, each day examined whole and in order, the budget looked at before each day */
+
+/* at each kind 1 to 12: 0 unsaid, else one more than the number */
 struct facts {
-    uint32_t year, month, day, weekday, u, v; /* 0 unsaid, else one more than the number */
+    uint32_t said[13];
 };
 
 static int leap(uint32_t y) { return y % 4 == 0 && (y % 100 != 0 || y % 400 == 0); }
@@ -117,49 +321,96 @@ static uint32_t length_of(uint32_t y, uint32_t m) {
     return m == 2 && leap(y) ? 29 : lengths[m];
 }
 
-static uint32_t iso_week(uint32_t y, uint32_t number, uint32_t before) {
+/* the year and the week of a day's Thursday */
+static uint32_t iso(uint32_t kind, uint32_t y, uint32_t number, uint32_t before) {
     uint32_t thursday = number + 4 - ((number + 6) % 7 + 1), start = before, end = before + (leap(y) ? 366 : 365);
-    if (thursday <= before) start = before - (leap(y - 1) ? 366 : 365);
-    else if (end < thursday) start = end;
-    return (thursday - start + 6) / 7;
+    if (thursday <= before) start = before - (leap(--y) ? 366 : 365);
+    else if (end < thursday) start = end, y++;
+    return kind == 10 ? y : kind == 11 ? y % 100 : (thursday - start + 6) / 7;
 }
 
-__attribute__((noipa)) static uint32_t search(struct facts f, uint32_t hits[2]) {
-    uint32_t number = 1, n = 0;
+static int other(const struct facts *f, uint32_t kind, uint32_t number) { return f->said[kind] && f->said[kind] - 1 != number; }
+
+static int agrees(const struct facts *f, int iso_said, uint32_t y, uint32_t m, uint32_t d, uint32_t number, uint32_t before) {
+    if (other(f, 1, y)) return 0;
+    if (other(f, 2, y / 100)) return 0;
+    if (other(f, 3, y % 100)) return 0;
+    if (other(f, 4, m)) return 0;
+    if (other(f, 5, d)) return 0;
+    if (other(f, 6, number - before)) return 0;
+    if (other(f, 7, (number + 6) % 7 + 1)) return 0;
+    if (other(f, 8, number / 7 - before / 7)) return 0;
+    if (other(f, 9, (number + 6) / 7 - (before + 6) / 7)) return 0;
+    if (!iso_said) return 1;
+    for (uint32_t kind = 10; kind <= 12; kind++)
+        if (f->said[kind] && f->said[kind] - 1 != iso(kind, y, number, before)) return 0;
+    return 1;
+}
+
+/* the days examined, or the budget where that is used up before; at most two days that agree */
+__attribute__((noipa)) static uint32_t search(const struct facts *f, uint32_t budget, uint32_t hits[2]) {
+    uint32_t number = 0, n = 0;
+    int iso_said = f->said[10] || f->said[11] || f->said[12];
     for (uint32_t y = 1; y <= 9999; y++) {
-        uint32_t before = number - 1;
+        uint32_t before = number;
         for (uint32_t m = 1; m <= 12; m++)
-            for (uint32_t d = 1, last = length_of(y, m); d <= last; d++, number++) {
-                if (f.year && f.year - 1 != y) continue;
-                if (f.month && f.month - 1 != m) continue;
-                if (f.day && f.day - 1 != d) continue;
-                if (f.weekday && f.weekday - 1 != (number + 6) % 7 + 1) continue;
-                if (f.u && f.u - 1 != number / 7 - before / 7) continue;
-                if (f.v && f.v - 1 != iso_week(y, number, before)) continue;
+            for (uint32_t d = 1, last = length_of(y, m); d <= last; d++) {
+                if (number == budget) return budget;
+                number++;
+                if (!agrees(f, iso_said, y, m, d, number, before)) continue;
                 hits[n++] = number;
-                if (n == 2) return n;
+                if (n == 2) return number;
             }
     }
-    return n;
+    return number;
+}
+
+static struct facts facts;
+
+static void scan_c(void) {
+    uint32_t hits[2];
+    sink += search(&facts, larusqem_days(), hits);
+}
+
+static void scan_plain(void) {
+    struct larusqem_options plain = {LARUSQEM_PLAIN, 0};
+    sink += larusqem_read_with(elements, element_count, texts[0], text_lengths[0], plain).place;
+}
+
+static void scan_within(void) {
+    struct larusqem_options within = {LARUSQEM_WITHIN, larusqem_days()};
+    sink += larusqem_read_with(elements, element_count, texts[0], text_lengths[0], within).place;
 }
 
 static void scanning(void) {
     static const struct { const char *what, *format, *text; struct facts facts; } cases[] = {
-        {"a complete date", "%d %b %Y", "5 Mar 1934", {1935, 4, 6, 0, 0, 0}},
-        {"year, month and weekday, two at the end", "%Y %m %a", "9999 12 Mon", {10000, 13, 0, 2, 0, 0}},
-        {"day and month that no year has", "%d %m", "30 2", {0, 3, 31, 0, 0, 0}},
-        {"day, month and weekday, none", "%d %m %a", "30 2 Mon", {0, 3, 31, 2, 0, 0}},
-        {"week %U 53 in January, none", "%U %m", "53 1", {0, 2, 0, 0, 54, 0}},
-        {"week %V 53 in March, none", "%V %m", "53 3", {0, 4, 0, 0, 0, 54}},
+        {"a complete date", "%d %b %Y", "5 Mar 1934", {{[1] = 1935, [4] = 4, [5] = 6}}},
+        {"day and month that no year has", "%d %m", "30 2", {{[4] = 3, [5] = 31}}},
+        {"day and weekday of a month, none", "%d %m %a", "30 2 Mon", {{[4] = 3, [5] = 31, [7] = 2}}},
+        {"%U and %W that never meet", "%U %W", "10 12", {{[8] = 11, [9] = 13}}},
+        {"ISO year, week and weekday", "%G %V %u", "2009 53 5", {{[7] = 6, [10] = 2010, [12] = 54}}},
+        {"week %V 53 in March, none", "%V %m", "53 3", {{[4] = 4, [12] = 54}}},
+        {"%g and %V, none", "%g %V", "0 53", {{[11] = 1, [12] = 54}}},
     };
-    printf("| search of all %u days | the same loop in C | ours, the whole reading | ratio | ns for a day |\n", larusqem_days());
-    printf("|---|---|---|---|---|\n");
-    for (size_t k = 0; k < sizeof cases / sizeof *cases; k++) {
-        const char *f = cases[k].format, *s = cases[k].text;
+    printf("| plain search of %u days | the same loop in C | ours, the whole reading | ratio | with a budget | ratio | ns for a day | "
+           "the skipping engine |\n|---|---|---|---|---|---|---|---|\n", larusqem_days());
+    for (size_t k = 0; k < COUNT(cases); k++) {
+        struct racer r[] = {{scan_c, 0}, {scan_plain, 0}, {scan_within, 0}};
+        struct timed skipping = {"", "", 0, 0, 0};
+        struct larusqem_options plain = {LARUSQEM_PLAIN, 0};
         uint32_t hits[2];
-        BEST(c, 1, sink += search(cases[k].facts, hits));
-        BEST(us, 1, sink += larusqem_strptime(f, strlen(f), s, strlen(s)).place);
-        printf("| %s (`%s`) | %.2f ms | %.2f ms | %.2f | %.2f |\n", cases[k].what, s, c / 1e6, us / 1e6, us / c, us / larusqem_days());
+        facts = cases[k].facts;
+        open_format(cases[k].format, LARUSQEM_FOR_READING);
+        text_lengths[0] = strlen(strcpy(texts[0], cases[k].text));
+        uint32_t examined = larusqem_read_with(elements, element_count, texts[0], text_lengths[0], plain).examined;
+        if (examined != search(&facts, UINT32_MAX, hits)) fail("the loop in C examined another number of days", format, texts[0]);
+        race(r, COUNT(r), SCANS);
+        strcpy(skipping.format, format);
+        strcpy(skipping.text, texts[0]);
+        time_reading(&skipping, ROUNDS);
+        double c = r[0].best / 1e6, p = r[1].best / 1e6, w = r[2].best / 1e6;
+        printf("| %s (`%s`) | %.2f ms | %.2f ms | %.2f | %.2f ms | %.2f | %.2f | %.2f microseconds |\n", cases[k].what, texts[0], c, p,
+               p / c, w, w / c, r[1].best / examined, skipping.best / 1e3);
     }
     printf("\n");
 }
@@ -167,7 +418,9 @@ static void scanning(void) {
 int main(void) {
     make_dates();
     writing();
-    reading();
+    reading_clocks();
+    reading_dates();
+    slowest();
     scanning();
     return 0;
 }

@@ -1,6 +1,7 @@
 //! Cases worked by hand, on `rules.rs`: what is expected is typed, not computed.
 use crate::c_library::isspace;
-use crate::rules::{read, white, write, Calendar, Moment, Reading};
+use crate::random::Random;
+use crate::rules::{matched, read, white, write, Calendar, Engine, Facts, Moment, Reading, DAYS};
 
 const MORNING: Moment = [1934, 3, 5, 7, 8, 9];
 
@@ -33,8 +34,10 @@ fn margins() {
     assert_eq!(write(&cal, b"%A", &midnight(1900, 2, 29), 9), (2, 3, vec![]));
     writes("", MORNING, "");
 
+    // the days examined aside
     let reads = |format: &str, text: &str, expected: Reading| {
-        assert_eq!(read(&cal, format.as_bytes(), text.as_bytes()), expected, "{text} by {format}");
+        let found = read(&cal, Engine::Skipping, format.as_bytes(), text.as_bytes());
+        assert_eq!(Reading { examined: 0, ..found }, expected, "{text} by {format}");
     };
     let answer = |number, place| Reading { number, place, ..Reading::default() };
     reads("%G %V %u", "2009 53 5", Reading { day: Some((2010, 1, 1)), ..answer(0, 9) });
@@ -101,10 +104,83 @@ fn flags_and_widths() {
     for bad in ["%5m", "%-d", "%_5Ey", "%^a", "%^P", "%05Y", "%1j", "%0"] {
         let format = format!("%d {bad}");
         let expected = Reading { number: 3, place: 3, ..Reading::default() };
-        assert_eq!(read(&cal, format.as_bytes(), b"3"), expected, "{format}");
+        assert_eq!(read(&cal, Engine::Skipping, format.as_bytes(), b"3"), expected, "{format}");
     }
     // the most that a format writes
     assert_eq!(write(&cal, &b"%99d".repeat(256), &early, 0), (4, 25_344, vec![]));
+}
+
+/// The days that each engine examines, and budgets.
+#[test]
+fn engines() {
+    let cal = Calendar::new();
+    let all = DAYS as u32;
+    for (format, text, number, plain, skipping) in [
+        ("%d %b", "5 mar", 10, 365 + 31 + 28 + 5, 31 + 5),
+        ("%d %b", "30 feb", 9, all, 9999 * 28 + 2424),
+        ("%d %b", "29 feb", 10, 7 * 365 + 1 + 31 + 29, 3 * 28 + 29 + 3 * 28 + 29),
+        ("%d %b %Y %H:%M", "5 Mar 1934 07:08", 0, all, 31),
+        ("%d %b %Y %H:%M", "29 Feb 1900 07:08", 9, all, 28),
+        ("%a %d %b %Y", "Tue 5 Mar 1934", 9, all, 31),
+        ("%d %b %Y %I", "5 Mar 1934 07", 10, all, 31),
+        ("%F %H %p", "2000-02-29 7 PM", 9, all, 29),
+        ("%G %V %u", "2009 53 5", 0, all, all),
+        ("%G %V %u", "2016 53 7", 9, all, all),
+        ("%G %V", "1 1", 10, 2, 2),
+        ("%G %Y", "2009 2010", 10, 733_774, 2),
+        ("%G %Y", "2009 2011", 9, all, 365),
+        ("%Y", "1", 10, 2, 2),
+        ("%Y", "9999", 10, all - 363, 2),
+        ("%Y %j", "1934 64", 0, all, 365),
+        ("%Y %m", "9999 12", 10, all - 29, 2),
+        ("%C", "99", 10, all - 36_524 + 2, 2),
+        ("%C %y", "00 00", 9, all, 0),
+        ("%C %y", "19 00", 10, 693_597, 2),
+        ("%C %y %j", "20 00 366", 0, all, 366),
+        ("%Y %C", "1934 20", 9, all, 0),
+        ("%Y %y %m", "1934 35 3", 9, all, 0),
+        ("%y", "0", 10, 99 * 365 + 24 + 2, 2),
+        ("%y %m %d", "0 2 29", 10, 291_888, 6 * 28 + 2 * 29),
+        ("%y %m %d", "1 2 29", 9, all, 100 * 28),
+        ("%j", "366", 10, 8 * 365 + 2, 8 * 365 + 2),
+        ("%m %j", "1 366", 9, all, 9999 * 31),
+        ("%U %m", "53 1", 9, all, 9999 * 31),
+        // no fact bears on the day, or a refusal came before it
+        ("", "", 0, 0, 0),
+        ("%I:%M", "07:08", 10, 0, 0),
+        ("%H %p", "7 PM", 9, 0, 0),
+        ("%d %e", "5 6", 8, 0, 0),
+        ("%d %m", "5 13", 7, 0, 0),
+        ("%d %m", "5 x", 6, 0, 0),
+        ("%d %Q", "5 x", 3, 0, 0),
+    ] {
+        let matched = matched(&cal, format.as_bytes(), text.as_bytes());
+        let by_plain = matched.reading(Engine::Plain);
+        assert_eq!((by_plain.number, by_plain.examined), (number, plain), "{text} by {format}");
+        assert_eq!(matched.reading(Engine::Skipping), Reading { examined: skipping, ..by_plain.clone() }, "{text} by {format}");
+        for budget in [0, 1, 2, plain / 2, plain.saturating_sub(1), plain, plain + 1, all - 1, all, u32::MAX] {
+            let over = Reading { number: 11, place: budget, examined: budget, ..Reading::default() };
+            let expected = if budget < plain { &over } else { &by_plain };
+            assert_eq!(matched.reading(Engine::Within(budget)), *expected, "{text} by {format} within {budget}");
+        }
+    }
+}
+
+/// The quick search and the literal one, on sets of facts that agree with a day or quarrel.
+#[test]
+fn searches() {
+    let cal = Calendar::new();
+    let mut random = Random(1934);
+    for i in 0..60 {
+        let d = if i % 3 == 0 { *random.pick(&cal.days[..4000]) } else { *random.pick(&cal.days) };
+        let other = *random.pick(&cal.days);
+        let mut facts: Facts = [None; 18];
+        for _ in 0..1 + random.below(4) {
+            let kind = 1 + random.below(12);
+            facts[kind] = Some(if random.chance(80) { d.value(kind) } else { other.value(kind) });
+        }
+        assert_eq!(cal.search(&facts), cal.search_slowly(&facts), "{facts:?}");
+    }
 }
 
 #[test]

@@ -1,7 +1,8 @@
 //! The rules of docs/RULES.md once more, in plain Rust: written from their text alone, to be compared with the proved library and to make
 //! vectors. It shares no code and no table with the library or its bindings, and takes the slow, literal way wherever there is one: weeks
-//! are counted by walking the calendar day by day, and a reading is judged against every day. Python's datetime module judges its calendar
-//! (`vectors days` and tests/every_day.py), cases worked by hand its rules (`margins.rs`).
+//! are counted by walking the calendar day by day, and a reading is judged against every day. What is quicker stands beside what is literal
+//! and is compared with it. Python's datetime module judges its calendar (`vectors days` and tests/every_day.py), cases worked by hand its
+//! rules (`margins.rs`).
 
 /// The last day of the calendar, 9999-12-31.
 pub const DAYS: usize = 3_652_059;
@@ -131,24 +132,73 @@ impl Calendar {
         Calendar { days, years, sets }
     }
 
-    pub fn find(&self, year: u32, month: u32, day: u32) -> &Day {
+    /// The place of a date in `days`.
+    pub fn place(&self, year: u32, month: u32, day: u32) -> usize {
         let past: u32 = (1..month).map(|m| month_length(year, m)).sum();
-        let found = &self.days[self.years[year as usize] + (past + day) as usize - 1];
+        self.years[year as usize] + (past + day) as usize - 1
+    }
+
+    pub fn find(&self, year: u32, month: u32, day: u32) -> &Day {
+        let found = &self.days[self.place(year, month, day)];
         debug_assert_eq!(found.date(), (year, month, day));
         found
     }
 
     fn agrees(&self, i: usize, facts: &Facts) -> bool {
-        (1..=12).all(|k| facts[k].is_none() || facts[k] == Some(self.days[i].value(k)))
+        (1..=12).all(|k| agrees(facts, k, self.days[i].value(k)))
     }
 
-    /// The first two agreeing days, by asking every day of the calendar.
-    pub fn first_two_slowly(&self, facts: &Facts) -> Vec<usize> {
-        (0..DAYS).filter(|&i| self.agrees(i, facts)).take(2).collect()
+    /// A search that asks every day, in order, up to the second that agrees.
+    pub fn search_slowly(&self, facts: &Facts) -> Search {
+        let mut search = Search { days: Vec::new(), plain: 0, skipping: 0 };
+        for (i, d) in self.days.iter().enumerate() {
+            search.plain += 1;
+            search.skipping += (1..=4).all(|k| agrees(facts, k, d.value(k))) as u32;
+            if self.agrees(i, facts) {
+                search.days.push(d.date());
+                if search.days.len() == 2 {
+                    break;
+                }
+            }
+        }
+        search
     }
 
-    /// The same, faster: only a year's days where a year is said, else by intersecting the sets of days.
-    pub fn first_two(&self, facts: &Facts) -> Vec<usize> {
+    /// The same, faster.
+    pub fn search(&self, facts: &Facts) -> Search {
+        let found = self.first_two(facts);
+        let through = found.get(1).map_or(DAYS, |i| i + 1);
+        let days = found.iter().map(|&i| self.days[i].date()).collect();
+        Search { days, plain: through as u32, skipping: self.in_possible_months(facts, through) as u32 }
+    }
+
+    /// How many of the first so many days lie in months whose year and month agree with all facts of kinds 1 to 4.
+    fn in_possible_months(&self, facts: &Facts, through: usize) -> usize {
+        if facts[1..=4].iter().all(|f| f.is_none()) {
+            return through;
+        }
+        let mut count = 0;
+        for year in facts[1].map_or(1..=9999, |y| y..=y) {
+            let mut before = self.years[year as usize];
+            if before >= through {
+                break;
+            }
+            if !(agrees(facts, 2, year / 100) && agrees(facts, 3, year % 100)) {
+                continue;
+            }
+            for month in 1..=12 {
+                let length = month_length(year, month) as usize;
+                if agrees(facts, 4, month) {
+                    count += length.min(through.saturating_sub(before));
+                }
+                before += length;
+            }
+        }
+        count
+    }
+
+    /// The first two agreeing days: only a year's days are asked where a year is said, else the sets of days are intersected.
+    fn first_two(&self, facts: &Facts) -> Vec<usize> {
         let (mut from, mut to) = (0, DAYS);
         if let Some(y) = facts[1] {
             from = self.years[y as usize];
@@ -183,6 +233,31 @@ impl Calendar {
 
 /// At each kind 1 to 17 (RULES 7) the number said, if one was. AM is 0 and PM is 1.
 pub type Facts = [Option<u32>; 18];
+
+/// Whether nothing else is said of a kind than this number.
+fn agrees(facts: &Facts, kind: usize, number: u32) -> bool {
+    facts[kind].map_or(true, |said| said == number)
+}
+
+/// How the day is searched for (RULES 8).
+#[derive(Clone, Copy, PartialEq, Eq, Debug)]
+pub enum Engine {
+    /// Through the months alone whose year and month agree with all facts of kinds 1 to 4.
+    Skipping,
+    /// Through all days.
+    Plain,
+    /// Through all days, if it takes no more than so many.
+    Within(u32),
+}
+
+/// What a search for the day comes to: the first two days that agree, or the one, or none; and how many days the plain engine, without a
+/// budget, and the skipping one examine for that.
+#[derive(Clone, PartialEq, Eq, Debug)]
+pub struct Search {
+    pub days: Vec<(u32, u32, u32)>,
+    pub plain: u32,
+    pub skipping: u32,
+}
 
 /// What a format is opened for: flags and widths are taken for writing alone (RULES 4).
 #[derive(Clone, Copy, PartialEq, Eq, Debug)]
@@ -440,6 +515,7 @@ pub struct Reading {
     pub second: Option<u32>,
     pub two_days: Option<[(u32, u32, u32); 2]>,
     pub two_hours: Option<[u32; 2]>,
+    pub examined: u32,
 }
 
 fn refused(number: u32, place: usize) -> Reading {
@@ -447,21 +523,39 @@ fn refused(number: u32, place: usize) -> Reading {
 }
 
 /// The reader.
-pub fn read(cal: &Calendar, format: &[u8], text: &[u8]) -> Reading {
-    if format.len() > 1024 {
-        return refused(1, 0);
-    }
-    read_opened(cal, &items(format, Use::Reading), text)
+pub fn read(cal: &Calendar, engine: Engine, format: &[u8], text: &[u8]) -> Reading {
+    matched(cal, format, text).reading(engine)
 }
 
-/// The reader for items that were opened before, or the place of what is bad among them.
-pub fn read_opened(cal: &Calendar, opened: &Result<Vec<Item>, usize>, text: &[u8]) -> Reading {
+/// What a reading comes to before an engine is named: the facts, the first unread offset and what there is to find by them, if any fact
+/// bears on the day; or a refusal.
+pub enum Matched {
+    Facts { facts: Facts, at: usize, search: Option<Search> },
+    Refused(Reading),
+}
+
+/// What a format makes of a text.
+pub fn matched(cal: &Calendar, format: &[u8], text: &[u8]) -> Matched {
+    if format.len() > 1024 {
+        return Matched::Refused(refused(1, 0));
+    }
+    matched_opened(cal, &items(format, Use::Reading), text)
+}
+
+/// The same for items that were opened before, or the place of what is bad among them.
+pub fn matched_opened(cal: &Calendar, opened: &Result<Vec<Item>, usize>, text: &[u8]) -> Matched {
     if text.len() > 1024 {
-        return refused(5, 0);
+        return Matched::Refused(refused(5, 0));
     }
     match opened {
-        Err(at) => refused(3, *at),
-        Ok(items) => read_items(cal, items, text),
+        Err(at) => Matched::Refused(refused(3, *at)),
+        Ok(items) => match read_items(items, text) {
+            Err(reading) => Matched::Refused(reading),
+            Ok((facts, at)) => {
+                let search = facts[1..=12].iter().any(|f| f.is_some()).then(|| cal.search(&facts));
+                Matched::Facts { facts, at, search }
+            }
+        },
     }
 }
 
@@ -507,8 +601,8 @@ fn name_at(text: &[u8], names: &[&str]) -> Option<(u32, usize)> {
     None
 }
 
-/// What the items read (RULES 6): 6, 7 or 8 from left to right, then what the facts leave.
-fn read_items(cal: &Calendar, items: &[Item], text: &[u8]) -> Reading {
+/// What the items read (RULES 6): the facts and the first unread offset, or 6, 7 or 8, from left to right.
+fn read_items(items: &[Item], text: &[u8]) -> Result<(Facts, usize), Reading> {
     let mut facts: Facts = [None; 18];
     let mut at = 0;
     let spaces = |at: usize| text[at..].iter().take_while(|b| white(**b)).count();
@@ -520,7 +614,7 @@ fn read_items(cal: &Calendar, items: &[Item], text: &[u8]) -> Reading {
             }
             Item::Byte(b) => {
                 if text.get(at) != Some(&b) {
-                    return refused(6, at);
+                    return Err(refused(6, at));
                 }
                 at += 1;
                 continue;
@@ -531,11 +625,11 @@ fn read_items(cal: &Calendar, items: &[Item], text: &[u8]) -> Reading {
             at += spaces(at);
             let digits = text[at..].iter().take(width).take_while(|b| b.is_ascii_digit()).count();
             if digits == 0 {
-                return refused(6, at);
+                return Err(refused(6, at));
             }
             let n: u32 = std::str::from_utf8(&text[at..at + digits]).unwrap().parse().unwrap();
             if n < least || n > greatest {
-                return refused(7, at);
+                return Err(refused(7, at));
             }
             (kind, if letter == b'w' && n == 0 { 7 } else { n }, digits)
         } else {
@@ -548,40 +642,53 @@ fn read_items(cal: &Calendar, items: &[Item], text: &[u8]) -> Reading {
                 }
             };
             match found {
-                None => return refused(6, at),
+                None => return Err(refused(6, at)),
                 Some((i, length)) => (kind, i + from, length),
             }
         };
         if facts[kind].is_some() && facts[kind] != Some(number) {
-            return refused(8, at);
+            return Err(refused(8, at));
         }
         facts[kind] = Some(number);
         at += length;
     }
-    judged(cal, &facts, at)
+    Ok((facts, at))
 }
 
-/// The day and the hour that the facts leave (RULES 8).
-fn judged(cal: &Calendar, facts: &Facts, at: usize) -> Reading {
-    let mut day = None;
-    if facts[1..=12].iter().any(|f| f.is_some()) {
-        let found: Vec<_> = cal.first_two(facts).iter().map(|&i| cal.days[i].date()).collect();
-        match found[..] {
-            [] => return refused(9, 1),
-            [one] => day = Some(one),
-            _ => return Reading { two_days: Some([found[0], found[1]]), ..refused(10, 1) },
+impl Matched {
+    /// The day and the hour that the facts leave (RULES 8).
+    pub fn reading(&self, engine: Engine) -> Reading {
+        let (facts, at, search) = match self {
+            Matched::Refused(reading) => return reading.clone(),
+            Matched::Facts { facts, at, search } => (facts, *at, search),
+        };
+        let mut day = None;
+        let mut examined = 0;
+        if let Some(search) = search {
+            examined = match engine {
+                Engine::Skipping => search.skipping,
+                Engine::Plain => search.plain,
+                Engine::Within(budget) if budget < search.plain => {
+                    return Reading { examined: budget, ..refused(11, budget as usize) };
+                }
+                Engine::Within(_) => search.plain,
+            };
+            match search.days[..] {
+                [] => return Reading { examined, ..refused(9, 1) },
+                [one] => day = Some(one),
+                [first, second, ..] => return Reading { two_days: Some([first, second]), examined, ..refused(10, 1) },
+            }
         }
-    }
-    let mut hour = None;
-    if facts[13..=15].iter().any(|f| f.is_some()) {
-        let agrees = |kind: usize, number: u32| facts[kind].is_none() || facts[kind] == Some(number);
-        let fits = |h: &u32| agrees(13, *h) && agrees(14, twelve(*h)) && agrees(15, *h / 12);
-        let found: Vec<u32> = (0..24).filter(fits).collect();
-        match found[..] {
-            [] => return refused(9, 2),
-            [one] => hour = Some(one),
-            _ => return Reading { two_hours: Some([found[0], found[1]]), ..refused(10, 2) },
+        let mut hour = None;
+        if facts[13..=15].iter().any(|f| f.is_some()) {
+            let fits = |h: &u32| agrees(facts, 13, *h) && agrees(facts, 14, twelve(*h)) && agrees(facts, 15, *h / 12);
+            let found: Vec<u32> = (0..24).filter(fits).collect();
+            match found[..] {
+                [] => return Reading { examined, ..refused(9, 2) },
+                [one] => hour = Some(one),
+                [first, second, ..] => return Reading { two_hours: Some([first, second]), examined, ..refused(10, 2) },
+            }
         }
+        Reading { number: 0, place: at as u32, day, hour, minute: facts[16], second: facts[17], examined, ..Reading::default() }
     }
-    Reading { number: 0, place: at as u32, day, hour, minute: facts[16], second: facts[17], ..Reading::default() }
 }

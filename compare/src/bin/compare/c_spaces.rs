@@ -1,9 +1,9 @@
 //! White space against the C library's isspace: each of the 256 bytes, in a format, in a text and before a number.
-use crate::library;
+use crate::library::{self, SKIPPING, WORDS};
 use compare::c_library::isspace;
 
 pub fn compare(mut differs: impl FnMut(&dyn std::fmt::Debug)) {
-    let reads = |format: &[u8], text: &[u8]| library::strptime(format, text, &mut [0; library::WORDS]);
+    let reads = |format: &[u8], text: &[u8]| library::strptime(format, text, SKIPPING, &mut [0; WORDS]);
     for b in 0..=255 {
         let found = [
             reads(&[b], b"") == (0, 0),

@@ -33,13 +33,6 @@ const TYPICAL: [&str; 24] = [
     "%l %P",
 ];
 
-/// A number that a date fact of a kind can have.
-pub fn number(random: &mut Random, kind: usize) -> u32 {
-    let (least, greatest) =
-        [(1, 9999), (0, 99), (0, 99), (1, 12), (1, 31), (1, 366), (1, 7), (0, 53), (0, 53), (1, 9999), (0, 99), (1, 53)][kind - 1];
-    random.from(least, greatest)
-}
-
 fn conversion(out: &mut Vec<u8>, letter: u8) {
     out.extend_from_slice(&[b'%', letter]);
 }
@@ -81,14 +74,14 @@ fn token(random: &mut Random, out: &mut Vec<u8>) {
     }
 }
 
-/// A format whose facts often fix a day: a year nearly always, since a search without one takes long.
+/// A format whose facts often fix a day: a year mostly.
 fn dated(random: &mut Random) -> Vec<u8> {
     let mut letters: Vec<u8> = Vec::new();
-    match random.below(1000) {
-        0..=499 => letters.push(b'Y'),
-        500..=749 => letters.push(b'G'),
-        750..=869 => letters.extend(b"Cy"),
-        870..=989 => letters.extend(random.pick(&[&b"md"[..], b"bd", b"me", b"j", b"yj", b"Cmd", b"ymd", b"m", b"B", b"y", b"C"]).iter()),
+    match random.below(100) {
+        0..=39 => letters.push(b'Y'),
+        40..=54 => letters.push(b'G'),
+        55..=66 => letters.extend(b"Cy"),
+        67..=89 => letters.extend(random.pick(&[&b"md"[..], b"bd", b"me", b"j", b"yj", b"Cmd", b"ymd", b"m", b"B", b"y", b"C"]).iter()),
         _ => {}
     }
     for _ in 0..random.below(5) {

@@ -1,9 +1,9 @@
 //! Every flag and width before every letter: written, opened and read, against the rules.
 use crate::elements::Opened;
-use crate::library::{self, Lent, WORDS};
-use crate::words;
+use crate::library::{self, Lent, SKIPPING, WORDS};
+use crate::readings::words;
 use compare::random::Random;
-use compare::rules::{self, Calendar, Moment, Use};
+use compare::rules::{self, Calendar, Engine, Moment, Use};
 
 /// None, the four, and one that is none.
 const FLAGS: [&str; 6] = ["", "_", "-", "0", "^", "+"];
@@ -76,7 +76,7 @@ fn compare_openings(random: &mut Random, format: &[u8], differs: &mut impl FnMut
 /// What was written, by the format and by the elements that it opens to for writing.
 fn compare_readings(random: &mut Random, cal: &Calendar, format: &[u8], differs: &mut impl FnMut(&dyn std::fmt::Debug)) {
     let text = rules::write(cal, format, &MOMENTS[0], usize::MAX).2;
-    let reading = rules::read(cal, format, &text);
+    let reading = rules::read(cal, Engine::Skipping, format, &text);
     let opened = Opened::new(format, Use::Writing);
     let mut compare_words = |by: &str, call: &dyn Fn(&mut [u32]) -> (u32, u32)| {
         let mut lent = Lent::new(random, WORDS, |n| n as u32);
@@ -85,8 +85,8 @@ fn compare_readings(random: &mut Random, cal: &Calendar, format: &[u8], differs:
             differs(&(by, String::from_utf8_lossy(format), &text, found, lent.slice().to_vec(), &reading));
         }
     };
-    compare_words("format", &|lent| library::strptime(format, &text, lent));
+    compare_words("format", &|lent| library::strptime(format, &text, SKIPPING, lent));
     if opened.whole {
-        compare_words("elements", &|lent| library::read(&opened.elements, &text, lent));
+        compare_words("elements", &|lent| library::read(&opened.elements, &text, SKIPPING, lent));
     }
 }

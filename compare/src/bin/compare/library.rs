@@ -3,7 +3,7 @@ use compare::random::Random;
 use compare::rules::Moment;
 
 /// The words of a reading.
-pub const WORDS: usize = 15;
+pub const WORDS: usize = 16;
 const GUARD: usize = 24;
 
 mod raw {
@@ -23,6 +23,8 @@ mod raw {
             format_length: usize,
             text: *const u8,
             text_length: usize,
+            engine: u32,
+            budget: u32,
             reading: *mut u32,
         ) -> u64;
         pub fn larusqem_read_words(
@@ -30,6 +32,8 @@ mod raw {
             elements_length: usize,
             text: *const u8,
             text_length: usize,
+            engine: u32,
+            budget: u32,
             reading: *mut u32,
         ) -> u64;
         pub fn larusqem_open_words(
@@ -62,14 +66,25 @@ pub fn write(elements: &[u32], m: &Moment, out: &mut [u8]) -> (u32, u32) {
     split(unsafe { raw::larusqem_write_words(elements.as_ptr(), elements.len(), m.as_ptr(), out.as_mut_ptr(), out.len()) })
 }
 
-pub fn strptime(format: &[u8], text: &[u8], reading: &mut [u32]) -> (u32, u32) {
-    assert_eq!(reading.len(), WORDS);
-    split(unsafe { raw::larusqem_strptime_words(format.as_ptr(), format.len(), text.as_ptr(), text.len(), reading.as_mut_ptr()) })
+/// An engine as the functions are told of it: its number, and a budget that only the plain one with a budget looks at.
+#[derive(Clone, Copy, Debug)]
+pub struct Told {
+    pub engine: u32,
+    pub budget: u32,
 }
 
-pub fn read(elements: &[u32], text: &[u8], reading: &mut [u32]) -> (u32, u32) {
+pub const SKIPPING: Told = Told { engine: 0, budget: 0 };
+
+pub fn strptime(format: &[u8], text: &[u8], told: Told, reading: &mut [u32]) -> (u32, u32) {
     assert_eq!(reading.len(), WORDS);
-    split(unsafe { raw::larusqem_read_words(elements.as_ptr(), elements.len(), text.as_ptr(), text.len(), reading.as_mut_ptr()) })
+    let (format_start, text_start, reading) = (format.as_ptr(), text.as_ptr(), reading.as_mut_ptr());
+    split(unsafe { raw::larusqem_strptime_words(format_start, format.len(), text_start, text.len(), told.engine, told.budget, reading) })
+}
+
+pub fn read(elements: &[u32], text: &[u8], told: Told, reading: &mut [u32]) -> (u32, u32) {
+    assert_eq!(reading.len(), WORDS);
+    let (elements_start, text_start, reading) = (elements.as_ptr(), text.as_ptr(), reading.as_mut_ptr());
+    split(unsafe { raw::larusqem_read_words(elements_start, elements.len(), text_start, text.len(), told.engine, told.budget, reading) })
 }
 
 /// For reading where `for_writing` is 0, and for writing where it is any other number.

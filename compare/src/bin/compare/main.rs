@@ -1,19 +1,22 @@
-//! Compares the proved library with an independent implementation of the rules (`rules.rs`) on random cases and on every flag and width,
-//! its writer with the C library's strftime on every day of the years 1000 to 9999 and on flags and widths, and its white space with
-//! isspace on every byte. Usage: compare SECONDS [SEED]
+//! Compares the proved library with an independent implementation of the rules (`rules.rs`) on random cases, on every flag and width and
+//! on every set of kinds of facts, its readings by every engine, its writer with the C library's strftime on every day of the years 1000
+//! to 9999 and on flags and widths, and its white space with isspace on every byte. Usage: compare SECONDS [SEED]
 mod c_columns;
 mod c_days;
 mod c_spaces;
 mod cases;
 mod columns;
 mod elements;
+mod facts;
 mod library;
+mod readings;
 mod speed;
 
 use compare::random::Random;
-use compare::rules::{self, Calendar, Item, Reading, Use};
+use compare::rules::{self, Calendar, Reading, Use};
 use elements::Opened;
-use library::{Lent, WORDS};
+use library::Lent;
+use readings::{READ, STRANGE, STRPTIME};
 use std::collections::BTreeMap;
 use std::time::{Duration, Instant};
 
@@ -50,32 +53,6 @@ impl Tally {
             println!("DIFFERENCE in {function}: {}", format!("{case:?}").chars().take(2000).collect::<String>());
         }
     }
-}
-
-/// A reading as its fifteen words (RULES 10).
-fn words(r: &Reading) -> [u32; WORDS] {
-    let mut w = [0; WORDS];
-    w[0] = r.number;
-    w[1] = r.place;
-    let put = |w: &mut [u32; WORDS], at: usize, (y, m, d): (u32, u32, u32)| w[at..at + 3].copy_from_slice(&[y, m, d]);
-    if let Some(day) = r.day {
-        put(&mut w, 2, day);
-    }
-    for (at, said) in [(5, r.hour), (7, r.minute), (9, r.second)] {
-        if let Some(n) = said {
-            w[at] = 1;
-            w[at + 1] = n;
-        }
-    }
-    if let Some([a, b]) = r.two_days {
-        put(&mut w, 2, a);
-        put(&mut w, 11, b);
-    }
-    if let Some([a, b]) = r.two_hours {
-        w[6] = a;
-        w[14] = b;
-    }
-    w
 }
 
 /// A buffer's room: none, too little by one, just enough, some more, or anything.
@@ -119,56 +96,17 @@ fn compare_write(random: &mut Random, cal: &Calendar, tally: &mut Tally, functio
     }
 }
 
-/// Whether the library's search for the day goes through the whole calendar. Such readings are compared less often, so that a run has
-/// millions of cases.
-fn takes_long(items: &[Item], reading: &Reading) -> bool {
-    match reading.two_days {
-        Some([_, (year, _, _)]) => year > 100,
-        None => reading.day.is_some() || reading.number >= 9 && names(items, b"YCymdejuwaAbBhUWGgV"),
-    }
-}
-
-/// The less often the longer: without a year or a month the search looks at every day.
-fn skipped(random: &mut Random, items: &[Item]) -> bool {
-    random.below(1000) >= if names(items, b"YCymbBh") { 120 } else { 3 }
-}
-
-fn names(items: &[Item], letters: &[u8]) -> bool {
-    items.iter().any(|i| matches!(i, Item::Conversion(c) if letters.contains(&c.letter)))
-}
-
-/// `larusqem_read_words` by elements, or by any entries.
-fn compare_read(random: &mut Random, tally: &mut Tally, function: &'static str, entries: &[u32], text: &[u8], reading: &Reading) {
-    let mut lent = Lent::new(random, WORDS, |n| n as u32);
-    let found = library::read(entries, text, lent.slice());
-    tally.count_reading(function, reading);
-    if found != (reading.number, reading.place) || !lent.is(&words(reading)) {
-        tally.differs("larusqem_read_words", &(entries, text, found, lent.slice().to_vec(), reading));
-    }
-}
-
 /// Both readers on a text: by the format, and by the elements that it opens to for writing, which without flags and widths are those for
 /// reading.
 fn compare_reading(random: &mut Random, cal: &Calendar, tally: &mut Tally, format: &[u8], opened: &Opened) {
     let text = cases::text(random, cal, &opened.items);
-    let reading = rules::read(cal, format, &text);
-    let long = takes_long(&opened.items, &reading);
-    if long && skipped(random, &opened.items) {
-        return;
-    }
+    let matched = rules::matched(cal, format, &text);
     if opened.whole {
-        compare_read(random, tally, "read", &opened.elements, &text, &reading);
-        // the two readers share the search
-        if long && random.chance(50) {
-            return;
-        }
+        let case = (&opened.elements, &text);
+        readings::compare(random, tally, &READ, &matched, false, &case, |told, lent| library::read(&opened.elements, &text, told, lent));
     }
-    let mut lent = Lent::new(random, WORDS, |n| n as u32);
-    let found = library::strptime(format, &text, lent.slice());
-    tally.count_reading("strptime", &reading);
-    if found != (reading.number, reading.place) || !lent.is(&words(&reading)) {
-        tally.differs("larusqem_strptime_words", &(format, &text, found, lent.slice().to_vec(), &reading));
-    }
+    let case = (format, &text);
+    readings::compare(random, tally, &STRPTIME, &matched, false, &case, |told, lent| library::strptime(format, &text, told, lent));
 }
 
 fn compare_opening(random: &mut Random, tally: &mut Tally, format: &[u8], opened: &Opened, side: Use) {
@@ -254,10 +192,9 @@ fn compare_strange(random: &mut Random, cal: &Calendar, tally: &mut Tally) {
     if random.chance(50) {
         text.truncate(1024 - random.below(4));
     }
-    let reading = rules::read_opened(cal, &opened, &text);
-    if !takes_long(&good, &reading) || !skipped(random, &good) {
-        compare_read(random, tally, "read, strange", &entries, &text, &reading);
-    }
+    let matched = rules::matched_opened(cal, &opened, &text);
+    let case = (&entries, &text);
+    readings::compare(random, tally, &STRANGE, &matched, false, &case, |told, lent| library::read(&entries, &text, told, lent));
 }
 
 /// Every day of the calendar, and numbers and fields that are none.
@@ -306,22 +243,6 @@ fn compare_days(random: &mut Random, cal: &Calendar, tally: &mut Tally) {
     }
 }
 
-/// The fast search of `rules.rs` against asking every day.
-fn search_check(random: &mut Random, cal: &Calendar, tally: &mut Tally) {
-    for _ in 0..150 {
-        let m = cases::moment(random);
-        let d = cal.find(m[0], m[1], m[2]);
-        let mut facts: rules::Facts = [None; 18];
-        for _ in 0..1 + random.below(5) {
-            let kind = 1 + random.below(12);
-            facts[kind] = Some(if random.chance(80) { d.value(kind) } else { cases::number(random, kind) });
-        }
-        if cal.first_two(&facts) != cal.first_two_slowly(&facts) {
-            tally.differs("rules.rs, the fast search", &facts);
-        }
-    }
-}
-
 fn main() {
     let arguments: Result<Vec<u64>, _> = std::env::args().skip(1).map(|a| a.parse()).collect();
     let (seconds, seed) = match arguments.as_deref() {
@@ -338,7 +259,7 @@ fn main() {
 
     let began = Instant::now();
     let cal = Calendar::new();
-    search_check(&mut random, &cal, &mut tally);
+    facts::check_search(&mut random, &cal, &mut tally);
     compare_days(&mut random, &cal, &mut tally);
     println!("{:6.1} s  the calendar, day by day", began.elapsed().as_secs_f64());
 
@@ -359,6 +280,9 @@ fn main() {
         formats.taken
     );
 
+    let sets = facts::compare(&mut random, &cal, &mut tally);
+    println!("{:6.1} s  {sets} sets of facts, of every set of kinds, by every engine", began.elapsed().as_secs_f64());
+
     let cases_began = Instant::now();
     let mut formats = 0u64;
     while cases_began.elapsed() < Duration::from_secs(seconds) {
@@ -368,6 +292,10 @@ fn main() {
         }
         for _ in 0..40 {
             compare_strange(&mut random, &cal, &mut tally);
+        }
+        for _ in 0..40 {
+            let kinds = facts::drawn(&mut random);
+            facts::compare_set(&mut random, &cal, &mut tally, &kinds);
         }
     }
     println!("{:6.1} s  {formats} random formats, and with flags and widths", began.elapsed().as_secs_f64());
@@ -379,6 +307,17 @@ fn main() {
     let total: u64 = tally.counts.values().sum();
     let columned = |number| tally.counts.iter().filter(|((_, n, w), _)| (*n, *w) == (number, COLUMNS)).map(|(_, n)| n).sum::<u64>();
     println!("\nwritings with flags and widths: {} taken, {} refused", columned(0) + columned(4), columned(3));
+    let by = |engine: usize, over: bool| {
+        let names = [STRPTIME[engine], READ[engine], STRANGE[engine]];
+        tally.counts.iter().filter(|((f, n, _), _)| names.contains(f) && (*n == 11) == over).map(|(_, n)| n).sum::<u64>()
+    };
+    println!(
+        "readings: {} by the skipping engine, {} by the plain one, {} within their budget, {} refused by it",
+        by(0, false),
+        by(1, false),
+        by(2, false),
+        by(2, true)
+    );
     println!("\nspeed of the library alone, one thread:");
     speed::measure();
     println!("\n{total} cases, {} differences", tally.differences);

@@ -1,5 +1,5 @@
 //! Writes and reads per second of the library alone. Calls of C functions stay where they are: nothing is optimised away.
-use crate::library;
+use crate::library::{self, SKIPPING};
 use std::time::{Duration, Instant};
 
 fn rate(name: &str, mut once: impl FnMut(u32)) {
@@ -35,10 +35,10 @@ fn read(format: &str, text: &str) {
     let elements = &elements[..count as usize];
     let mut words = [0; library::WORDS];
     rate(&format!("read \"{text}\" by \"{format}\""), |_| {
-        library::strptime(format.as_bytes(), text.as_bytes(), &mut words);
+        library::strptime(format.as_bytes(), text.as_bytes(), SKIPPING, &mut words);
     });
     rate(&format!("read \"{text}\" by \"{format}\", opened once"), |_| {
-        library::read(elements, text.as_bytes(), &mut words);
+        library::read(elements, text.as_bytes(), SKIPPING, &mut words);
     });
 }
 

@@ -1,7 +1,7 @@
 //! Inputs for the program date_lines, and what it must write: each of its rules (RULES 9) at least once.
 //! For cases `example` and `returns` the output is typed, not computed.
 use crate::{cat, Counts};
-use compare::rules::{read, Calendar};
+use compare::rules::{read, Calendar, Engine};
 use std::fs;
 use std::path::Path;
 
@@ -45,7 +45,7 @@ fn report(cal: &Calendar, input: &[u8]) -> String {
     }
     let mut out = "number place date time\n".to_string();
     for text in lines.iter().skip(1) {
-        let r = read(cal, lines[0], text);
+        let r = read(cal, Engine::Skipping, lines[0], text);
         let day = r.day.map_or("-".to_string(), |(y, m, d)| format!("{y:04}-{m:02}-{d:02}"));
         out += &format!("{} {} {day} {}:{}:{}\n", r.number, r.place, two(r.hour), two(r.minute), two(r.second));
     }

@@ -1,14 +1,15 @@
 //! Vectors for the reader: the input of the program read_cases, and what it must write.
 //!
 //! The input is pairs of lines: a format, and a text, each its own bytes up to the newline. A line of the output is
-//! `number place date hour minute second | shown`: what is unsaid is -, and shown has the first two days or hours of number 10.
+//! `number place date hour minute second | shown | examined`: what is unsaid is -, shown has the first two days or hours of number 10,
+//! and examined is how many days the skipping engine examined.
 //!
 //! Texts that the C library's strftime wrote for a known moment must moreover be read as that moment, where the format names one day and
 //! one hour.
 use crate::{cat, Counts};
 use compare::c_library;
 use compare::random::Random;
-use compare::rules::{numeric, read, write, Calendar, Moment, Reading, HALVES, MONTHS, WEEKDAYS};
+use compare::rules::{self, numeric, write, Calendar, Engine, Moment, Reading, HALVES, MONTHS, WEEKDAYS};
 use std::fs;
 use std::path::Path;
 
@@ -113,6 +114,18 @@ const DAYS: &str = "
 %a %d %m %C %y: Fri 13 2 26 26 | Fri 13 2 20 26
 %V %d %b: 53 1 jan | 1 31 dec | 52 28 dec | 1 4 jan | 2 4 jan | 53 27 dec
 %V %d %b %Y: 53 1 jan 2010 | 1 31 dec 2012 | 1 28 dec 2012
+%C %y %m %d: 0 0 1 1 | 99 99 12 31 | 0 4 2 29
+%y %d %b %a: 0 29 feb Tue | 0 29 feb Mon | 99 1 jan Fri
+%y %m: 0 2 | 99 12
+%C %m %d: 15 2 29 | 99 12 31
+%Y %C: 1934 19 | 1934 20
+%Y %y %m: 1934 34 3 | 1934 35 3
+%G %y %m: 2009 10 1 | 2009 9 12
+%G %C: 9999 99 | 100 0 | 2000 19 | 1999 20
+%g %C %y: 0 0 99 | 0 19 99 | 99 20 0
+%g %m %d %u: 15 1 1 5 | 4 1 1 6
+%y %j %u: 0 366 7 | 0 366 1 | 96 366 2
+%U %W %a: 53 52 Sun | 53 52 Mon
 %y: 0 | 34
 %C: 0 | 99
 %Y: 1 | 9999
@@ -459,6 +472,11 @@ impl Cases<'_> {
     }
 }
 
+/// As read_cases reads: by the skipping engine.
+fn read(cal: &Calendar, format: &[u8], text: &[u8]) -> Reading {
+    rules::read(cal, Engine::Skipping, format, text)
+}
+
 /// One line of the output.
 fn line_of(r: &Reading) -> String {
     let date = |(y, m, d): (u32, u32, u32)| format!("{y:04}-{m:02}-{d:02}");
@@ -469,7 +487,7 @@ fn line_of(r: &Reading) -> String {
         (_, Some([a, b])) => format!("{a} {b}"),
         _ => String::new(),
     };
-    format!("{} {} {day} {} {} {} | {shown}\n", r.number, r.place, said(r.hour), said(r.minute), said(r.second))
+    format!("{} {} {day} {} {} {} | {shown} | {}\n", r.number, r.place, said(r.hour), said(r.minute), said(r.second), r.examined)
 }
 
 pub fn make(cal: &Calendar, input_path: &Path, output_path: &Path) -> std::io::Result<()> {

@@ -1,0 +1,105 @@
+//! Readings by every engine: the skipping one, the plain one, and the plain one with budgets about the days that it examines.
+use crate::library::{Lent, Told, WORDS};
+use crate::Tally;
+use compare::random::Random;
+use compare::rules::{Engine, Matched, Reading};
+use std::fmt::Debug;
+
+/// The days that the plain engine may examine for a case, on the average: a search of more days is run less often, by so much.
+const FEW: u32 = 3000;
+
+/// The numbers by which the library is told of the plain engine with a budget: any but 0 and 1.
+const WITHIN: [u32; 10] = [2, 2, 2, 3, 255, 256, 257, 1 << 16, 1 << 31, u32::MAX];
+
+/// What a reader is called in the tally: by the skipping engine, by the plain one, and by the plain one with a budget.
+pub type Names = [&'static str; 3];
+pub const STRPTIME: Names = ["strptime", "strptime, plain", "strptime, budget"];
+pub const READ: Names = ["read", "read, plain", "read, budget"];
+pub const STRANGE: Names = ["read, strange", "the same, plain", "the same, budget"];
+
+/// A reading as its sixteen words (RULES 10).
+pub fn words(r: &Reading) -> [u32; WORDS] {
+    let mut w = [0; WORDS];
+    w[0] = r.number;
+    w[1] = r.place;
+    let put = |w: &mut [u32; WORDS], at: usize, (y, m, d): (u32, u32, u32)| w[at..at + 3].copy_from_slice(&[y, m, d]);
+    if let Some(day) = r.day {
+        put(&mut w, 2, day);
+    }
+    for (at, said) in [(5, r.hour), (7, r.minute), (9, r.second)] {
+        if let Some(n) = said {
+            w[at] = 1;
+            w[at + 1] = n;
+        }
+    }
+    if let Some([a, b]) = r.two_days {
+        put(&mut w, 2, a);
+        put(&mut w, 11, b);
+    }
+    if let Some([a, b]) = r.two_hours {
+        w[6] = a;
+        w[14] = b;
+    }
+    w[15] = r.examined;
+    w
+}
+
+/// Any budget, and any number but 0 and 1 for the engine that looks at it.
+fn told(random: &mut Random, engine: Engine) -> Told {
+    let any = random.next() as u32 >> random.below(32);
+    match engine {
+        Engine::Skipping => Told { engine: 0, budget: any },
+        Engine::Plain => Told { engine: 1, budget: any },
+        Engine::Within(budget) => Told { engine: *random.pick(&WITHIN), budget },
+    }
+}
+
+/// The engines that a case is read by: always the skipping one, and a small budget. Where the plain one examines few days, or once in a
+/// while, or `whole`, also that, and budgets at that number of days, one above and one below, and the greatest. Where nothing is searched,
+/// once in a while too.
+fn engines(random: &mut Random, matched: &Matched, whole: bool) -> Vec<Engine> {
+    let plain = matched.reading(Engine::Plain).examined;
+    let skipping = matched.reading(Engine::Skipping).examined;
+    let small = match random.below(4) {
+        0 if skipping <= FEW => skipping,
+        1 => random.from(0, 2),
+        _ => random.from(0, FEW),
+    };
+    let mut all = vec![Engine::Skipping, Engine::Within(small)];
+    let odds = if plain == 0 { 15 } else { 100 };
+    if whole || random.from(0, plain) < FEW && random.chance(odds) {
+        all.extend([Engine::Plain, Engine::Within(plain), Engine::Within(plain + 1)]);
+        all.extend(plain.checked_sub(1).map(Engine::Within));
+        if random.chance(20) {
+            all.push(Engine::Within(u32::MAX));
+        }
+    }
+    all
+}
+
+/// One reader on a text: `call` has it read as it is told, into the words lent.
+pub fn compare(
+    random: &mut Random,
+    tally: &mut Tally,
+    names: &Names,
+    matched: &Matched,
+    whole: bool,
+    case: &dyn Debug,
+    call: impl Fn(Told, &mut [u32]) -> (u32, u32),
+) {
+    for engine in engines(random, matched, whole) {
+        let name = match engine {
+            Engine::Skipping => names[0],
+            Engine::Plain => names[1],
+            Engine::Within(_) => names[2],
+        };
+        let reading = matched.reading(engine);
+        let told = told(random, engine);
+        let mut lent = Lent::new(random, WORDS, |n| n as u32);
+        let found = call(told, lent.slice());
+        tally.count_reading(name, &reading);
+        if found != (reading.number, reading.place) || !lent.is(&words(&reading)) {
+            tally.differs(name, &(case, told, found, lent.slice().to_vec(), &reading));
+        }
+    }
+}
