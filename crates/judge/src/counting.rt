@@ -12,9 +12,8 @@ use calendar::FromNumber;
 use calendar::month_length;
 use calendar::year_length;
 ghost use mathlib.Core.Path.{_≡_};
-ghost use Prim.Native.Nat.{_*_, _<_, _≤_};
-ghost use Rattle.calendar.specs.Calendar.{lastYear, days, dayNumber};
-ghost use Rattle.calendar.specs.Calendar.{dateFault};
+ghost use Prim.Native.Nat.{_≤_};
+ghost use Rattle.calendar.specs.Calendar.{lastYear, dateFault, dayNumber, days};
 ghost use Rattle.judge.specs.Engines.{monthDays};
 ghost use Rattle.judge.specs.Private.{saidDays, endingYears, leapEndingYears, endingDays, countedSpan, wholeYears, inYear};
 ghost use Rattle.judge.specs.Search.{through};
@@ -67,7 +66,7 @@ fn leap_ending_years(said: u32, last: u32) -> u32
 // The days of those years in the month that was said. Years 4 and 1 stand for all that are leap and all that are not.
 fn ending_days(facts: Facts, last: u32) -> u32
     requires { ⌜ last ≤ lastYear ⌝ }
-    ensures { λ r. ⌜ (r ≡ endingDays facts last) × (r ≤ 366 * last) ⌝ }
+    ensures { λ r. ⌜ r ≡ endingDays facts last ⌝ }
 {
     let ending = said_of(facts, kinds::YEAR_IN_CENTURY);
     let month = said_of(facts, kinds::MONTH);
@@ -95,7 +94,7 @@ fn counted_span(facts: Facts) -> Span
 // The days of the years 1 to `last` in months that agree.
 fn whole_years(facts: Facts, last: u32) -> u32
     requires { ⌜ last ≤ lastYear ⌝ }
-    ensures { λ r. ⌜ (r ≡ wholeYears facts last) × (r ≤ 366 * last) ⌝ }
+    ensures { λ r. ⌜ r ≡ wholeYears facts last ⌝ }
 {
     let span = counted_span(facts);
     let end = earlier(last, span.last);
