@@ -9,10 +9,12 @@ use native.Mathlib.Omega.{arith}
 use borrow.Author.Tests.{le-leb, lt-leb, eq-eqb, ne-eqb}
 use lib.Dec.{eqb, leb}
 use Rattle.calendar.specs.Calendar.{date, sum, yearLength, monthLength, within, lastYear, dayOfYear, daysBefore, dayNumber, days, dateOf}
+use Rattle.calendar.specs.declared.Date.{Date}
 use Rattle.calendar.proofs.Dates.{Valid, date-of-number}
 use Rattle.calendar.proofs.Months.{year-months}
 use Rattle.calendar.proofs.Sum.{sum-add, sum-same, sum-periods}
-use Rattle.judge.specs.Agreement.{said, agrees, dayAgrees}
+use Rattle.calendar.proofs.Years.{days-is}
+use Rattle.judge.specs.Agreement.{said, agrees, allAgree, dayAgrees}
 use Rattle.judge.specs.Engines.{monthKinds, monthAgrees, monthDays}
 use Rattle.judge.specs.Private.{sumWhere, countWhere, span, narrowed, numberOf, saidDays, endingDays, countedSpan, yearAgrees}
 use Rattle.judge.specs.Private.{wholeYears, inYear}
@@ -23,9 +25,9 @@ use Rattle.judge.specs.declared.Found.{Found}
 use Rattle.judge.specs.declared.Found.the-variants.{Nothing, One, Two}
 use Rattle.judge.specs.declared.spans.Span.{Span}
 use Rattle.kinds.specs.Kinds as kinds
-use Rattle.laws.specs.Lists.{every}
+use Rattle.laws.specs.Lists.{every, range}
 use Rattle.values.specs.Values.{dateValue, dateValues}
-use Rattle.judge.proofs.Counts.{sum-none, count-all, said-year, where-within, within-below, within-above, within-both}
+use Rattle.judge.proofs.Counts.{sum-none, count-all, where-most, said-year, where-within, within-below, within-above, within-both}
 use Rattle.judge.proofs.Tells.{Tells, double, tells}
 
 -- ---- the years that agree, by their span
@@ -38,9 +40,9 @@ module _ (x : Span) (s a b i : ℕ) where
   later-both p q =
       elim (decLe p i) [
         | yes l ↦ elim (decLe q i) [
-            | yes m ↦ rw (le-leb p i l, le-leb q i m, le-leb (max p q) i (omega arith))
-            | no m ↦ rw (le-leb p i l, lt-leb q i (lt-of-not-le m), lt-leb (max p q) i (omega (arith, lt-of-not-le m)))
-          ]
+          | yes m ↦ rw (le-leb p i l, le-leb q i m, le-leb (max p q) i (omega arith))
+          | no m ↦ rw (le-leb p i l, lt-leb q i (lt-of-not-le m), lt-leb (max p q) i (omega (arith, lt-of-not-le m)))
+        ]
         | no l ↦ rw (lt-leb p i (lt-of-not-le l), lt-leb (max p q) i (omega (arith, lt-of-not-le l)))
       ]
 
@@ -48,9 +50,9 @@ module _ (x : Span) (s a b i : ℕ) where
   earlier-both p q =
       elim (decLe i p) [
         | yes l ↦ elim (decLe i q) [
-            | yes m ↦ rw (le-leb i p l, le-leb i q m, le-leb i (min p q) (omega arith))
-            | no m ↦ rw (le-leb i p l, lt-leb i q (lt-of-not-le m), lt-leb i (min p q) (omega (arith, lt-of-not-le m)))
-          ]
+          | yes m ↦ rw (le-leb i p l, le-leb i q m, le-leb i (min p q) (omega arith))
+          | no m ↦ rw (le-leb i p l, lt-leb i q (lt-of-not-le m), lt-leb i (min p q) (omega (arith, lt-of-not-le m)))
+        ]
         | no l ↦ rw (lt-leb i p (lt-of-not-le l), lt-leb i (min p q) (omega (arith, lt-of-not-le l)))
       ]
 
@@ -132,17 +134,19 @@ module _ (f : Facts) where
   pub span-first : 0 < countedSpan f .first
   unfolding countedSpan
   span-first =
-      omega
-      (arith, narrowed-first (span 1 lastYear) (said f kinds.year) year-number year-number 0,
-      narrowed-first by-year (said f kinds.century) century-start (century-start + 99) 0)
+      omega (
+        arith,
+        narrowed-first (span 1 lastYear) (said f kinds.year) year-number year-number 0,
+        narrowed-first by-year (said f kinds.century) century-start (century-start + 99) 0,
+      )
 
   in-span : (i : ℕ) → 0 < i → i ≤ lastYear
       → within (countedSpan f .first) (countedSpan f .last) i ≡ (agrees (said f kinds.year) i && agrees (said f kinds.century) (i / 100))
   unfolding countedSpan
   in-span i l m =
       let e : within (by-year .first) (by-year .last) i ≡ agrees (said f kinds.year) i
-          = in-narrowed (span 1 lastYear) (said f kinds.year) year-number year-number i
-            ∙ ap₂ _&&_ (within-both 1 lastYear i l m) (year-said (said f kinds.year) i m) in
+      = in-narrowed (span 1 lastYear) (said f kinds.year) year-number year-number i
+      ∙ ap₂ _&&_ (within-both 1 lastYear i l m) (year-said (said f kinds.year) i m) in
       in-narrowed by-year (said f kinds.century) century-start (century-start + 99) i
       ∙ ap₂ _&&_ e (century-said (said f kinds.century) i m)
 
@@ -172,8 +176,8 @@ module _ (f : Facts) where
     whole-is =
         let each : ℕ → ℕ = λ i. cond (ends i) (saidDays (said f kinds.month) i) 0 in
         let e : wholeYears f n ≡ sumWhere (within first (countedSpan f .last)) each n
-            = sum-same _ _ n (λ i l m. rw (by-span i l (omega arith))
-              (nested (within first (countedSpan f .last) i) (ends i) (saidDays (said f kinds.month) i))) in
+        = sum-same _ _ n (λ i l m. rw (by-span i l (omega arith))
+        (nested (within first (countedSpan f .last) i) (ends i) (saidDays (said f kinds.month) i))) in
         omega (arith, e, where-within first (countedSpan f .last) each n)
 
     pub whole-none : end < first → wholeYears f n ≡ 0
@@ -279,12 +283,24 @@ module _ (f : Facts) where
       (sum-add (λ k. cond (monthAgrees f k) 1 0) (sum yearLength p) (sum (monthLength (suc p)) q + d)
       ∙ ap₂ _+_ (years-through p (omega (arith, v .year-high))) (in-part p (v .year-high) q d (v .month-high) (v .day-high)))
 
--- the last day examined is one of the calendar's
-pub last-within : (f : Facts) → through days (daysFound f) ≤ days
+  -- no more than all days
+  pub month-days-most : (n : ℕ) → monthDays f n ≤ n
+  unfolding monthDays
+  month-days-most n = omega (arith, where-most (monthAgrees f) (λ k. 1) 1 (λ k. omega arith) n)
+
+-- kinds 1 to 3, as the code compares them
+pub year-kinds : (f : Facts) (t : Date) → allAgree f (range kinds.year 3) (λ k. dateValue k t) ≡ yearAgrees f (t .year)
+unfolding every range dateValue dateValues yearAgrees
+year-kinds f t =
+    ap (λ (x : Bool). agrees (said f kinds.year) (t .year) && (agrees (said f kinds.century) (t .year / 100) && x))
+    (and-true (agrees (said f kinds.yearInCentury) (t .year % 100)))
+
+-- the last day that is examined is one of the calendar's
+pub last-within : (f : Facts) → (0 < through days (daysFound f)) × (through days (daysFound f) ≤ days)
 unfolding daysFound through
 last-within f = by (firstTwo (dayAgrees f) 1 days) (tells (dayAgrees f) 1 days)
   where
-    by : (h : Found) → Tells (dayAgrees f) 1 (1 + days) h → through days h ≤ days
-    by Nothing t = omega arith
-    by (One a) t = omega arith
-    by (Two a b) (double l m o q r g) = omega arith
+    by : (h : Found) → Tells (dayAgrees f) 1 (1 + days) h → (0 < through days h) × (through days h ≤ days)
+    by Nothing t = (omega (arith, days-is), omega arith)
+    by (One a) t = (omega (arith, days-is), omega arith)
+    by (Two a b) (double l m o q r g) = (omega arith, omega arith)

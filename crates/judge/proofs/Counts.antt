@@ -16,7 +16,7 @@ use Rattle.calendar.proofs.Months.{no-month, year-months, month-most, year-leng
 use Rattle.calendar.proofs.Sum.{sum-suc, sum-same}
 use Rattle.calendar.proofs.Years.{grows, leap-years}
 use Rattle.judge.specs.Agreement.{said, agrees}
-use Rattle.judge.specs.Private.{sumWhere, countWhere, saidDays, endingYears, leapEndingYears, endingDays, yearAgrees, wholeYears, inYear}
+use Rattle.judge.specs.Private.{sumWhere, countWhere, saidDays, endingYears, leapEndingYears, endingDays, inYear}
 use Rattle.judge.specs.declared.Facts.{Facts}
 use Rattle.kinds.specs.Kinds as kinds
 
@@ -158,7 +158,7 @@ pub leap-unsaid : (s n : ℕ) → s ≡ 0 → n / 4 - n / 100 + n / 400 ≡ leap
 unfolding leapEndingYears
 leap-unsaid s n e =
     let t : leapEndingYears s n ≡ countWhere (λ i. leap i) n
-        = where-same (λ i. agrees s (i % 100) && leap i) (λ i. 1) n (λ i. leap i) (λ i l m. rw (agrees-unsaid s (i % 100) e)) in
+    = where-same (λ i. agrees s (i % 100) && leap i) (λ i. 1) n (λ i. leap i) (λ i l m. rw (agrees-unsaid s (i % 100) e)) in
     omega (arith, t, leap-years n)
 
 -- the quotient grows where the remainder turns to 0
@@ -188,7 +188,7 @@ module _ (s n : ℕ) (h : 0 < s) where
       let c = (100 - (s - 1)) % 100 in
       sym (count-turns 100 c (lit< tt) (omega arith) n)
       ∙ where-same (λ i. eqb ((i + c) % 100) 0) (λ i. 1) n (λ i. agrees s (i % 100))
-        (λ i _ _. same-test ((i + c) % 100) 0 (s - 1) (i % 100) (λ e. omega arith) (λ e. omega arith) ∙ sym (agrees-said s (i % 100) h))
+      (λ i _ _. same-test ((i + c) % 100) 0 (s - 1) (i % 100) (λ e. omega arith) (λ e. omega arith) ∙ sym (agrees-said s (i % 100) h))
 
   -- what was said is not the year's number in its century
   other : (i : ℕ) → (s - 1 ≡ i % 100 → ⊥) → agrees s (i % 100) ≡ false
@@ -210,7 +210,7 @@ module _ (s n : ℕ) (h : 0 < s) where
       e
       ∙ sym (count-turns 400 0 (lit< tt) (lit< tt) n)
       ∙ where-same (λ i. eqb ((i + 0) % 400) 0) (λ i. 1) n (λ i. agrees s (i % 100) && leap i)
-        (λ i _ _. at i (ℕ-discrete (i % 400) 0) (ℕ-discrete (s - 1) (i % 100)))
+      (λ i _ _. at i (ℕ-discrete (i % 400) 0) (ℕ-discrete (s - 1) (i % 100)))
     where
       at : (i : ℕ) → Dec (i % 400 ≡ 0) → Dec (s - 1 ≡ i % 100) → eqb ((i + 0) % 400) 0 ≡ (agrees s (i % 100) && leap i)
       at i (yes e) d =
@@ -279,7 +279,7 @@ module _ (f : Facts) (n : ℕ) where
   ending-days-is =
       let p : ℕ → Bool = λ i. agrees ending (i % 100) in
       let e : countWhere p n - countWhere (λ i. p i && leap i) n ≡ countWhere (λ i. p i && not (leap i)) n
-          = omega (arith, count-parts p (λ i. leap i) n) in
+      = omega (arith, count-parts p (λ i. leap i) n) in
       rw e
       (sym (sum-same _ _ n (λ i _ _. ap (λ (x : ℕ). cond (p i) x 0) (said-by-leap month i))
       ∙ where-parts p (λ i. leap i) (saidDays month 4) (saidDays month 1) n))
@@ -288,9 +288,8 @@ module _ (f : Facts) (n : ℕ) where
   unfolding endingDays
   ending-days-most = where-most (λ i. agrees ending (i % 100)) (saidDays month) 366 (said-most month) n
 
-  pub whole-years-most : wholeYears f n ≤ 366 * n
-  unfolding wholeYears
-  whole-years-most = where-most (yearAgrees f) (saidDays month) 366 (said-most month) n
+  pub leap-days-most : saidDays month 4 * leapEndingYears ending n ≤ 366 * n
+  leap-days-most = omega (arith, ending-days-is, ending-days-most)
 
 -- the months of a year that agree with what was said of the month
 no-month-0 : (y : ℕ) → monthLength y 0 ≡ 0
@@ -312,9 +311,9 @@ module _ (s y : ℕ) where
       elim (ℕ-discrete s 0) [
         | yes e ↦ rw (eq-eqb s 0 e) (months-unsaid 12 e ∙ year-months y)
         | no e ↦ rw (ne-eqb s 0 e) (months-said 12 (omega (arith, e)) ∙ elim (decLe (s - 1) 12) [
-            | yes l ↦ rw (le-leb (s - 1) 12 l)
-            | no l ↦ rw (lt-leb (s - 1) 12 (lt-of-not-le l)) (sym (no-month y (s - 1) (lt-of-not-le l)))
-          ])
+          | yes l ↦ rw (le-leb (s - 1) 12 l)
+          | no l ↦ rw (lt-leb (s - 1) 12 (lt-of-not-le l)) (sym (no-month y (s - 1) (lt-of-not-le l)))
+        ])
       ]
 
   -- through day d of month m

@@ -1,3 +1,4 @@
+pub mod CountedDays
 pub mod Counts
 pub mod DayValues
 pub mod Demand

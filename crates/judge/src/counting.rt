@@ -12,7 +12,7 @@ use calendar::FromNumber;
 use calendar::month_length;
 use calendar::year_length;
 ghost use mathlib.Core.Path.{_≡_};
-ghost use Prim.Native.Nat.{_≤_};
+ghost use Prim.Native.Nat.{_≤_, _<_};
 ghost use Rattle.calendar.specs.Calendar.{lastYear, dateFault, dayNumber, days};
 ghost use Rattle.judge.specs.Engines.{monthDays};
 ghost use Rattle.judge.specs.Private.{saidDays, endingYears, leapEndingYears, endingDays, countedSpan, wholeYears, inYear};
@@ -136,7 +136,7 @@ fn date_through(facts: Facts, date: Date) -> u32
 }
 
 fn day_through(facts: Facts, number: u32) -> u32
-    requires { ⌜ number ≤ days ⌝ }
+    requires { ⌜ (0 < number) × (number ≤ days) ⌝ }
     ensures { λ r. ⌜ r ≡ monthDays facts number ⌝ }
 {
     match Date::from_day_number(number) {
@@ -147,7 +147,7 @@ fn day_through(facts: Facts, number: u32) -> u32
 
 // The days in months that agree, through the last that is examined: the second that was found, else the calendar's last.
 pub(crate) fn month_days_through(facts: Facts, found: Found) -> u32
-    requires { ⌜ through days found ≤ days ⌝ }
+    requires { ⌜ (0 < through days found) × (through days found ≤ days) ⌝ }
     ensures { λ r. ⌜ r ≡ monthDays facts (through days found) ⌝ }
 {
     match found {
