@@ -1,192 +1,29 @@
--- The days of the months that agree, by whole years, whole months and days; and the years that agree, by their span.
+-- The days of the months that agree, by whole years, whole months and days.
 -- Assumes nothing.
-use Prim.Native.Nat.{ℕ, zero, suc, _+_, _-_, _*_, _/_, _%_, _≤_, _<_, min, max}
-use mathlib.Core.Bool.{Bool, true, false, cond, _&&_, and-assoc, and-false, and-true}
+use Prim.Native.Nat.{ℕ, zero, suc, _+_, _-_, _/_, _%_, _≤_, _<_}
+use mathlib.Core.Bool.{Bool, true, false, cond, _&&_, and-true}
 use mathlib.Core.Path.{_≡_, refl, sym, ap, ap₂, _∙_}
-use native.Mathlib.Decide.{decLe, ℕ-discrete}
-use native.Mathlib.Nat.{lt-of-not-le}
 use native.Mathlib.Omega.{arith}
-use borrow.Author.Tests.{le-leb, lt-leb, eq-eqb, ne-eqb}
-use lib.Dec.{eqb, leb}
-use Rattle.calendar.specs.Calendar.{date, sum, yearLength, monthLength, within, lastYear, dayOfYear, daysBefore, dayNumber, days, dateOf}
+use Rattle.calendar.specs.Calendar.{sum, yearLength, monthLength, lastYear, dayOfYear, daysBefore, dayNumber, days}
 use Rattle.calendar.specs.declared.Date.{Date}
 use Rattle.calendar.proofs.Dates.{Valid, date-of-number}
 use Rattle.calendar.proofs.Months.{year-months}
-use Rattle.calendar.proofs.Sum.{sum-add, sum-same, sum-periods}
+use Rattle.calendar.proofs.Sum.{sum-add, sum-periods}
 use Rattle.calendar.proofs.Years.{days-is}
 use Rattle.judge.specs.Agreement.{said, agrees, allAgree, dayAgrees}
 use Rattle.judge.specs.Engines.{monthKinds, monthAgrees, monthDays}
-use Rattle.judge.specs.Private.{sumWhere, countWhere, span, narrowed, numberOf, saidDays, endingDays, countedSpan, yearAgrees}
+use Rattle.judge.specs.Private.{sumWhere, saidDays, yearAgrees}
 use Rattle.judge.specs.Private.{wholeYears, inYear}
 use Rattle.judge.specs.Search.{firstTwo, through}
 use Rattle.judge.specs.Verdicts.{daysFound}
 use Rattle.judge.specs.declared.Facts.{Facts}
 use Rattle.judge.specs.declared.Found.{Found}
 use Rattle.judge.specs.declared.Found.the-variants.{Nothing, One, Two}
-use Rattle.judge.specs.declared.spans.Span.{Span}
 use Rattle.kinds.specs.Kinds as kinds
 use Rattle.laws.specs.Lists.{every, range}
 use Rattle.values.specs.Values.{dateValue, dateValues}
-use Rattle.judge.proofs.Counts.{sum-none, count-all, where-most, said-year, where-within, within-below, within-above, within-both}
+use Rattle.judge.proofs.Counts.{sum-none, count-all, where-most, said-year}
 use Rattle.judge.proofs.Tells.{Tells, double, tells}
-
--- ---- the years that agree, by their span
-
-module _ (x : Span) (s a b i : ℕ) where
-  abbrev meets : Bool
-  meets = within (x .first) (x .last) i && cond (eqb s 0) true (within a b i)
-
-  later-both : (p q : ℕ) → leb (max p q) i ≡ (leb p i && leb q i)
-  later-both p q =
-      elim (decLe p i) [
-        | yes l ↦ elim (decLe q i) [
-          | yes m ↦ rw (le-leb p i l, le-leb q i m, le-leb (max p q) i (omega arith))
-          | no m ↦ rw (le-leb p i l, lt-leb q i (lt-of-not-le m), lt-leb (max p q) i (omega (arith, lt-of-not-le m)))
-        ]
-        | no l ↦ rw (lt-leb p i (lt-of-not-le l), lt-leb (max p q) i (omega (arith, lt-of-not-le l)))
-      ]
-
-  earlier-both : (p q : ℕ) → leb i (min p q) ≡ (leb i p && leb i q)
-  earlier-both p q =
-      elim (decLe i p) [
-        | yes l ↦ elim (decLe i q) [
-          | yes m ↦ rw (le-leb i p l, le-leb i q m, le-leb i (min p q) (omega arith))
-          | no m ↦ rw (le-leb i p l, lt-leb i q (lt-of-not-le m), lt-leb i (min p q) (omega (arith, lt-of-not-le m)))
-        ]
-        | no l ↦ rw (lt-leb i p (lt-of-not-le l), lt-leb i (min p q) (omega (arith, lt-of-not-le l)))
-      ]
-
-  swapped : (c d e g : Bool) → ((c && d) && (e && g)) ≡ ((c && e) && (d && g))
-  swapped true true e g = refl
-  swapped true false e g = sym (and-false e)
-  swapped false d e g = refl
-
-  -- a number lies in what is left of a span where it lies in the span and in what was said
-  pub in-narrowed : within (narrowed x s a b .first) (narrowed x s a b .last) i ≡ meets
-  unfolding narrowed
-  in-narrowed = by (eqb s 0)
-    where
-      by : (t : Bool)
-          → within (cond t x (span (max (x .first) a) (min (x .last) b)) .first) (cond t x (span (max (x .first) a) (min (x .last) b)) .last) i
-          ≡ (within (x .first) (x .last) i && cond t true (within a b i))
-      by true = sym (and-true (within (x .first) (x .last) i))
-      by false =
-          rw (later-both (x .first) a, earlier-both (x .last) b) (swapped (leb (x .first) i) (leb a i) (leb i (x .last)) (leb i b))
-
-  pub narrowed-first : x .first ≤ narrowed x s a b .first
-  unfolding narrowed
-  narrowed-first = by (eqb s 0)
-    where
-      by : (t : Bool) → x .first ≤ cond t x (span (max (x .first) a) (min (x .last) b)) .first
-      by true = omega arith
-      by false = omega arith
-
-  pub narrowed-last : narrowed x s a b .last ≤ x .last
-  unfolding narrowed
-  narrowed-last = by (eqb s 0)
-    where
-      by : (t : Bool) → cond t x (span (max (x .first) a) (min (x .last) b)) .last ≤ x .last
-      by true = omega arith
-      by false = omega arith
-
--- the year that was said, and the century, as spans
-same-said : (s : ℕ) (t u : Bool) → t ≡ u → cond (eqb s 0) true t ≡ cond (eqb s 0) true u
-same-said s t u e = ap (λ (x : Bool). cond (eqb s 0) true x) e
-
-year-said : (s i : ℕ) → i ≤ lastYear → cond (eqb s 0) true (within (numberOf s 10000) (numberOf s 10000) i) ≡ agrees s i
-unfolding agrees
-year-said s i h = same-said s _ _ (by (ℕ-discrete (s - 1) i))
-  where
-    by : Dec (s - 1 ≡ i) → within (numberOf s 10000) (numberOf s 10000) i ≡ eqb (s - 1) i
-    by (yes e) = within-both (numberOf s 10000) (numberOf s 10000) i (omega arith) (omega arith) ∙ sym (eq-eqb (s - 1) i e)
-    by (no e) =
-        elim (decLe (numberOf s 10000) i) [
-          | yes l ↦ within-above (numberOf s 10000) (numberOf s 10000) i (omega (arith, e))
-          | no l ↦ within-below (numberOf s 10000) (numberOf s 10000) i (lt-of-not-le l)
-        ]
-        ∙ sym (ne-eqb (s - 1) i e)
-
-century-said : (s i : ℕ) → i ≤ lastYear
-    → cond (eqb s 0) true (within (numberOf s 100 * 100) (numberOf s 100 * 100 + 99) i) ≡ agrees s (i / 100)
-unfolding agrees
-century-said s i h = same-said s _ _ (by (ℕ-discrete (s - 1) (i / 100)))
-  where
-    by : Dec (s - 1 ≡ i / 100) → within (numberOf s 100 * 100) (numberOf s 100 * 100 + 99) i ≡ eqb (s - 1) (i / 100)
-    by (yes e) =
-        within-both (numberOf s 100 * 100) (numberOf s 100 * 100 + 99) i (omega arith) (omega arith) ∙ sym (eq-eqb (s - 1) (i / 100) e)
-    by (no e) =
-        elim (decLe (numberOf s 100 * 100) i) [
-          | yes l ↦ within-above (numberOf s 100 * 100) (numberOf s 100 * 100 + 99) i (omega (arith, e))
-          | no l ↦ within-below (numberOf s 100 * 100) (numberOf s 100 * 100 + 99) i (lt-of-not-le l)
-        ]
-        ∙ sym (ne-eqb (s - 1) (i / 100) e)
-
-module _ (f : Facts) where
-  abbrev year-number : ℕ
-  year-number = numberOf (said f kinds.year) 10000
-
-  abbrev century-start : ℕ
-  century-start = numberOf (said f kinds.century) 100 * 100
-
-  abbrev by-year : Span
-  by-year = narrowed (span 1 lastYear) (said f kinds.year) year-number year-number
-
-  pub span-first : 0 < countedSpan f .first
-  unfolding countedSpan
-  span-first =
-      omega (
-        arith,
-        narrowed-first (span 1 lastYear) (said f kinds.year) year-number year-number 0,
-        narrowed-first by-year (said f kinds.century) century-start (century-start + 99) 0,
-      )
-
-  in-span : (i : ℕ) → 0 < i → i ≤ lastYear
-      → within (countedSpan f .first) (countedSpan f .last) i ≡ (agrees (said f kinds.year) i && agrees (said f kinds.century) (i / 100))
-  unfolding countedSpan
-  in-span i l m =
-      let e : within (by-year .first) (by-year .last) i ≡ agrees (said f kinds.year) i
-      = in-narrowed (span 1 lastYear) (said f kinds.year) year-number year-number i
-      ∙ ap₂ _&&_ (within-both 1 lastYear i l m) (year-said (said f kinds.year) i m) in
-      in-narrowed by-year (said f kinds.century) century-start (century-start + 99) i
-      ∙ ap₂ _&&_ e (century-said (said f kinds.century) i m)
-
-  abbrev ends : ℕ → Bool
-  ends i = agrees (said f kinds.yearInCentury) (i % 100)
-
-  by-span : (i : ℕ) → 0 < i → i ≤ lastYear → yearAgrees f i ≡ (within (countedSpan f .first) (countedSpan f .last) i && ends i)
-  unfolding yearAgrees
-  by-span i l m =
-      sym (and-assoc (agrees (said f kinds.year) i) (agrees (said f kinds.century) (i / 100)) (ends i))
-      ∙ ap (λ (t : Bool). t && ends i) (sym (in-span i l m))
-
-  nested : (t u : Bool) (x : ℕ) → cond (t && u) x 0 ≡ cond t (cond u x 0) 0
-  nested true u x = refl
-  nested false u x = refl
-
-  -- the days of the years 1 to n: those of the span through n, less those before it
-  module _ (n : ℕ) (h : n ≤ lastYear) where
-    abbrev first : ℕ
-    first = countedSpan f .first
-
-    abbrev end : ℕ
-    end = min n (countedSpan f .last)
-
-    whole-is : wholeYears f n + endingDays f (min end (first - 1)) ≡ endingDays f end
-    unfolding wholeYears endingDays
-    whole-is =
-        let each : ℕ → ℕ = λ i. cond (ends i) (saidDays (said f kinds.month) i) 0 in
-        let e : wholeYears f n ≡ sumWhere (within first (countedSpan f .last)) each n
-        = sum-same _ _ n (λ i l m. rw (by-span i l (omega arith))
-        (nested (within first (countedSpan f .last) i) (ends i) (saidDays (said f kinds.month) i))) in
-        omega (arith, e, where-within first (countedSpan f .last) each n)
-
-    pub whole-none : end < first → wholeYears f n ≡ 0
-    whole-none l = let e : min end (first - 1) ≡ end = omega arith in omega (arith, rw e at whole-is)
-
-    pub whole-some : first ≤ end → wholeYears f n + endingDays f (first - 1) ≡ endingDays f end
-    whole-some l = let e : min end (first - 1) ≡ first - 1 = omega arith in rw e at whole-is
-
--- ---- the days, by years and months
 
 regrouped : (a b c d : Bool) → (a && (b && (c && (d && true)))) ≡ ((a && (b && c)) && d)
 regrouped true true true true = refl
@@ -229,7 +66,8 @@ module _ (f : Facts) where
     in-month : (q d : ℕ) → q < 12 → d ≤ monthLength (suc p) (suc q)
         → sum (λ k. day (sum (monthLength (suc p)) q + k)) d ≡ cond (yearAgrees f (suc p) && agrees month (suc q)) d 0
     in-month q d l m =
-        count-all (λ k. monthAgrees f (sum yearLength p + (sum (monthLength (suc p)) q + k))) (yearAgrees f (suc p) && agrees month (suc q)) d
+        count-all (λ k. monthAgrees f (sum yearLength p + (sum (monthLength (suc p)) q + k)))
+        (yearAgrees f (suc p) && agrees month (suc q)) d
         (λ k a b. ap (monthAgrees f) (sym (number-is q k)) ∙ agrees-at (suc p) (suc q) k
         (record {
           year-low = omega arith;
@@ -273,7 +111,8 @@ module _ (f : Facts) where
   unfolding days
   all-through = years-through lastYear (omega arith)
 
-  pub date-through : (y m d : ℕ) → Valid y m d → monthDays f (dayNumber y m d) ≡ wholeYears f (y - 1) + cond (yearAgrees f y) (inYear month y m d) 0
+  pub date-through : (y m d : ℕ) → Valid y m d
+      → monthDays f (dayNumber y m d) ≡ wholeYears f (y - 1) + cond (yearAgrees f y) (inYear month y m d) 0
   unfolding monthDays
   date-through zero m d v = absurd (omega (arith, v .year-low))
   date-through (suc p) zero d v = absurd (omega (arith, v .month-low))

@@ -7,13 +7,13 @@ use mathlib.Core.Path.{_≡_, refl, sym, ap, _∙_}
 use native.Mathlib.Decide.{decLe, ℕ-discrete}
 use native.Mathlib.Nat.{eq-or-lt-of-le, lt-of-not-le, mul-add, mul-suc, mul-zero, suc-add, zero-add, div-eq-of-lt}
 use native.Mathlib.Omega.{arith}
-use borrow.Author.Tests.{le-leb, lt-leb, eq-eqb, ne-eqb, eqb-true, eqb-false}
+use borrow.Author.Tests.{le-leb, lt-leb, eq-eqb, ne-eqb}
 use lib.Dec.{eqb, leb, lit<}
 use lib.ListN.{getD}
 use Rattle.laws.proofs.Cases.{picked}
 use Rattle.calendar.specs.Calendar.{sum, leap, yearLength, monthLengths, monthLength, within, dayOfYear}
 use Rattle.calendar.proofs.Months.{no-month, year-months, month-most, year-length-most}
-use Rattle.calendar.proofs.Sum.{sum-suc, sum-same}
+use Rattle.calendar.proofs.Sum.{sum-same}
 use Rattle.calendar.proofs.Years.{grows, leap-years}
 use Rattle.judge.specs.Agreement.{said, agrees}
 use Rattle.judge.specs.Private.{sumWhere, countWhere, saidDays, endingYears, leapEndingYears, endingDays, inYear}
@@ -70,8 +70,10 @@ module _ (h : ℕ → ℕ) (z : h 0 ≡ 0) (a : ℕ) where
         | yes l ↦ rw (where-one n, le-leb a n l, le-leb a (suc n) (omega arith), ne-eqb a (suc n) (λ (e : a ≡ suc n). omega arith))
             (omega arith)
         | no l ↦ ⊎-elim
-            (λ (e : suc n ≡ a). rw (where-one n, lt-leb a n (omega arith), le-leb a (suc n) (omega arith), eq-eqb a (suc n) (sym e), e) (omega arith))
-            (λ (m : suc n < a). rw (where-one n, lt-leb a n (omega arith), lt-leb a (suc n) m, ne-eqb a (suc n) (λ (e : a ≡ suc n). omega arith)))
+            (λ (e : suc n ≡ a).
+            rw (where-one n, lt-leb a n (omega arith), le-leb a (suc n) (omega arith), eq-eqb a (suc n) (sym e), e) (omega arith))
+            (λ (m : suc n < a).
+            rw (where-one n, lt-leb a n (omega arith), lt-leb a (suc n) m, ne-eqb a (suc n) (λ (e : a ≡ suc n). omega arith)))
             (eq-or-lt-of-le (omega (arith, lt-of-not-le l)))
       ]
 
@@ -165,7 +167,8 @@ leap-unsaid s n e =
 count-turns : (d c : ℕ) → 0 < d → c < d → (n : ℕ) → countWhere (λ i. eqb ((i + c) % d) 0) n ≡ (n + c) / d
 unfolding sum
 count-turns d c l m zero = rw (zero-add c) (sym (div-eq-of-lt m))
-count-turns d c l m (suc n) = rw (suc-add n c, grows d (n + c) l) (ap (λ (x : ℕ). x + cond (eqb (suc (n + c) % d) 0) 1 0) (count-turns d c l m n))
+count-turns d c l m (suc n) =
+    rw (suc-add n c, grows d (n + c) l) (ap (λ (x : ℕ). x + cond (eqb (suc (n + c) % d) 0) 1 0) (count-turns d c l m n))
 
 -- what is said is a number: the tests that are the same, for each year
 same-test : (a b c d : ℕ) → (a ≡ b → c ≡ d) → (c ≡ d → a ≡ b) → eqb a b ≡ eqb c d
@@ -240,7 +243,8 @@ module _ (s n : ℕ) (h : 0 < s) where
     where
       at : (i : ℕ) → Dec (s - 1 ≡ i % 100) → agrees s (i % 100) ≡ (agrees s (i % 100) && leap i)
       at i (yes e) =
-          rw (eq-eqb (i % 4) 0 (omega arith), ne-eqb (i % 100) 0 (λ (y : i % 100 ≡ 0). x (omega arith))) (sym (and-true (agrees s (i % 100))))
+          rw (eq-eqb (i % 4) 0 (omega arith), ne-eqb (i % 100) 0 (λ (y : i % 100 ≡ 0). x (omega arith)))
+          (sym (and-true (agrees s (i % 100))))
       at i (no e) = rw (other i e)
 
 -- ---- the days of a year in the month that was said

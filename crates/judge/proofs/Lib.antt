@@ -1,4 +1,5 @@
 pub mod CountedDays
+pub mod CountedYears
 pub mod Counts
 pub mod DayValues
 pub mod Demand

@@ -1,9 +1,9 @@
 -- `judge::counting::date_through` meets its contract. Assumes nothing.
-use native.Mathlib.Omega.{arith}
 use mathlib.Core.Bool.{true, false}
 use mathlib.Core.Path.{_≡_, sym, _∙_}
-use borrow.Author.Tests.{not-true, not-false}
+use native.Mathlib.Omega.{arith}
 use borrow.Author.Needs.{needs}
+use borrow.Author.Tests.{not-true, not-false}
 use Rattle.calendar.proofs.Dates.{Valid, no-fault-valid, number-within}
 use Rattle.calendar.proofs.Years.{days-is}
 use Rattle.values.specs.Values.{dayNumberOf}

@@ -54,10 +54,14 @@ returns c =
     (ending-days-is (a .facts) (a .last))
 
 mul-result-2 : tie.Need-mul-result-2
-mul-result-2 c = let a = c .before .before .before .before .before .before .args in omega (arith, returns c, ending-days-most (a .facts) (a .last))
+mul-result-2 c =
+    let a = c .before .before .before .before .before .before .args in
+    omega (arith, returns c, ending-days-most (a .facts) (a .last))
 
 add-result : tie.Need-add-result
-add-result c = let a = c .before .before .before .before .before .before .args in omega (arith, returns c, ending-days-most (a .facts) (a .last))
+add-result c =
+    let a = c .before .before .before .before .before .before .args in
+    omega (arith, returns c, ending-days-most (a .facts) (a .last))
 
 pub ending-days-spec : {M : Type 1} → statement M
 ending-days-spec =

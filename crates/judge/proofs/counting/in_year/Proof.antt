@@ -1,6 +1,6 @@
 -- `judge::counting::in_year` meets its contract. Assumes nothing.
-use native.Mathlib.Omega.{arith}
 use mathlib.Core.Path.{_∙_}
+use native.Mathlib.Omega.{arith}
 use borrow.Author.Needs.{needs}
 use Rattle.judge.proofs.Counts.{in-year-unsaid, in-year-early, in-year-at, in-year-late}
 use Rattle.judge.proofs.counting.in_year.Statement.{statement}

@@ -1,6 +1,6 @@
 -- `judge::counting::leap_ending_years` meets its contract. Assumes nothing.
-use native.Mathlib.Omega.{arith}
 use mathlib.Core.Path.{_∙_}
+use native.Mathlib.Omega.{arith}
 use borrow.Author.Needs.{needs}
 use Rattle.judge.proofs.Counts.{leap-unsaid, leap-none, leap-centuries, leap-all}
 use Rattle.judge.proofs.counting.leap_ending_years.Statement.{statement}

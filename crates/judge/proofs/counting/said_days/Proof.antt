@@ -1,6 +1,6 @@
 -- `judge::counting::said_days` meets its contract. Assumes nothing.
-use borrow.Author.Tests.{ne-eqb}
 use borrow.Author.Needs.{needs}
+use borrow.Author.Tests.{ne-eqb}
 use Rattle.judge.specs.Private.{saidDays}
 use Rattle.judge.proofs.counting.said_days.Statement.{statement}
 use Rattle.judge.proofs.counting.said_days.Tie as tie

@@ -1,11 +1,11 @@
 -- `judge::counting::whole_years` meets its contract. Assumes nothing.
-use native.Mathlib.Omega.{arith}
-use Prim.Native.Nat.{ℕ, _+_, _-_, min}
+use Prim.Native.Nat.{_+_, _-_, min}
 use mathlib.Core.Path.{_≡_, sym, ap}
+use native.Mathlib.Omega.{arith}
 use borrow.Author.Needs.{needs}
 use Rattle.judge.specs.Private.{endingDays, countedSpan, wholeYears}
 use Rattle.judge.specs.declared.spans.Span.{Span}
-use Rattle.judge.proofs.CountedDays.{span-first, whole-none, whole-some}
+use Rattle.judge.proofs.CountedYears.{span-first, whole-none, whole-some}
 use Rattle.judge.proofs.counting.whole_years.Statement.{statement}
 use Rattle.judge.proofs.counting.whole_years.Tie as tie
 

@@ -1,6 +1,6 @@
 -- `judge::spans::narrowed` meets its contract. Assumes nothing.
-use borrow.Author.Tests.{ne-eqb}
 use borrow.Author.Needs.{needs}
+use borrow.Author.Tests.{ne-eqb}
 use Rattle.judge.specs.Private.{narrowed}
 use Rattle.judge.proofs.spans.narrowed.Statement.{statement}
 use Rattle.judge.proofs.spans.narrowed.Tie as tie
