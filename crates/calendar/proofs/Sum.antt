@@ -2,9 +2,9 @@
 -- Assumes nothing.
 use Prim.Native.Nat.{ℕ, zero, suc, _+_, _-_, _≤_, _<_}
 use mathlib.Core.Logic.{⊎-elim}
-use mathlib.Core.Path.{_≡_, refl, ap}
+use mathlib.Core.Path.{_≡_, refl, ap, ap₂, _∙_}
 use native.Mathlib.Decide.{decLe}
-use native.Mathlib.Nat.{eq-or-lt-of-le, lt-of-not-le}
+use native.Mathlib.Nat.{eq-or-lt-of-le, lt-of-not-le, add-suc, add-zero}
 use native.Mathlib.Omega.{arith}
 use borrow.Author.Tests.{le-leb, lt-leb}
 use Rattle.calendar.specs.Calendar.{sum, periodOf}
@@ -51,3 +51,25 @@ module _ (f : ℕ → ℕ) where
         | yes l ↦ (let r = locate n x p l in (r .0, omega (arith, r .1)))
         | no l ↦ (record { past = n; after = lt-of-not-le l; upto = h }, omega arith)
       ]
+
+  -- the first a + b terms: a of them, and b more
+  pub sum-add : (a b : ℕ) → sum f (a + b) ≡ sum f a + sum (λ i. f (a + i)) b
+  unfolding sum
+  sum-add a zero = rw (add-zero a) (omega arith)
+  sum-add a (suc b) = rw (add-suc a b) (omega (arith, sum-add a b))
+
+-- equal terms
+pub sum-same : (f g : ℕ → ℕ) (n : ℕ) → ((i : ℕ) → 0 < i → i ≤ n → f i ≡ g i) → sum f n ≡ sum g n
+unfolding sum
+sum-same f g zero e = refl
+sum-same f g (suc n) e =
+    ap₂ _+_ (sum-same f g n (λ i l h. e i l (omega arith))) (e (suc n) (omega arith) (omega arith))
+
+-- period by period: h i sums up f over period i
+pub sum-periods : (f size h : ℕ → ℕ) (n : ℕ)
+    → ((i : ℕ) → i < n → sum (λ k. f (sum size i + k)) (size (suc i)) ≡ h (suc i)) → sum f (sum size n) ≡ sum h n
+unfolding sum
+sum-periods f size h zero e = refl
+sum-periods f size h (suc n) e =
+    sum-add f (sum size n) (size (suc n))
+    ∙ ap₂ _+_ (sum-periods f size h n (λ i l. e i (omega arith))) (e n (omega arith))

@@ -54,6 +54,19 @@ years-closed (suc p) =
     rw (grows 4 p (lit< tt), grows 100 p (lit< tt), grows 400 p (lit< tt))
     (omega (arith, years-closed p, year-length-is (suc p)))
 
+-- the leap years of years 1 to p
+pub leap-years : (p : ℕ) → sum (λ y. cond (leap y) 1 0) p + p / 100 ≡ p / 4 + p / 400
+unfolding sum yearLength
+leap-years p = omega (arith, years-closed p, lengths p)
+  where
+    one-more : (b : Bool) → cond b 366 365 ≡ 365 + cond b 1 0
+    one-more true = refl
+    one-more false = refl
+
+    lengths : (p : ℕ) → sum yearLength p ≡ 365 * p + sum (λ y. cond (leap y) 1 0) p
+    lengths zero = refl
+    lengths (suc p) = omega (arith, lengths p, one-more (leap (suc p)))
+
 -- bounds of that sum, without a division
 pub years-above : (p : ℕ) → 146097 * p ≤ 400 * sum yearLength p + 699
 years-above p = omega (arith, years-closed p)

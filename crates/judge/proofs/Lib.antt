@@ -1,4 +1,7 @@
 pub mod Agreeing
+pub mod CountedDays
+pub mod CountedYears
+pub mod Counts
 pub mod Cycle
 pub mod DayValues
 pub mod Demand

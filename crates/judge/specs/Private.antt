@@ -1,11 +1,11 @@
 -- What the engines work with: the kinds in the parts that a day's test takes them in, what facts leave of years, months and days, and what
 -- repeats.
 use Prim.Native.Nat.{ℕ, _+_, _-_, _*_, _/_, _%_, min, max}
-use mathlib.Core.Bool.{Bool, true, cond, not}
+use mathlib.Core.Bool.{Bool, true, cond, not, _&&_}
 use mathlib.Core.List.{List, [], _∷_}
 use lib.Dec.{eqb, leb}
-use Rattle.calendar.specs.Calendar.{sum, monthLength}
-use Rattle.judge.specs.Agreement.{said, noneSaid}
+use Rattle.calendar.specs.Calendar.{sum, leap, yearLength, monthLength, lastYear}
+use Rattle.judge.specs.Agreement.{said, noneSaid, agrees}
 use Rattle.judge.specs.Engines.{plainCount, skippingCount}
 use Rattle.judge.specs.Verdicts.{verdictOf, daysFound}
 use Rattle.judge.specs.declared.Facts.{Facts}
@@ -120,3 +120,47 @@ unfoldable pub repeatedFound : Found → Found
 repeatedFound Nothing = Nothing
 repeatedFound (One a) = Two a (a + cycle)
 repeatedFound (Two a b) = Two a b
+
+-- ---- the count
+
+-- the sum of h over those of the numbers 1 to n that pass a test, and how many do
+abbrev pub sumWhere : (ℕ → Bool) → (ℕ → ℕ) → ℕ → ℕ
+sumWhere p h n = sum (λ i. cond (p i) (h i) 0) n
+
+abbrev pub countWhere : (ℕ → Bool) → ℕ → ℕ
+countWhere p n = sumWhere p (λ i. 1) n
+
+-- the days of year y in the month that was said, all of them where none was
+unfoldable pub saidDays : ℕ → ℕ → ℕ
+saidDays s y = cond (eqb s 0) (yearLength y) (monthLength y (s - 1))
+
+-- of the years 1 to n, those that end in what was said, and the leap ones among them
+unfoldable pub endingYears : ℕ → ℕ → ℕ
+endingYears s n = countWhere (λ y. agrees s (y % 100)) n
+
+unfoldable pub leapEndingYears : ℕ → ℕ → ℕ
+leapEndingYears s n = countWhere (λ y. agrees s (y % 100) && leap y) n
+
+-- their days in the month that was said
+unfoldable pub endingDays : Facts → ℕ → ℕ
+endingDays f n = sumWhere (λ y. agrees (said f kinds.yearInCentury) (y % 100)) (saidDays (said f kinds.month)) n
+
+-- the years that agree with what was said of the year and of the century
+unfoldable pub countedSpan : Facts → Span
+countedSpan f =
+    let y = numberOf (said f kinds.year) 10000 in
+    let c = numberOf (said f kinds.century) 100 * 100 in
+    narrowed (narrowed (span 1 lastYear) (said f kinds.year) y y) (said f kinds.century) c (c + 99)
+
+-- a year agrees with all that was said of kinds 1 to 3
+unfoldable pub yearAgrees : Facts → ℕ → Bool
+yearAgrees f y =
+    agrees (said f kinds.year) y && (agrees (said f kinds.century) (y / 100) && agrees (said f kinds.yearInCentury) (y % 100))
+
+-- the days of the years 1 to n in months that agree
+unfoldable pub wholeYears : Facts → ℕ → ℕ
+wholeYears f n = sumWhere (yearAgrees f) (saidDays (said f kinds.month)) n
+
+-- the days of year y in such months, through day d of month m
+unfoldable pub inYear : ℕ → ℕ → ℕ → ℕ → ℕ
+inYear s y m d = sumWhere (agrees s) (monthLength y) (m - 1) + cond (agrees s m) d 0

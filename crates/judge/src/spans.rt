@@ -25,7 +25,7 @@ fn later(a: u32, b: u32) -> u32
     a
 }
 
-fn earlier(a: u32, b: u32) -> u32
+pub(crate) fn earlier(a: u32, b: u32) -> u32
     ensures { λ r. ⌜ r ≡ min a b ⌝ }
 {
     if a < b {
@@ -35,7 +35,7 @@ fn earlier(a: u32, b: u32) -> u32
 }
 
 // What is left of a span where something was said of a kind: the numbers from `first` to `last`.
-fn narrowed(span: Span, said: u32, first: u32, last: u32) -> Span
+pub(crate) fn narrowed(span: Span, said: u32, first: u32, last: u32) -> Span
     ensures { λ r. ⌜ r ≡ narrowed span said first last ⌝ }
 {
     if said == 0 {
@@ -48,7 +48,7 @@ fn narrowed(span: Span, said: u32, first: u32, last: u32) -> Span
 }
 
 // What was said of a kind: one more than the number.
-fn said_of(facts: Facts, kind: u32) -> u32
+pub(crate) fn said_of(facts: Facts, kind: u32) -> u32
     requires { ⌜ kind < kinds ⌝ }
     ensures { λ r. ⌜ r ≡ said facts kind ⌝ }
 {
@@ -57,7 +57,7 @@ fn said_of(facts: Facts, kind: u32) -> u32
 }
 
 // The number, cut to `most`; 0 where nothing was said.
-fn number_of(said: u32, most: u32) -> u32
+pub(crate) fn number_of(said: u32, most: u32) -> u32
     ensures { λ r. ⌜ r ≡ min (said - 1) most ⌝ }
 {
     if said == 0 {
