@@ -286,7 +286,7 @@ loop-holds c = rw (c .month-span .ensures) (first-month _ _ (far (in-year c .bef
 
 month-start-requires :
     tie.Need-month-start-requires Inv-loop2 μ-loop2 Inv-loop μ-loop Inv-years μ-years
-month-start-requires c κs = 
+month-start-requires c κs =
     let y = in-year (of-year c) in
     (before-small (of-year c .before .before .before), omega (arith, far-year y), some-month c, few-months c)
 
@@ -299,7 +299,7 @@ month-days-requires :
 month-days-requires c κs = (start-small (c .before), omega (arith, c .month-length .ensures, month-most (year-at (in-year (of-year (c .before .before)))) (month-at (c .before .before))))
 
 loop2-holds : tie.Need-loop2-holds Inv-loop2 μ-loop2 Inv-loop μ-loop Inv-years μ-years
-loop2-holds c = 
+loop2-holds c =
     let m = in-month c in
     let y = in-year (of-year m) in
     rw (span-is c) (first-day _ _ (far (y .before .before)) _ _ (some-year y) (far-year y) (some-month m) (few-months m) _ (at-month m))
@@ -309,7 +309,7 @@ sub-date-at c = omega (arith, start-is (of-span c .before .before), at-day c .lo
 
 date-at-requires-2 :
     tie.Need-date-at-requires-2 Inv-loop2 μ-loop2 Inv-loop μ-loop Inv-years μ-years
-date-at-requires-2 c κs = 
+date-at-requires-2 c κs =
     omega (
       arith,
       far-year (here-year c),
@@ -322,7 +322,7 @@ date-at-requires-2 c κs =
 day-agrees-requires :
     tie.Need-day-agrees-requires Inv-loop2 μ-loop2 Inv-loop μ-loop Inv-years μ-years
 unfolding isoKinds range
-day-agrees-requires c κs = 
+day-agrees-requires c κs =
     let d = c .before in
     rw (dated c)
     ((sym (number-is d), before-is (of-year (here-month d) .before .before .before)), (omega (arith, a-day d), here-year d .before .before .before .before .before .before .any-said .ensures))
@@ -340,7 +340,7 @@ loop2-less : tie.Need-loop2-less Inv-loop2 μ-loop2 Inv-loop μ-loop Inv-years �
 loop2-less c = search needs
 
 loop2-again : tie.Need-loop2-again Inv-loop2 μ-loop2 Inv-loop μ-loop Inv-years μ-years
-loop2-again c = 
+loop2-again c =
     let d = within (c .before) in
     let e = tested (c .before) in
     let g = far (here-year d .before .before) in
@@ -361,7 +361,7 @@ loop-less : tie.Need-loop-less Inv-loop2 μ-loop2 Inv-loop μ-loop Inv-years μ-
 loop-less c = omega (arith, few-months (in-month (c .before .before .before)))
 
 loop-again : tie.Need-loop-again Inv-loop2 μ-loop2 Inv-loop μ-loop Inv-years μ-years
-loop-again c = 
+loop-again c =
     let k = c .before .before in
     let i = in-month (k .before) in
     let j = in-year (of-year i) in
@@ -369,19 +369,19 @@ loop-again c =
     (omega (arith, c .if3 .left, ap (λ (x : Span). x .last) (span-is (k .before))))
 
 add-year : tie.Need-add-year Inv-loop2 μ-loop2 Inv-loop μ-loop Inv-years μ-years
-add-year c = 
+add-year c =
     let d = c .before .before .before in
     let j = in-year d in
     omega (arith, far-year j, j .before .before .before .before .year-step .ensures, steps (facts-at (j .before .before)) 0)
 
 years-less : tie.Need-years-less Inv-loop2 μ-loop2 Inv-loop μ-loop Inv-years μ-years
-years-less c = 
+years-less c =
     let d = c .before .before .before in
     let j = in-year d in
     omega (arith, j .if1 .taken, j .before .before .before .before .year-step .ensures, steps (facts-at (j .before .before)) 0)
 
 years-again : tie.Need-years-again Inv-loop2 μ-loop2 Inv-loop μ-loop Inv-years μ-years
-years-again c = 
+years-again c =
     let k = c .before .before in
     let d = k .before in
     let j = in-year d in
@@ -390,18 +390,18 @@ years-again c =
     (omega (arith, c .if2 .left, ap (λ (x : Span). x .last) (d .month-span .ensures))))
 
 returns : tie.Need-returns Inv-loop2 μ-loop2 Inv-loop μ-loop Inv-years μ-years
-returns c = 
+returns c =
     let k = c .before .before in
     no-more-years _ _ (far k) _ _ (k .years .inv)
     (omega (arith, c .if1 .left, ap (λ (x : Span). x .last) (k .before .before .before .year-span .ensures)))
 
 returns-2 : tie.Need-returns-2 Inv-loop2 μ-loop2 Inv-loop μ-loop Inv-years μ-years
-returns-2 c = 
+returns-2 c =
     let t = c .before .before .before in
     let d = within (t .before) in
     let g = far (here-year d .before .before) in
     let h = next-day-hit _ _ g _ _ (some-year (here-year d)) (far-year (here-year d)) (some-month (here-month d)) (few-months (here-month d)) _ _ (at-day d) (not-past d)
-        (few-years (here-year d)) (sym (tested (t .before)) ∙ t .if4 .taken) in
+    (few-years (here-year d)) (sym (tested (t .before)) ∙ t .if4 .taken) in
     upto-two _ _ _ _ (rw (← c .before .before .hit .ensures) at (h .upto)) (sym (c .before .is-two .ensures) ∙ c .if5 .taken)
 
 pub search-years-spec : {M : Type 1} → statement M
