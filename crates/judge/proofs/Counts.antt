@@ -170,7 +170,7 @@ count-turns d c l m zero = rw (zero-add c) (sym (div-eq-of-lt m))
 count-turns d c l m (suc n) =
     rw (suc-add n c, grows d (n + c) l) (ap (λ (x : ℕ). x + cond (eqb (suc (n + c) % d) 0) 1 0) (count-turns d c l m n))
 
--- what is said is a number: the tests that are the same, for each year
+-- two tests that pass alike
 same-test : (a b c d : ℕ) → (a ≡ b → c ≡ d) → (c ≡ d → a ≡ b) → eqb a b ≡ eqb c d
 same-test a b c d f g =
     elim (ℕ-discrete a b) [
@@ -178,6 +178,7 @@ same-test a b c d f g =
       | no e ↦ ne-eqb a b e ∙ sym (ne-eqb c d (λ x. e (g x)))
     ]
 
+-- where a number was said
 module _ (s n : ℕ) (h : 0 < s) where
   pub ending-none : 99 < s - 1 → 0 ≡ endingYears s n
   unfolding endingYears
@@ -295,7 +296,8 @@ module _ (f : Facts) (n : ℕ) where
   pub leap-days-most : saidDays month 4 * leapEndingYears ending n ≤ 366 * n
   leap-days-most = omega (arith, ending-days-is, ending-days-most)
 
--- the months of a year that agree with what was said of the month
+-- ---- the months of a year that agree with what was said of the month
+
 no-month-0 : (y : ℕ) → monthLength y 0 ≡ 0
 unfolding monthLength monthLengths
 no-month-0 y = refl

@@ -135,6 +135,7 @@ fn date_through(facts: Facts, date: Date) -> u32
     years + in_year(said_of(facts, kinds::MONTH), date)
 }
 
+// The same through a day, by its day number.
 fn day_through(facts: Facts, number: u32) -> u32
     requires { ⌜ (0 < number) × (number ≤ days) ⌝ }
     ensures { λ r. ⌜ r ≡ monthDays facts number ⌝ }

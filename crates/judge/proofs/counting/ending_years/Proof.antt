@@ -21,7 +21,7 @@ add-result : tie.Need-add-result
 add-result c = search needs
 
 returns-3 : tie.Need-returns-3
-returns-3 c = let a = c .before .before .args in ending-some (a .said) (a .last) (omega arith) (omega arith)
+returns-3 c = let a = c .before .before .args in omega (arith, ending-some (a .said) (a .last) (omega arith) (omega arith))
 
 pub ending-years-spec : {M : Type 1} → statement M
 ending-years-spec =

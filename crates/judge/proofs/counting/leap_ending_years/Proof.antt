@@ -13,7 +13,7 @@ add-result : tie.Need-add-result
 add-result c = search needs
 
 returns : tie.Need-returns
-returns c = leap-unsaid _ _ (c .if1 .taken)
+returns c = let a = c .before .args in omega (arith, leap-unsaid (a .said) (a .last) (c .if1 .taken))
 
 sub-number : tie.Need-sub-number
 sub-number c = search needs
@@ -22,7 +22,9 @@ returns-2 : tie.Need-returns-2
 returns-2 c = let a = c .before .before .args in leap-none (a .said) (a .last) (omega arith) (c .if2 .taken)
 
 returns-3 : tie.Need-returns-3
-returns-3 c = let a = c .before .before .before .args in leap-centuries (a .said) (a .last) (omega arith) (omega arith)
+returns-3 c =
+    let a = c .before .before .before .args in
+    omega (arith, leap-centuries (a .said) (a .last) (omega arith) (omega arith))
 
 ending-years-requires : tie.Need-ending-years-requires
 ending-years-requires c κs = search needs
