@@ -1,4 +1,5 @@
 pub mod Columns
+pub mod Counts
 pub mod Demand
 pub mod Engines
 pub mod Matched

@@ -6,8 +6,10 @@
 --   3  the conclusions of RULES 8: the facts that a text says, and when it is matched, in Facts (`matched`, `handed` in proofs/Matched);
 --      what the writer would write, in Writes (`day-would`, `hour-would` in proofs/Written);
 --      how a matched text is answered, `Answered` of Demand (`answered` in proofs/Demand);
---      that it is answered alike by every engine, and what a budget does, in Engines (`one-verdict`, `engines` in proofs/Engines)
+--      that it is answered alike by every engine, and what a budget does, in Engines (`one-verdict`, `engines` in proofs/Engines);
+--      how many days each engine examines, `Counts` of Counts (`counts` in proofs/Counts)
 pub mod Columns
+pub mod Counts
 pub mod Demand
 pub mod Engines
 pub mod Facts
