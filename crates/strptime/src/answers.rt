@@ -21,6 +21,7 @@ use format::elements_in;
 use format::entry_place;
 use format::open;
 use judge::Engine;
+use judge::Facts;
 use judge::Searched;
 use judge::Verdict;
 use judge::judge_day;
@@ -30,8 +31,10 @@ ghost use Prim.Native.Nat.{_*_, _≤_, _<_};
 ghost use lib.ListN.{length};
 ghost use Rattle.calendar.specs.Calendar.{days, dateOf};
 ghost use Rattle.format.specs.Opening.{longest};
+ghost use Rattle.judge.specs.Demand.{DayAgrees};
 ghost use Rattle.judge.specs.Verdicts.{dayVerdict, hourVerdict};
 ghost use Rattle.strptime.specs.Answers.{showing, refused, examining, readingOf, saidOf, done, withHour, withDay, judged};
+ghost use Rattle.strptime.specs.Private.{withDated};
 ghost use Rattle.strptime.specs.Answers.{readBy, unlessLong, readingBy, elementsReadingBy};
 
 // A number and a place, what is shown, and the days examined; all else is unsaid.
@@ -141,55 +144,89 @@ fn with_hour(state: State, day: Day, examined: u32) -> Answer
     }
 }
 
-// The one day that agrees, by its number. A number of no day is refused; the search gives none.
-fn with_day(state: State, number: u32, examined: u32) -> Answer
-    requires { ⌜ (0 < number) × (number ≤ days) ⌝ }
-    ensures { λ r. ⌜ readingOf r ≡ examining examined (withHour state (Day.On (dateOf number)) (hourVerdict (state .facts))) ⌝ }
-{
-    let FromNumber::Day(date) = Date::from_day_number(number) else {
-        return Answer::NoDay { examined };
-    };
-    with_hour(state, Day::On(date), examined)
+// ---- The day
+
+// What the verdict on the day leaves: a day or none, with the days examined, or the answer that refuses it.
+pub enum Dated {
+    Fixed { day: Day, examined: u32 },
+    Refused { answer: Answer },
 }
 
-// The first two days that agree, in the same way.
-fn open_day(first: u32, second: u32, examined: u32) -> Answer
-    requires { ⌜ (0 < first) × (first ≤ days) ⌝ }
-    requires { ⌜ (0 < second) × (second ≤ days) ⌝ }
-    ensures { λ r. ⌜ readingOf r ≡ examining examined (showing 10 1 (Shown.Days (dateOf first) (dateOf second))) ⌝ }
+// The date of a day number. A number of no day is the first day; the search gives none.
+fn date_at(number: u32) -> Date
+    requires { ⌜ (0 < number) × (number ≤ days) ⌝ }
+    ensures { λ r. ⌜ r ≡ dateOf number ⌝ }
 {
-    let FromNumber::Day(first) = Date::from_day_number(first) else {
-        return Answer::NoDay { examined };
-    };
-    let FromNumber::Day(second) = Date::from_day_number(second) else {
-        return Answer::NoDay { examined };
-    };
-    Answer::OpenDay {
-        first,
-        second,
-        examined,
+    match Date::from_day_number(number) {
+        FromNumber::Day(date) => date,
+        FromNumber::Outside => Date::FIRST,
     }
 }
 
-// The day by the verdict on it, then the hour.
-fn with_verdict(state: State, verdict: Verdict, examined: u32) -> Answer
+// The date of the one day that agrees: as it was said, where year, month and day were.
+fn date_of(facts: Facts, number: u32) -> Date
+    requires { ⌜ (0 < number) × (number ≤ days) ⌝ }
+    requires { ⌜ DayAgrees facts number ⌝ }
+    ensures { λ r. ⌜ r ≡ dateOf number ⌝ }
+{
+    let said = facts.said;
+    let year = said[kinds::YEAR as usize];
+    let month = said[kinds::MONTH as usize];
+    let day = said[kinds::DAY as usize];
+    if year == 0 || month == 0 || day == 0 {
+        return date_at(number);
+    }
+    Date {
+        year: (year - 1) as u16,
+        month: (month - 1) as u8,
+        day: (day - 1) as u8,
+    }
+}
+
+fn by_verdict(state: State, verdict: Verdict, examined: u32) -> Dated
     requires { ⌜ verdict ≡ dayVerdict (state .facts) ⌝ }
-    ensures { λ r. ⌜ readingOf r ≡ examining examined (withDay state verdict (hourVerdict (state .facts))) ⌝ }
+    ensures { λ r. ⌜ withDated state r ≡ examining examined (withDay state verdict (hourVerdict (state .facts))) ⌝ }
 {
     match verdict {
-        Verdict::Unsaid => with_hour(state, Day::NoDate, examined),
-        Verdict::Impossible => Answer::NoDay { examined },
-        Verdict::Open { first, second } => open_day(first, second, examined),
-        Verdict::Agreed(day) => with_day(state, day, examined),
+        Verdict::Unsaid => Dated::Fixed {
+            day: Day::NoDate,
+            examined,
+        },
+        Verdict::Impossible => Dated::Refused {
+            answer: Answer::NoDay { examined },
+        },
+        Verdict::Open { first, second } => Dated::Refused {
+            answer: Answer::OpenDay {
+                first: date_at(first),
+                second: date_at(second),
+                examined,
+            },
+        },
+        Verdict::Agreed(day) => Dated::Fixed {
+            day: Day::On(date_of(state.facts, day)),
+            examined,
+        },
     }
 }
 
+fn date_by(engine: Engine, state: State) -> Dated
+    ensures { λ r. ⌜ withDated state r ≡ judged engine state ⌝ }
+{
+    match judge_day(engine, state.facts) {
+        Searched::Judged { verdict, examined } => by_verdict(state, verdict, examined),
+        Searched::OverBudget { budget } => Dated::Refused {
+            answer: Answer::OverBudget { budget },
+        },
+    }
+}
+
+// The day, then the hour. It is asked for at one place, so that the compiler puts it there: a call would hand the answer on in memory.
 fn judged(engine: Engine, state: State) -> Answer
     ensures { λ r. ⌜ readingOf r ≡ judged engine state ⌝ }
 {
-    match judge_day(engine, state.facts) {
-        Searched::Judged { verdict, examined } => with_verdict(state, verdict, examined),
-        Searched::OverBudget { budget } => Answer::OverBudget { budget },
+    match date_by(engine, state) {
+        Dated::Fixed { day, examined } => with_hour(state, day, examined),
+        Dated::Refused { answer } => answer,
     }
 }
 

@@ -1,40 +1,42 @@
 -- `strptime::answers::judged` meets its contract. Assumes nothing.
 use borrow.Author.Needs.{needs}
-use mathlib.Core.Path.{sym, _∙_}
-use Rattle.judge.proofs.Engines.{searched-verdict}
-use Rattle.strptime.specs.Answers.{readingOf, withSearched, judged}
+use mathlib.Core.Path.{sym, ap, _∙_}
+use Rattle.strptime.specs.Private.{withDated}
 use Rattle.strptime.proofs.answers.judged.Statement.{statement}
 use Rattle.strptime.proofs.answers.judged.Tie as tie
 
-judge-day-requires : tie.Need-judge-day-requires
-judge-day-requires c κs = search needs
+date-by-requires : tie.Need-date-by-requires
+date-by-requires c κs = search needs
 
-enum-known-verdict : tie.Need-enum-known-verdict
-enum-known-verdict c = search needs
+enum-known-day : tie.Need-enum-known-day
+enum-known-day c = search needs
 
-with-verdict-requires : tie.Need-with-verdict-requires
-with-verdict-requires c κs =
-    let d = c .before .before .before in
-    searched-verdict _ (d .before .args .state .facts) (sym (d .judge-day .ensures) ∙ c .before .verdict .given .1)
+with-hour-requires : tie.Need-with-hour-requires
+with-hour-requires c κs = search needs
 
-enum-known-budget : tie.Need-enum-known-budget
-enum-known-budget c = search needs
+enum-known-answer : tie.Need-enum-known-answer
+enum-known-answer c = search needs
 
 returns : tie.Need-returns
-unfolding withSearched judged
-returns c = rw (← c .before .before .before .before .judge-day .ensures, c .before .before .verdict .given .1) (c .with-verdict .ensures)
+unfolding withDated
+returns c =
+    let d = c .before .before in
+    let e = d .before .before in
+    c .with-hour .ensures ∙ ap (withDated (e .before .args .state)) (sym (d .day .given .1)) ∙ e .date-by .ensures
 
 returns-2 : tie.Need-returns-2
-unfolding readingOf withSearched judged
-returns-2 c = rw (← c .before .before .before .judge-day .ensures, c .before .budget .given .1)
+unfolding withDated
+returns-2 c =
+    let e = c .before .before .before in
+    ap (withDated (e .before .args .state)) (sym (c .before .answer .given .1)) ∙ e .date-by .ensures
 
 pub judged-spec : {M : Type 1} → statement M
 judged-spec =
     tie.close
     (tie.spec
-    judge-day-requires
-    enum-known-verdict
-    with-verdict-requires
-    enum-known-budget
+    date-by-requires
+    enum-known-day
+    with-hour-requires
+    enum-known-answer
     returns
     returns-2)

@@ -1,0 +1,102 @@
+-- `strptime::answers::date_of` meets its contract. Assumes nothing.
+use borrow.Author.Needs.{needs}
+use mathlib.Core.Path.{_≡_}
+use native.Mathlib.Omega.{arith}
+use borrow.Author.Tests.{eqb-false}
+use Rattle.judge.specs.Agreement.{said}
+use Rattle.judge.specs.declared.Facts.{Facts}
+use Rattle.kinds.specs.Kinds as kinds
+use Rattle.strptime.proofs.Days.{year-said, month-said, day-said, as-said}
+use Rattle.strptime.proofs.answers.date_of.Statement.{statement}
+use Rattle.strptime.proofs.answers.date_of.Tie as tie
+
+cast-year : tie.Need-cast-year
+cast-year c = search needs
+
+mul-year : tie.Need-mul-year
+mul-year c = search needs
+
+array-read-year : tie.Need-array-read-year
+array-read-year c = search needs
+
+cast-month : tie.Need-cast-month
+cast-month c = search needs
+
+mul-month : tie.Need-mul-month
+mul-month c = search needs
+
+array-read-month : tie.Need-array-read-month
+array-read-month c = search needs
+
+cast-day : tie.Need-cast-day
+cast-day c = search needs
+
+mul-day : tie.Need-mul-day
+mul-day c = search needs
+
+array-read-day : tie.Need-array-read-day
+array-read-day c = search needs
+
+date-at-requires : tie.Need-date-at-requires
+date-at-requires c κs = search needs
+
+returns : tie.Need-returns
+returns c = search needs
+
+sub-t11 : tie.Need-sub-t11
+sub-t11 c = search needs
+
+-- year, month and day were said
+module _ (c : tie.Else3) where
+  abbrev b : tie.Start
+  b = c .before .before .before .before
+
+  abbrev f : Facts
+  f = b .args .facts
+
+  some-month : said f kinds.month ≡ 0 → ⊥
+  some-month = eqb-false (said f kinds.month) 0 (c .before .if2 .left)
+
+  some-day : said f kinds.day ≡ 0 → ⊥
+  some-day = eqb-false (said f kinds.day) 0 (c .if3 .left)
+
+cast-t19 : tie.Need-cast-t19
+cast-t19 c = omega (arith, year-said (f c) (b c .args .number) (b c .pre .0 .0) (b c .pre .0 .1) (b c .pre .1) (c .before .before .if1 .left) .1)
+
+sub-t20 : tie.Need-sub-t20
+sub-t20 c = omega (arith, some-month c)
+
+cast-t21 : tie.Need-cast-t21
+cast-t21 c = omega (arith, month-said (f c) (b c .args .number) (b c .pre .0 .0) (b c .pre .0 .1) (b c .pre .1) (some-month c) .1)
+
+sub-t22 : tie.Need-sub-t22
+sub-t22 c = omega (arith, some-day c)
+
+cast-t23 : tie.Need-cast-t23
+cast-t23 c = omega (arith, day-said (f c) (b c .args .number) (b c .pre .0 .0) (b c .pre .0 .1) (b c .pre .1) (some-day c) .1)
+
+returns-2 : tie.Need-returns-2
+returns-2 c = as-said (f c) (b c .args .number) (b c .pre .0 .0) (b c .pre .0 .1) (b c .pre .1) (c .before .before .if1 .left) (some-month c) (some-day c)
+
+pub date-of-spec : {M : Type 1} → statement M
+date-of-spec =
+    tie.close
+    (tie.spec
+    cast-year
+    mul-year
+    array-read-year
+    cast-month
+    mul-month
+    array-read-month
+    cast-day
+    mul-day
+    array-read-day
+    date-at-requires
+    returns
+    sub-t11
+    cast-t19
+    sub-t20
+    cast-t21
+    sub-t22
+    cast-t23
+    returns-2)
