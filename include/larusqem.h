@@ -344,11 +344,11 @@ enum larusqem_use {
 };
 
 /*
- * Opens a format into elements, once, for any number of calls of larusqem_write, and of larusqem_read where it is opened for reading.
- * Without flags and widths it opens to the same for both. LARUSQEM_ELEMENTS entries are enough for every format, and 13 for every two
- * bytes of this one. Answers, judged in this order: 1 with 0; 3 with the offset of the first bad %; 4 with the number of elements where
- * they do not all fit; 0 with their number. On 0 and 4 the elements are stored, on 3 those before the bad %, each as many as fit, and on 1
- * none. Every other entry is as it came.
+ * Opens a format into elements, once, for any number of calls of larusqem_write, and of larusqem_read and larusqem_read_with where it is
+ * opened for reading. Without flags and widths it opens to the same for both. LARUSQEM_ELEMENTS entries are enough for every format, and
+ * 13 for every two bytes of this one. Answers, judged in this order: 1 with 0; 3 with the offset of the first bad %; 4 with the number of
+ * elements where they do not all fit; 0 with their number. On 0 and 4 the elements are stored, on 3 those before the bad %, each as many as
+ * fit, and on 1 none. Every other entry is as it came.
  */
 static inline struct larusqem_answer larusqem_open(const char *format, size_t format_length, enum larusqem_use use, uint32_t *elements,
                                                    size_t elements_length)
