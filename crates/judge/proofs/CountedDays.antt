@@ -133,13 +133,3 @@ unfolding every range dateValue dateValues yearAgrees
 year-kinds f t =
     ap (λ (x : Bool). agrees (said f kinds.year) (t .year) && (agrees (said f kinds.century) (t .year / 100) && x))
     (and-true (agrees (said f kinds.yearInCentury) (t .year % 100)))
-
--- the last day that is examined is one of the calendar's
-pub last-within : (f : Facts) → (0 < through days (daysFound f)) × (through days (daysFound f) ≤ days)
-unfolding daysFound through
-last-within f = by (firstTwo (dayAgrees f) 1 days) (tells (dayAgrees f) 1 days)
-  where
-    by : (h : Found) → Tells (dayAgrees f) 1 (1 + days) h → (0 < through days h) × (through days h ≤ days)
-    by Nothing t = (omega (arith, days-is), omega arith)
-    by (One a) t = (omega (arith, days-is), omega arith)
-    by (Two a b) (double l m o q r g) = (omega arith, omega arith)
