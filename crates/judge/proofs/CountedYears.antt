@@ -14,7 +14,7 @@ use Rattle.judge.specs.declared.Facts.{Facts}
 use Rattle.judge.specs.declared.spans.Span.{Span}
 use Rattle.kinds.specs.Kinds as kinds
 use Rattle.judge.proofs.Counts.{where-within, within-both}
-use Rattle.judge.proofs.SpanLaws.{In, said-years-low, said-years-in, said-years-of}
+use Rattle.judge.proofs.SpanLaws.{said-years-in, said-years-of}
 
 nested : (t u : Bool) (x : ℕ) → cond (t && u) x 0 ≡ cond t (cond u x 0) 0
 nested true u x = refl

@@ -4,12 +4,11 @@
 use Prim.Native.Nat.{ℕ, _+_, _-_, _%_, _≤_, _<_, min}
 use mathlib.Core.Bool.{Bool, true, false}
 use mathlib.Core.Logic.{⊎-elim}
-use mathlib.Core.Path.{_≡_, refl, sym, ap, _∙_}
+use mathlib.Core.Path.{_≡_}
 use native.Mathlib.Decide.{decLe}
-use native.Mathlib.Nat.{eq-or-lt-of-le, lt-of-not-le}
+use native.Mathlib.Nat.{eq-or-lt-of-le}
 use native.Mathlib.Omega.{arith}
 use Rattle.calendar.specs.Calendar.{sum, yearLength, monthLength, daysBefore, dayOfYear, dayNumber, days, dateOf, isoYear, lastYear}
-use Rattle.calendar.specs.declared.Date.{Date}
 use Rattle.judge.specs.Agreement.{dayAgrees}
 use Rattle.judge.specs.Private.{yearSpan, yearStep, firstYear, monthSpan, yearDays, monthStart, monthDaySpan}
 use Rattle.judge.specs.Search.{hit, firstTwo}
@@ -22,8 +21,8 @@ use Rattle.calendar.proofs.Months.{month-most, year-months, year-length-most}
 use Rattle.calendar.proofs.Sum.{sum-mono, sum-last}
 use Rattle.calendar.proofs.Years.{days-is, days-before-is, days-before-next}
 use Rattle.judge.proofs.Agreeing.{Agreeing, agreeing, agreeing-at, before-mono}
-use Rattle.judge.proofs.SpanLaws.{In, years-low, years-high, years-in, steps, no-steps, stepped-on, next-step}
-use Rattle.judge.proofs.SpanLaws.{months-low, months-most, months-high, months-in, days-in, span-low, span-high, span-in}
+use Rattle.judge.proofs.SpanLaws.{In, years-low, years-in, steps, no-steps, stepped-on, next-step}
+use Rattle.judge.proofs.SpanLaws.{months-most, months-in, days-in, span-low, span-high, span-in}
 use Rattle.judge.proofs.Upto.{Upto, upto-start, upto-skip, upto-hit, upto-miss, upto-none}
 
 pub before-few : (y : ℕ) → y ≤ lastYear + 1 → daysBefore y ≤ 3652059
@@ -37,7 +36,7 @@ start-mono y m m′ h = omega (arith, sum-mono (monthLength y) (m - 1) (m′ - 1
 pub start-most : (y m : ℕ) → 0 < y → m ≤ 13 → monthStart (daysBefore y) y m ≤ daysBefore (y + 1)
 start-most y m p h = omega (arith, sum-mono (monthLength y) (m - 1) 12 (omega arith), year-months y, days-before-next y p)
 
-pub start-next : (y m : ℕ) → 0 < m → monthStart (daysBefore y) y (m + 1) ≡ monthStart (daysBefore y) y m + monthLength y m
+start-next : (y m : ℕ) → 0 < m → monthStart (daysBefore y) y (m + 1) ≡ monthStart (daysBefore y) y m + monthLength y m
 start-next y m p = let e : m + 1 - 1 ≡ m = omega arith in rw e (omega (arith, sum-last (monthLength y) m p))
 
 -- the days of a month that can agree
@@ -73,7 +72,7 @@ module _ (f : Facts) (horizon : ℕ) where
     pub upto : Upto p n (min number (monthStart (daysBefore year) year (month + 1) + 1)) found
 
   module _ (far : horizon ≤ lastYear) where
-    pub all-days : n ≤ days
+    all-days : n ≤ days
     unfolding days
     all-days = sum-mono yearLength horizon lastYear far
 
@@ -201,7 +200,7 @@ module _ (f : Facts) (horizon : ℕ) where
       abbrev span : Span
       span = can f y m
 
-      pub end-is : end ≡ start + monthLength y m
+      end-is : end ≡ start + monthLength y m
       end-is = start-next y m a
 
       pub valid-here : (k : ℕ) → start < k → k ≤ end → Valid y m (k - start)
@@ -215,7 +214,7 @@ module _ (f : Facts) (horizon : ℕ) where
             day-high = omega (arith, end-is);
           }
 
-      pub number-here : (k : ℕ) → start < k → dayNumber y m (k - start) ≡ k
+      number-here : (k : ℕ) → start < k → dayNumber y m (k - start) ≡ k
       unfolding dayNumber dayOfYear
       number-here k l = omega arith
 
@@ -244,7 +243,7 @@ module _ (f : Facts) (horizon : ℕ) where
                 | no g ↦ omega (arith, g)
               ]
 
-      pub last-high : span .last ≤ end
+      last-high : span .last ≤ end
       last-high = omega (arith, end-is, span-high f (yearDays f (daysBefore y) (yearLength y)) start (monthLength y m))
 
       -- the day at hand is looked at

@@ -1,19 +1,19 @@
 -- What facts leave of years, months and days holds every day that agrees.
 -- Assumes nothing.
-use Prim.Native.Nat.{ℕ, _+_, _-_, _*_, _/_, _%_, _≤_, _<_, min, max}
-use mathlib.Core.Bool.{Bool, true, false, cond}
-use mathlib.Core.Path.{_≡_, refl, sym, _∙_}
+use Prim.Native.Nat.{ℕ, _+_, _-_, _*_, _/_, _%_, _≤_, _<_}
+use mathlib.Core.Bool.{true}
+use mathlib.Core.Path.{_≡_, refl}
 use native.Mathlib.Decide.{decLe, ℕ-discrete}
 use native.Mathlib.Nat.{div-add-mod', lt-of-not-le}
 use native.Mathlib.Omega.{arith}
 use borrow.Author.Tests.{eq-eqb, ne-eqb, eqb-true, le-leb}
-use lib.Dec.{eqb, leb}
+use lib.Dec.{eqb}
 use Rattle.kinds.specs.Kinds as kinds
 use Rattle.judge.specs.Agreement.{said, agrees}
 use Rattle.judge.specs.Private.{narrowed, saidYears, yearSpan, yearStep, firstYear, isoCan, monthSpan, yearDays, monthDaySpan}
 use Rattle.judge.specs.declared.Facts.{Facts}
 use Rattle.judge.specs.declared.spans.Span.{Span}
-use Rattle.laws.proofs.Cases.{picked, either}
+use Rattle.laws.proofs.Cases.{picked}
 
 -- a number lies in a span
 pub record In (x : Span) (k : ℕ) : Type 0 where
@@ -21,11 +21,11 @@ pub record In (x : Span) (k : ℕ) : Type 0 where
   pub to : k ≤ x .last
 
 -- what was said is the value that agrees
-pub is-said : (s v : ℕ) → agrees s v ≡ true → (s ≡ 0 → ⊥) → s - 1 ≡ v
+is-said : (s v : ℕ) → agrees s v ≡ true → (s ≡ 0 → ⊥) → s - 1 ≡ v
 unfolding agrees
 is-said s v e n = eqb-true (s - 1) v (rw (ne-eqb s 0 n) at e)
 
-pub says : (s v : ℕ) → ((s ≡ 0 → ⊥) → s - 1 ≡ v) → agrees s v ≡ true
+says : (s v : ℕ) → ((s ≡ 0 → ⊥) → s - 1 ≡ v) → agrees s v ≡ true
 unfolding agrees
 says s v h =
     elim (ℕ-discrete s 0) [
@@ -35,7 +35,7 @@ says s v h =
 
 -- ---- one fact
 module _ (x : Span) (s a b : ℕ) where
-  pub narrowed-in : (k : ℕ) → In x k → ((s ≡ 0 → ⊥) → (a ≤ k) × (k ≤ b)) → In (narrowed x s a b) k
+  narrowed-in : (k : ℕ) → In x k → ((s ≡ 0 → ⊥) → (a ≤ k) × (k ≤ b)) → In (narrowed x s a b) k
   unfolding narrowed
   narrowed-in k i h = go (ℕ-discrete s 0)
     where
@@ -43,7 +43,7 @@ module _ (x : Span) (s a b : ℕ) where
       go (yes e) = rw (eq-eqb s 0 e) i
       go (no n) = rw (ne-eqb s 0 n) (record { from = omega (arith, i .from, h n); to = omega (arith, i .to, h n) })
 
-  pub narrowed-of : (k : ℕ) → In (narrowed x s a b) k → In x k × ((s ≡ 0 → ⊥) → (a ≤ k) × (k ≤ b))
+  narrowed-of : (k : ℕ) → In (narrowed x s a b) k → In x k × ((s ≡ 0 → ⊥) → (a ≤ k) × (k ≤ b))
   unfolding narrowed
   narrowed-of k =
       elim (ℕ-discrete s 0) [
@@ -55,15 +55,15 @@ module _ (x : Span) (s a b : ℕ) where
       ]
 
   -- it begins no earlier, and ends no later
-  pub narrowed-from : (n : ℕ) → n ≤ x .first → n ≤ narrowed x s a b .first
+  narrowed-from : (n : ℕ) → n ≤ x .first → n ≤ narrowed x s a b .first
   unfolding narrowed
   narrowed-from n h = picked (λ (y : Span). n ≤ y .first) (eqb s 0) h (omega arith)
 
-  pub narrowed-to : (n : ℕ) → x .last ≤ n → narrowed x s a b .last ≤ n
+  narrowed-to : (n : ℕ) → x .last ≤ n → narrowed x s a b .last ≤ n
   unfolding narrowed
   narrowed-to n h = picked (λ (y : Span). y .last ≤ n) (eqb s 0) h (omega arith)
 
-  pub narrowed-most : (n : ℕ) → x .first ≤ n → a ≤ n → narrowed x s a b .first ≤ n
+  narrowed-most : (n : ℕ) → x .first ≤ n → a ≤ n → narrowed x s a b .first ≤ n
   unfolding narrowed
   narrowed-most n h l = picked (λ (y : Span). y .first ≤ n) (eqb s 0) h (omega arith)
 
@@ -209,14 +209,6 @@ module _ (f : Facts) where
 
   -- ---- days of a year
   module _ (before length : ℕ) where
-    pub days-low : before + 1 ≤ yearDays f before length .first
-    unfolding yearDays
-    days-low = narrowed-from _ _ _ _ _ (narrowed-from _ _ _ _ _ (narrowed-from _ _ _ _ _ (omega arith)))
-
-    pub days-high : yearDays f before length .last ≤ before + length
-    unfolding yearDays
-    days-high = narrowed-to _ _ _ _ _ (narrowed-to _ _ _ _ _ (narrowed-to _ _ _ _ _ (omega arith)))
-
     pub days-in : (k : ℕ) → length ≤ 366 → before < k → k ≤ before + length
         → agrees (said f kinds.dayOfYear) (k - before) ≡ true
         → agrees (said f kinds.sundayWeek) (k / 7 - before / 7) ≡ true

@@ -1,5 +1,5 @@
--- What the engines work with: the kinds in the parts that a day's test takes them in, what facts leave of years, months and days, and what
--- repeats.
+-- What the engines work with: what each gives where a fact bears on the day, what facts leave of years, months and days, what repeats,
+-- and the count.
 use Prim.Native.Nat.{ℕ, _+_, _-_, _*_, _/_, _%_, min, max}
 use mathlib.Core.Bool.{Bool, true, cond, not, _&&_}
 use mathlib.Core.List.{List, [], _∷_}

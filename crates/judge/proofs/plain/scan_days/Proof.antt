@@ -5,7 +5,7 @@ use mathlib.Core.Logic.{⊎-elim}
 use mathlib.Core.Path.{_≡_, refl, sym, ap, _∙_}
 use native.Mathlib.Omega.{arith}
 use borrow.Author.Needs.{needs}
-use Rattle.calendar.specs.Calendar.{monthLength, days, date, dateOf}
+use Rattle.calendar.specs.Calendar.{monthLength, days, dateOf}
 use Rattle.judge.specs.Agreement.{dateAgrees, dayAgrees}
 use Rattle.judge.specs.Private.{isoKinds}
 use Rattle.judge.specs.Search.{isTwo, through}

@@ -1,13 +1,13 @@
 -- `judge::skipping::search_years` meets its contract. Assumes nothing.
 use Prim.Native.Nat.{ℕ, _+_, _-_, _≤_, _<_}
 use mathlib.Core.Logic.{⊎-elim}
-use mathlib.Core.Path.{_≡_, refl, sym, ap, ap₂, _∙_}
+use mathlib.Core.Path.{_≡_, sym, ap, ap₂, _∙_}
 use native.Mathlib.Omega.{arith}
 use borrow.Author.Needs.{needs}
 use Rattle.calendar.specs.Calendar.{sum, yearLength, monthLength, daysBefore, dayOfYear, dayNumber, date, dateOf, lastYear}
 use Rattle.calendar.specs.declared.Date.{Date}
 use Rattle.judge.specs.Agreement.{dateAgrees, dayAgrees}
-use Rattle.judge.specs.Private.{isoKinds, yearSpan, monthSpan, yearDays, monthStart, monthDaySpan}
+use Rattle.judge.specs.Private.{isoKinds, yearDays, monthStart, monthDaySpan}
 use Rattle.judge.specs.declared.Facts.{Facts}
 use Rattle.judge.specs.declared.spans.Span.{Span}
 use Rattle.laws.specs.Lists.{range}
