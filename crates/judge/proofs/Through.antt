@@ -79,7 +79,8 @@ module _ (f : Facts) (budget : ℕ) where
       → Over ≡ scanned budget f
   unfolding scanned plainCount lastExamined daysFound
   over-budget h s e l =
-      rw (lt-leb (through days (firstTwo (dayAgrees f) 1 days)) budget (omega (arith, so-far-through (dayAgrees f) days (budget + 1) h s e (omega arith))))
+      let n = so-far-through (dayAgrees f) days (budget + 1) h s e (omega arith) in
+      rw (lt-leb (through days (firstTwo (dayAgrees f) 1 days)) budget (omega (arith, n)))
 
   pub within-budget : (h : Found) (examined : ℕ) → h ≡ firstTwo (dayAgrees f) 1 days → examined ≡ through days h → examined ≤ budget
       → Ended h examined ≡ scanned budget f

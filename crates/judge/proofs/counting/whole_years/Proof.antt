@@ -52,7 +52,8 @@ returns : tie.Need-returns
 returns c =
     let a = c .before .before .before .before .before .args in
     let k = c .before .before .before in
-    sym (whole-none (a .facts) (a .last) (k .before .before .pre) (omega (arith, c .before .before .earlier .ensures, first-is k, last-is k)))
+    let e = c .before .before .earlier .ensures in
+    sym (whole-none (a .facts) (a .last) (k .before .before .pre) (omega (arith, e, first-is k, last-is k)))
 
 ending-days-requires : tie.Need-ending-days-requires
 ending-days-requires c κs = search needs

@@ -100,7 +100,9 @@ module _ (f : Facts) (horizon : ℕ) where
           | yes l ↦ l
           | no l ↦ absurd (omega (arith, s .at, v .day-low, sum-mono yearLength horizon (t .year - 1) (omega (arith, l))))
         ] in
-        let i = years-in f horizon (t .year) (isoYear k) (v .year-low) near (v .year-high) (s .year) (s .century) (s .iso-year) (s .not-before) (s .not-after) in
+        let i : In (yearSpan f horizon) (t .year)
+        = years-in f horizon (t .year) (isoYear k) (v .year-low) near (v .year-high) (s .year) (s .century) (s .iso-year)
+        (s .not-before) (s .not-after) in
         record {
           y = t .year;
           m = t .month;
@@ -110,7 +112,8 @@ module _ (f : Facts) (horizon : ℕ) where
           in-span = i;
           on-step = stepped-on f (yearSpan f horizon .first) (t .year) (i .from) (s .year-in-century);
           in-months =
-              months-in f (t .year) (t .month) (isoYear k) (v .month-low) (v .month-high) (s .month) (s .iso-year-in-century) (s .not-before) (s .not-after);
+              months-in f (t .year) (t .month) (isoYear k) (v .month-low) (v .month-high) (s .month) (s .iso-year-in-century)
+              (s .not-before) (s .not-after);
           after-start = omega (arith, s .at, v .day-low);
           upto-end = omega (arith, s .at, v .day-high, start-next (t .year) (t .month) (v .month-low));
         }
@@ -163,7 +166,12 @@ module _ (f : Facts) (horizon : ℕ) where
             ⊎-elim
             (λ (s : y ≡ t .y).
             rw s
-            (omega (arith, t .says .at, t .says .valid .day-low, start-mono (t .y) (monthSpan f (t .y) .first) (t .m) (t .in-months .from))))
+            (omega (
+              arith,
+              t .says .at,
+              t .says .valid .day-low,
+              start-mono (t .y) (monthSpan f (t .y) .first) (t .m) (t .in-months .from),
+            )))
             (λ (s : y < t .y).
             omega (arith, start-most y (monthSpan f y .first) (year-low y h a) (months-most f y), later-start (y + 1) k t (omega arith)))
             (eq-or-lt-of-le (no-earlier y k t (omega arith)))
@@ -233,7 +241,8 @@ module _ (f : Facts) (horizon : ℕ) where
           record {
             low = omega (arith, span-low f (yearDays f (daysBefore y) (yearLength y)) start (monthLength y m));
             upto = upto-skip p n (start + 1) (min (span .first) (end + 1)) h (c .upto)
-                (omega (arith, span-low f (yearDays f (daysBefore y) (yearLength y)) start (monthLength y m), end-is)) (λ k l g e. after k l e);
+                (omega (arith, span-low f (yearDays f (daysBefore y) (yearLength y)) start (monthLength y m), end-is))
+                (λ k l g e. after k l e);
           }
         where
           after : (k : ℕ) → start + 1 ≤ k → p k ≡ true → min (span .first) (end + 1) ≤ k
@@ -252,13 +261,22 @@ module _ (f : Facts) (horizon : ℕ) where
         in-month = omega (arith, last-high)
 
         pub one-of : k ≤ n
-        one-of = omega (arith, days-before-is (horizon + 1) horizon (omega arith), in-month, start-most y (m + 1) q (omega arith), before-mono (y + 1) (horizon + 1) (omega arith))
+        one-of =
+            omega (
+              arith,
+              days-before-is (horizon + 1) horizon (omega arith),
+              in-month,
+              start-most y (m + 1) q (omega arith),
+              before-mono (y + 1) (horizon + 1) (omega arith),
+            )
 
         at-number : Upto p n k h
         at-number = let e : min k (end + 1) ≡ k = omega (arith, in-month) in rw e at (c .upto)
 
         onward : (h : Found) → Upto p n (k + 1) h → AtDay y m (k + 1) h
-        onward h u = let e : k + 1 ≡ min (k + 1) (end + 1) = omega (arith, in-month) in record { low = omega (arith, c .low); upto = rw e at u }
+        onward h u =
+            let e : k + 1 ≡ min (k + 1) (end + 1) = omega (arith, in-month) in
+            record { low = omega (arith, c .low); upto = rw e at u }
 
         pub next-day-hit : p k ≡ true → AtDay y m (k + 1) (hit k h)
         next-day-hit e = onward (hit k h) (upto-hit p n k h at-number one-of e)
