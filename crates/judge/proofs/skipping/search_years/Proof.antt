@@ -17,7 +17,8 @@ use Rattle.laws.specs.Lists.{range}
 use Rattle.calendar.proofs.Dates.{Valid, number-within, date-of-number}
 use Rattle.calendar.proofs.Months.{month-most, year-length-most}
 use Rattle.calendar.proofs.Years.{days-is}
-use Rattle.judge.proofs.SkippingMoves.{AtYear, AtMonth, AtDay, before-few, year-low, first-year, no-more-years, first-month, next-year}
+use Rattle.judge.proofs.SkippingMoves.{AtYear, AtMonth, AtDay, before-few, year-low, first-year, no-more-years}
+use Rattle.judge.proofs.SkippingMoves.{first-month, next-year}
 use Rattle.judge.proofs.SkippingMoves.{start-most, can, first-day, next-day-hit, next-day-miss, next-month}
 use Rattle.judge.proofs.SpanLaws.{years-most, years-high, steps, months-low, months-high, span-high}
 use Rattle.judge.proofs.Upto.{upto-two}
