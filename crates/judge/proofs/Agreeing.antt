@@ -49,7 +49,8 @@ near : (a b y z : ℕ) → 0 < y → daysBefore y < a → a ≤ daysBefore (y + 
 near a b y z h l m n o =
     elim (decLe z (y + 1)) [
       | yes e ↦ e
-      | no e ↦ absurd (omega (arith, before-mono (y + 1 + 1) z (omega (arith, e)), days-before-next (y + 1) (omega arith), year-least (y + 1)))
+      | no e ↦ absurd
+          (omega (arith, before-mono (y + 1 + 1) z (omega (arith, e)), days-before-next (y + 1) (omega arith), year-least (y + 1)))
     ]
 
 module _ (f : Facts) (k : ℕ) (low : 0 < k) (high : k ≤ days) (e : dayAgrees f k ≡ true) where
@@ -100,7 +101,9 @@ module _ (f : Facts) (k : ℕ) (low : 0 < k) (high : k ≤ days) (e : dayAgrees 
         monday-week = rw (monday-week-is t (sym n) refl) (at-place 8 (lit< tt));
         iso-year = rw n at (at-place 9 (lit< tt));
         iso-year-in-century = rw n at (at-place 10 (lit< tt));
-        not-before = near (thursday k) k (isoYear k) (t .year) iso-year-low (about .start) (omega (arith, about .end, days-before-next (isoYear k) iso-year-low)) (in-year .0) (apart .1);
+        not-before =
+            near (thursday k) k (isoYear k) (t .year) iso-year-low (about .start)
+            (omega (arith, about .end, days-before-next (isoYear k) iso-year-low)) (in-year .0) (apart .1);
         not-after = near k (thursday k) (t .year) (isoYear k) (placed .valid .year-low) (in-year .0) (in-year .1) (about .start) (apart .0);
       }
 

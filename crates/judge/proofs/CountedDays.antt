@@ -9,21 +9,15 @@ use Rattle.calendar.specs.declared.Date.{Date}
 use Rattle.calendar.proofs.Dates.{Valid, date-of-number}
 use Rattle.calendar.proofs.Months.{year-months}
 use Rattle.calendar.proofs.Sum.{sum-add, sum-periods}
-use Rattle.calendar.proofs.Years.{days-is}
-use Rattle.judge.specs.Agreement.{said, agrees, allAgree, dayAgrees}
+use Rattle.judge.specs.Agreement.{said, agrees, allAgree}
 use Rattle.judge.specs.Engines.{monthKinds, monthAgrees, monthDays}
 use Rattle.judge.specs.Private.{sumWhere, saidDays, yearAgrees}
 use Rattle.judge.specs.Private.{wholeYears, inYear}
-use Rattle.judge.specs.Search.{firstTwo, through}
-use Rattle.judge.specs.Verdicts.{daysFound}
 use Rattle.judge.specs.declared.Facts.{Facts}
-use Rattle.judge.specs.declared.Found.{Found}
-use Rattle.judge.specs.declared.Found.the-variants.{Nothing, One, Two}
 use Rattle.kinds.specs.Kinds as kinds
 use Rattle.laws.specs.Lists.{every, range}
 use Rattle.values.specs.Values.{dateValue, dateValues}
 use Rattle.judge.proofs.Counts.{sum-none, count-all, where-most, said-year}
-use Rattle.judge.proofs.Tells.{Tells, double, tells}
 
 regrouped : (a b c d : Bool) → (a && (b && (c && (d && true)))) ≡ ((a && (b && c)) && d)
 regrouped true true true true = refl
@@ -133,13 +127,3 @@ unfolding every range dateValue dateValues yearAgrees
 year-kinds f t =
     ap (λ (x : Bool). agrees (said f kinds.year) (t .year) && (agrees (said f kinds.century) (t .year / 100) && x))
     (and-true (agrees (said f kinds.yearInCentury) (t .year % 100)))
-
--- the last day that is examined is one of the calendar's
-pub last-within : (f : Facts) → (0 < through days (daysFound f)) × (through days (daysFound f) ≤ days)
-unfolding daysFound through
-last-within f = by (firstTwo (dayAgrees f) 1 days) (tells (dayAgrees f) 1 days)
-  where
-    by : (h : Found) → Tells (dayAgrees f) 1 (1 + days) h → (0 < through days h) × (through days h ≤ days)
-    by Nothing t = (omega (arith, days-is), omega arith)
-    by (One a) t = (omega (arith, days-is), omega arith)
-    by (Two a b) (double l m o q r g) = (omega arith, omega arith)

@@ -34,11 +34,11 @@ sum-ones (suc n) = omega (arith, sum-ones n)
 
 module _ (p : ℕ → Bool) (h : ℕ → ℕ) (n : ℕ) where
   -- no number passes
-  pub where-none : ((i : ℕ) → 0 < i → i ≤ n → p i ≡ false) → sumWhere p h n ≡ 0
+  where-none : ((i : ℕ) → 0 < i → i ≤ n → p i ≡ false) → sumWhere p h n ≡ 0
   where-none e = sum-same _ _ n (λ i l m. rw (e i l m)) ∙ sum-none n
 
   -- the same numbers pass
-  pub where-same : (q : ℕ → Bool) → ((i : ℕ) → 0 < i → i ≤ n → p i ≡ q i) → sumWhere p h n ≡ sumWhere q h n
+  where-same : (q : ℕ → Bool) → ((i : ℕ) → 0 < i → i ≤ n → p i ≡ q i) → sumWhere p h n ≡ sumWhere q h n
   where-same q e = sum-same _ _ n (λ i l m. rw (e i l m))
 
 -- the test is the same for all
@@ -58,7 +58,7 @@ where-most p h m e (suc n) =
 
 -- one number passes
 module _ (h : ℕ → ℕ) (z : h 0 ≡ 0) (a : ℕ) where
-  pub where-one : (n : ℕ) → sumWhere (eqb a) h n ≡ cond (leb a n) (h a) 0
+  where-one : (n : ℕ) → sumWhere (eqb a) h n ≡ cond (leb a n) (h a) 0
   unfolding sum
   where-one zero =
       elim (decLe a 0) [
@@ -79,10 +79,10 @@ module _ (h : ℕ → ℕ) (z : h 0 ≡ 0) (a : ℕ) where
 
 -- the numbers from a to b pass
 module _ (a b : ℕ) where
-  pub within-below : (i : ℕ) → i < a → within a b i ≡ false
+  within-below : (i : ℕ) → i < a → within a b i ≡ false
   within-below i l = rw (lt-leb a i l)
 
-  pub within-above : (i : ℕ) → b < i → within a b i ≡ false
+  within-above : (i : ℕ) → b < i → within a b i ≡ false
   within-above i l = rw (lt-leb i b l) (and-false (leb a i))
 
   pub within-both : (i : ℕ) → a ≤ i → i ≤ b → within a b i ≡ true
@@ -119,7 +119,7 @@ module _ (a b : ℕ) where
 
 -- the terms have one of two values: those of a second test, and the others
 module _ (p q : ℕ → Bool) where
-  pub count-parts : (n : ℕ) → countWhere p n ≡ countWhere (λ i. p i && q i) n + countWhere (λ i. p i && not (q i)) n
+  count-parts : (n : ℕ) → countWhere p n ≡ countWhere (λ i. p i && q i) n + countWhere (λ i. p i && not (q i)) n
   unfolding sum
   count-parts zero = refl
   count-parts (suc n) = omega (arith, count-parts n, parts (p (suc n)) (q (suc n)))
@@ -130,7 +130,7 @@ module _ (p q : ℕ → Bool) where
       parts false c = refl
 
   module _ (a b : ℕ) where
-    pub where-parts : (n : ℕ)
+    where-parts : (n : ℕ)
         → sumWhere p (λ i. cond (q i) a b) n ≡ a * countWhere (λ i. p i && q i) n + b * countWhere (λ i. p i && not (q i)) n
     unfolding sum
     where-parts zero = rw (mul-zero a, mul-zero b)
@@ -262,7 +262,7 @@ said-by-leap s y = by (eqb s 0) (eqb (s - 1) 2) (leap y) (getD monthLengths (s -
     by false b true x = refl
     by false b false x = refl
 
-pub said-most : (s y : ℕ) → saidDays s y ≤ 366
+said-most : (s y : ℕ) → saidDays s y ≤ 366
 unfolding saidDays
 said-most s y = picked (λ (x : ℕ). x ≤ 366) (eqb s 0) (year-length-most y) (omega (arith, month-most y (s - 1)))
 

@@ -31,7 +31,7 @@ use Rattle.judge.proofs.Tells.{Tells, none, single, double, tells, tell
 -- ---- the values of a day
 
 -- the kinds that bear on the day and repeat, and those that do not
-unfoldable pub repeatingKinds : List ℕ
+unfoldable repeatingKinds : List ℕ
 repeatingKinds =
     kinds.yearInCentury
     ∷ kinds.month
@@ -70,7 +70,7 @@ date-values-again y m d p q =
       weekday-again (dayNumber y m d),
     )
 
-pub values-again : (k j : ℕ) → 0 < k → Member j repeatingKinds → dateValue j (dateOf (k + cycle)) ≡ dateValue j (dateOf k)
+values-again : (k j : ℕ) → 0 < k → Member j repeatingKinds → dateValue j (dateOf (k + cycle)) ≡ dateValue j (dateOf k)
 values-again k j h m =
     let t = dateOf k in
     let later = date (t .year + 400) (t .month) (t .day) in
@@ -93,7 +93,7 @@ module _ (f : Facts) (u : named f ≡ false) where
         passes kinds.isoYear (List·Memᴰ·tail (List·Memᴰ·tail (List·Memᴰ·head refl))),
       )
 
-  pub agrees-again : (k : ℕ) → 0 < k → dayAgrees f (k + cycle) ≡ dayAgrees f k
+  agrees-again : (k : ℕ) → 0 < k → dayAgrees f (k + cycle) ≡ dayAgrees f k
   unfolding dayAgrees
   agrees-again k h =
       only-repeating (dateOf (k + cycle))

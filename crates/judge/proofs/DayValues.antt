@@ -1,9 +1,9 @@
 -- The values of a day that the search carries along, by its day number and the days before its year; and a chain of tests of kinds.
 -- Assumes nothing.
 use Prim.Native.Nat.{ℕ, _+_, _-_, _/_, _%_}
-use mathlib.Core.Bool.{Bool, true, false, not, _&&_}
-use mathlib.Core.List.{List, [], _∷_}
-use mathlib.Core.Path.{_≡_, refl, sym, ap, _∙_}
+use mathlib.Core.Bool.{Bool, true, false, not}
+use mathlib.Core.List.{List, _∷_}
+use mathlib.Core.Path.{_≡_, sym, _∙_}
 use native.Mathlib.Omega.{arith}
 use borrow.Author.Tests.{eqb-true, not-true, not-false}
 use lib.Dec.{eqb, lit<, lit≤}
@@ -37,11 +37,7 @@ module _ (t : Date) {number before : ℕ} (e : number ≡ dayNumberOf t) (g : be
   unfolding dateValue dateValues dayNumber mondayWeek
   monday-week-is = omega (arith, e, g, count-is 1 (t .year) (dayOfYear (t .year) (t .month) (t .day)) (lit< tt) (lit≤ tt))
 
-not-not : (b : Bool) → not (not b) ≡ (b && true)
-not-not true = refl
-not-not false = refl
-
--- a test that fails ends the chain, one that passes is taken off, and the last one decides
+-- a test that fails ends the chain, and one that passes is taken off
 module _ (p : ℕ → Bool) (k : ℕ) (ks : List ℕ) {b : Bool} (e : b ≡ not (p k)) where
   pub fails-here : b ≡ true → false ≡ every p (k ∷ ks)
   unfolding every
@@ -50,10 +46,6 @@ module _ (p : ℕ → Bool) (k : ℕ) (ks : List ℕ) {b : Bool} (e : b ≡ not 
   pub passes-here : b ≡ false → every p ks ≡ every p (k ∷ ks)
   unfolding every
   passes-here f = rw (not-false (p k) (sym e ∙ f))
-
-pub last-here : (p : ℕ → Bool) (k : ℕ) {b : Bool} → b ≡ not (p k) → not b ≡ every p (k ∷ [])
-unfolding every
-last-here p k e = ap not e ∙ not-not (p k)
 
 -- where nothing was said of some kinds, any values agree
 pub unsaid-agree : (f : Facts) (ks : List ℕ) (value : ℕ → ℕ) → noneSaid f ks ≡ true → allAgree f ks value ≡ true

@@ -7,8 +7,8 @@ pub mod DayValues
 pub mod Demand
 pub mod Engines
 pub mod Every
-pub mod Moves
 pub mod Position
+pub mod SkippingMoves
 pub mod SoFar
 pub mod SpanLaws
 pub mod Tells

@@ -83,7 +83,7 @@ module _ (p : ℕ → Bool) where
         day-high = l;
       }
 
-  pub next-day : (y m d k : ℕ) (h : Found) → AtDay p y m d k h → d ≤ monthLength y m → AtDay p y m (d + 1) (k + 1) (cond (p k) (hit k h) h)
+  next-day : (y m d k : ℕ) (h : Found) → AtDay p y m d k h → d ≤ monthLength y m → AtDay p y m (d + 1) (k + 1) (cond (p k) (hit k h) h)
   unfolding dayNumber dayOfYear
   next-day y m d k h a l =
       record {

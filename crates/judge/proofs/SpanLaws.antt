@@ -1,19 +1,19 @@
 -- What facts leave of years, months and days holds every day that agrees.
 -- Assumes nothing.
-use Prim.Native.Nat.{ℕ, _+_, _-_, _*_, _/_, _%_, _≤_, _<_, min, max}
-use mathlib.Core.Bool.{Bool, true, false, cond}
-use mathlib.Core.Path.{_≡_, refl, sym, _∙_}
+use Prim.Native.Nat.{ℕ, _+_, _-_, _*_, _/_, _%_, _≤_, _<_}
+use mathlib.Core.Bool.{true}
+use mathlib.Core.Path.{_≡_, refl}
 use native.Mathlib.Decide.{decLe, ℕ-discrete}
 use native.Mathlib.Nat.{div-add-mod', lt-of-not-le}
 use native.Mathlib.Omega.{arith}
 use borrow.Author.Tests.{eq-eqb, ne-eqb, eqb-true, le-leb}
-use lib.Dec.{eqb, leb}
+use lib.Dec.{eqb}
 use Rattle.kinds.specs.Kinds as kinds
 use Rattle.judge.specs.Agreement.{said, agrees}
-use Rattle.judge.specs.Private.{span, narrowed, numberOf, yearSpan, yearStep, firstYear, isoCan, monthSpan, yearDays, monthDaySpan}
+use Rattle.judge.specs.Private.{narrowed, saidYears, yearSpan, yearStep, firstYear, isoCan, monthSpan, yearDays, monthDaySpan}
 use Rattle.judge.specs.declared.Facts.{Facts}
 use Rattle.judge.specs.declared.spans.Span.{Span}
-use Rattle.laws.proofs.Cases.{picked, either}
+use Rattle.laws.proofs.Cases.{picked}
 
 -- a number lies in a span
 pub record In (x : Span) (k : ℕ) : Type 0 where
@@ -21,13 +21,21 @@ pub record In (x : Span) (k : ℕ) : Type 0 where
   pub to : k ≤ x .last
 
 -- what was said is the value that agrees
-pub is-said : (s v : ℕ) → agrees s v ≡ true → (s ≡ 0 → ⊥) → s - 1 ≡ v
+is-said : (s v : ℕ) → agrees s v ≡ true → (s ≡ 0 → ⊥) → s - 1 ≡ v
 unfolding agrees
 is-said s v e n = eqb-true (s - 1) v (rw (ne-eqb s 0 n) at e)
 
+says : (s v : ℕ) → ((s ≡ 0 → ⊥) → s - 1 ≡ v) → agrees s v ≡ true
+unfolding agrees
+says s v h =
+    elim (ℕ-discrete s 0) [
+      | yes e ↦ rw (eq-eqb s 0 e)
+      | no n ↦ rw (ne-eqb s 0 n) (eq-eqb (s - 1) v (h n))
+    ]
+
 -- ---- one fact
 module _ (x : Span) (s a b : ℕ) where
-  pub narrowed-in : (k : ℕ) → In x k → ((s ≡ 0 → ⊥) → (a ≤ k) × (k ≤ b)) → In (narrowed x s a b) k
+  narrowed-in : (k : ℕ) → In x k → ((s ≡ 0 → ⊥) → (a ≤ k) × (k ≤ b)) → In (narrowed x s a b) k
   unfolding narrowed
   narrowed-in k i h = go (ℕ-discrete s 0)
     where
@@ -35,16 +43,27 @@ module _ (x : Span) (s a b : ℕ) where
       go (yes e) = rw (eq-eqb s 0 e) i
       go (no n) = rw (ne-eqb s 0 n) (record { from = omega (arith, i .from, h n); to = omega (arith, i .to, h n) })
 
+  narrowed-of : (k : ℕ) → In (narrowed x s a b) k → In x k × ((s ≡ 0 → ⊥) → (a ≤ k) × (k ≤ b))
+  unfolding narrowed
+  narrowed-of k =
+      elim (ℕ-discrete s 0) [
+        | yes e ↦ rw (eq-eqb s 0 e) (λ i. (i, λ n. absurd (n e)))
+        | no n ↦
+            rw (ne-eqb s 0 n)
+            (λ i.
+            (record { from = omega (arith, i .from); to = omega (arith, i .to) }, λ _. (omega (arith, i .from), omega (arith, i .to))))
+      ]
+
   -- it begins no earlier, and ends no later
-  pub narrowed-from : (n : ℕ) → n ≤ x .first → n ≤ narrowed x s a b .first
+  narrowed-from : (n : ℕ) → n ≤ x .first → n ≤ narrowed x s a b .first
   unfolding narrowed
   narrowed-from n h = picked (λ (y : Span). n ≤ y .first) (eqb s 0) h (omega arith)
 
-  pub narrowed-to : (n : ℕ) → x .last ≤ n → narrowed x s a b .last ≤ n
+  narrowed-to : (n : ℕ) → x .last ≤ n → narrowed x s a b .last ≤ n
   unfolding narrowed
   narrowed-to n h = picked (λ (y : Span). y .last ≤ n) (eqb s 0) h (omega arith)
 
-  pub narrowed-most : (n : ℕ) → x .first ≤ n → a ≤ n → narrowed x s a b .first ≤ n
+  narrowed-most : (n : ℕ) → x .first ≤ n → a ≤ n → narrowed x s a b .first ≤ n
   unfolding narrowed
   narrowed-most n h l = picked (λ (y : Span). y .first ≤ n) (eqb s 0) h (omega arith)
 
@@ -72,18 +91,39 @@ ends-in b q a r s t h =
 module _ (f : Facts) where
   -- ---- years
   module _ (horizon : ℕ) where
+    pub said-years-low : 1 ≤ saidYears f horizon .first
+    unfolding saidYears
+    said-years-low = narrowed-from _ _ _ _ 1 (narrowed-from _ _ _ _ 1 (omega arith))
+
+    -- they are those that agree
+    pub said-years-in : (y : ℕ) → 0 < y → y ≤ horizon → y ≤ 9999
+        → agrees (said f kinds.year) y ≡ true → agrees (said f kinds.century) (y / 100) ≡ true → In (saidYears f horizon) y
+    unfolding saidYears
+    said-years-in y p h m a b =
+        narrowed-in _ _ _ _ y
+        (narrowed-in _ _ _ _ y (record { from = p; to = h }) (λ n. let q = is-said _ _ a n in (omega arith, omega arith)))
+        (λ n. let q = is-said _ _ b n in (omega arith, omega arith))
+
+    pub said-years-of : (y : ℕ) → y ≤ 9999 → In (saidYears f horizon) y
+        → (agrees (said f kinds.year) y ≡ true) × (agrees (said f kinds.century) (y / 100) ≡ true)
+    unfolding saidYears
+    said-years-of y m i =
+        let c = narrowed-of _ _ _ _ y i in
+        let b = narrowed-of _ _ _ _ y (c .0) in
+        (says _ _ (λ n. omega (arith, b .1 n)), says _ _ (λ n. omega (arith, c .1 n)))
+
     pub years-low : 1 ≤ yearSpan f horizon .first
     unfolding yearSpan
-    years-low = narrowed-from _ _ _ _ 1 (narrowed-from _ _ _ _ 1 (narrowed-from _ _ _ _ 1 (omega arith)))
+    years-low = narrowed-from _ _ _ _ 1 said-years-low
 
     pub years-most : yearSpan f horizon .first ≤ 20000
-    unfolding yearSpan
+    unfolding yearSpan saidYears
     years-most =
         narrowed-most _ _ _ _ 20000
         (narrowed-most _ _ _ _ 20000 (narrowed-most _ _ _ _ 20000 (omega arith) (omega arith)) (omega arith)) (omega arith)
 
     pub years-high : yearSpan f horizon .last ≤ horizon
-    unfolding yearSpan
+    unfolding yearSpan saidYears
     years-high = narrowed-to _ _ _ _ horizon (narrowed-to _ _ _ _ horizon (narrowed-to _ _ _ _ horizon (omega arith)))
 
     pub years-in : (y g : ℕ) → 0 < y → y ≤ horizon → y ≤ 9999
@@ -91,11 +131,7 @@ module _ (f : Facts) where
         → agrees (said f kinds.isoYear) g ≡ true → y ≤ g + 1 → g ≤ y + 1 → In (yearSpan f horizon) y
     unfolding yearSpan
     years-in y g p h m a b c d e =
-        narrowed-in _ _ _ _ y
-        (narrowed-in _ _ _ _ y
-        (narrowed-in _ _ _ _ y (record { from = p; to = h }) (λ n. let q = is-said _ _ a n in (omega arith, omega arith)))
-        (λ n. let q = is-said _ _ b n in (omega arith, omega arith)))
-        (λ n. let q = is-said _ _ c n in (omega arith, omega arith))
+        narrowed-in _ _ _ _ y (said-years-in y p h m a b) (λ n. let q = is-said _ _ c n in (omega arith, omega arith))
 
   -- ---- steps from year to year
   by-step : (P : ℕ → ℕ → Type 0) (first : ℕ)
@@ -159,7 +195,9 @@ module _ (f : Facts) where
     can g a d e =
         elim (ℕ-discrete (said f kinds.isoYearInCentury) 0) [
           | yes z ↦ rw (eq-eqb (said f kinds.isoYearInCentury) 0 z)
-          | no n ↦ (let q = is-said _ _ a n in rw (ne-eqb (said f kinds.isoYearInCentury) 0 n) (le-leb ((y + 101 - (said f kinds.isoYearInCentury - 1) % 100) % 100) 2 (omega arith)))
+          | no n ↦ (let q = is-said _ _ a n in
+              rw (ne-eqb (said f kinds.isoYearInCentury) 0 n)
+              (le-leb ((y + 101 - (said f kinds.isoYearInCentury - 1) % 100) % 100) 2 (omega arith)))
         ]
 
     pub months-in : (m g : ℕ) → 0 < m → m ≤ 12 → agrees (said f kinds.month) m ≡ true
@@ -171,14 +209,6 @@ module _ (f : Facts) where
 
   -- ---- days of a year
   module _ (before length : ℕ) where
-    pub days-low : before + 1 ≤ yearDays f before length .first
-    unfolding yearDays
-    days-low = narrowed-from _ _ _ _ _ (narrowed-from _ _ _ _ _ (narrowed-from _ _ _ _ _ (omega arith)))
-
-    pub days-high : yearDays f before length .last ≤ before + length
-    unfolding yearDays
-    days-high = narrowed-to _ _ _ _ _ (narrowed-to _ _ _ _ _ (narrowed-to _ _ _ _ _ (omega arith)))
-
     pub days-in : (k : ℕ) → length ≤ 366 → before < k → k ≤ before + length
         → agrees (said f kinds.dayOfYear) (k - before) ≡ true
         → agrees (said f kinds.sundayWeek) (k / 7 - before / 7) ≡ true

@@ -55,7 +55,7 @@ module _ (p : ℕ → Bool) (last : ℕ) where
   goes-on (suc n) k h e s =
       rw (search-suc p (suc n) k h) (looked (suc n) k (p k) h (λ h e. omega (arith, goes-on n (suc k) h e (omega arith))) e)
 
-  pub so-far-through : (k : ℕ) (h : Found) → SoFar p 1 last k h → isTwo h ≡ false → k ≤ last → k ≤ through last (firstTwo p 1 last)
+  so-far-through : (k : ℕ) (h : Found) → SoFar p 1 last k h → isTwo h ≡ false → k ≤ last → k ≤ through last (firstTwo p 1 last)
   so-far-through k h s e l =
       let n : 1 + last - k ≡ suc (last - k) = omega arith in
       rw (← (rw n at (s .same))) (goes-on (last - k) k h e (omega arith))
@@ -79,7 +79,8 @@ module _ (f : Facts) (budget : ℕ) where
       → Over ≡ scanned budget f
   unfolding scanned plainCount lastExamined daysFound
   over-budget h s e l =
-      rw (lt-leb (through days (firstTwo (dayAgrees f) 1 days)) budget (omega (arith, so-far-through (dayAgrees f) days (budget + 1) h s e (omega arith))))
+      let n = so-far-through (dayAgrees f) days (budget + 1) h s e (omega arith) in
+      rw (lt-leb (through days (firstTwo (dayAgrees f) 1 days)) budget (omega (arith, n)))
 
   pub within-budget : (h : Found) (examined : ℕ) → h ≡ firstTwo (dayAgrees f) 1 days → examined ≡ through days h → examined ≤ budget
       → Ended h examined ≡ scanned budget f

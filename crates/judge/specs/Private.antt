@@ -1,10 +1,10 @@
--- What the engines work with: the kinds in the parts that a day's test takes them in, what facts leave of years, months and days, and what
--- repeats.
+-- What the engines work with: what each gives where a fact bears on the day, what facts leave of years, months and days, what repeats,
+-- and the count.
 use Prim.Native.Nat.{ℕ, _+_, _-_, _*_, _/_, _%_, min, max}
 use mathlib.Core.Bool.{Bool, true, cond, not, _&&_}
 use mathlib.Core.List.{List, [], _∷_}
 use lib.Dec.{eqb, leb}
-use Rattle.calendar.specs.Calendar.{sum, leap, yearLength, monthLength, lastYear}
+use Rattle.calendar.specs.Calendar.{sum, leap, yearLength, monthLength}
 use Rattle.judge.specs.Agreement.{said, noneSaid, agrees}
 use Rattle.judge.specs.Engines.{plainCount, skippingCount}
 use Rattle.judge.specs.Verdicts.{verdictOf, daysFound}
@@ -51,14 +51,18 @@ narrowed x s a b = cond (eqb s 0) x (span (max (x .first) a) (min (x .last) b))
 abbrev pub numberOf : ℕ → ℕ → ℕ
 numberOf s most = min (s - 1) most
 
--- the years up to a horizon, by what was said of the year, the century and the ISO year
-unfoldable pub yearSpan : Facts → ℕ → Span
-yearSpan f horizon =
+-- the years up to a horizon that agree with what was said of the year and of the century
+unfoldable pub saidYears : Facts → ℕ → Span
+saidYears f horizon =
     let y = numberOf (said f kinds.year) 10000 in
     let c = numberOf (said f kinds.century) 100 * 100 in
+    narrowed (narrowed (span 1 horizon) (said f kinds.year) y y) (said f kinds.century) c (c + 99)
+
+-- those of them that can agree with what was said of the ISO year
+unfoldable pub yearSpan : Facts → ℕ → Span
+yearSpan f horizon =
     let g = numberOf (said f kinds.isoYear) 20000 in
-    narrowed (narrowed (narrowed (span 1 horizon) (said f kinds.year) y y) (said f kinds.century) c (c + 99))
-    (said f kinds.isoYear) (max g 1 - 1) (g + 1)
+    narrowed (saidYears f horizon) (said f kinds.isoYear) (max g 1 - 1) (g + 1)
 
 -- from a year to the next with the same year in the century, where one was said
 unfoldable pub yearStep : Facts → ℕ
@@ -80,7 +84,7 @@ monthSpan f y =
     let m = numberOf (said f kinds.month) 13 in
     cond (isoCan f y) (narrowed (span 1 12) (said f kinds.month) m m) (span 1 0)
 
--- the days of a year by their day numbers, of which `before` stand before the year, by what was said of the day of the year and of %U and %W
+-- the days of a year by their day numbers, of which `before` stand before the year, by what was said of its day, of %U and of %W
 unfoldable pub yearDays : Facts → ℕ → ℕ → Span
 yearDays f before length =
     let j = before + numberOf (said f kinds.dayOfYear) 400 in
@@ -144,13 +148,6 @@ leapEndingYears s n = countWhere (λ y. agrees s (y % 100) && leap y) n
 -- their days in the month that was said
 unfoldable pub endingDays : Facts → ℕ → ℕ
 endingDays f n = sumWhere (λ y. agrees (said f kinds.yearInCentury) (y % 100)) (saidDays (said f kinds.month)) n
-
--- the years that agree with what was said of the year and of the century
-unfoldable pub countedSpan : Facts → Span
-countedSpan f =
-    let y = numberOf (said f kinds.year) 10000 in
-    let c = numberOf (said f kinds.century) 100 * 100 in
-    narrowed (narrowed (span 1 lastYear) (said f kinds.year) y y) (said f kinds.century) c (c + 99)
 
 -- a year agrees with all that was said of kinds 1 to 3
 unfoldable pub yearAgrees : Facts → ℕ → Bool

@@ -2,11 +2,9 @@
 use crate::Facts;
 use crate::Found;
 use crate::agreement::date_kinds_agree;
-use crate::spans::Span;
 use crate::spans::earlier;
-use crate::spans::narrowed;
-use crate::spans::number_of;
 use crate::spans::said_of;
+use crate::spans::said_years;
 use calendar::Date;
 use calendar::FromNumber;
 use calendar::month_length;
@@ -15,7 +13,7 @@ ghost use mathlib.Core.Path.{_≡_};
 ghost use Prim.Native.Nat.{_≤_, _<_};
 ghost use Rattle.calendar.specs.Calendar.{lastYear, dateFault, dayNumber, days};
 ghost use Rattle.judge.specs.Engines.{monthDays};
-ghost use Rattle.judge.specs.Private.{saidDays, endingYears, leapEndingYears, endingDays, countedSpan, wholeYears, inYear};
+ghost use Rattle.judge.specs.Private.{saidDays, endingYears, leapEndingYears, endingDays, wholeYears, inYear};
 ghost use Rattle.judge.specs.Search.{through};
 
 // ---- The years
@@ -75,28 +73,12 @@ fn ending_days(facts: Facts, last: u32) -> u32
     said_days(month, 4) * leap + said_days(month, 1) * common
 }
 
-// The years that agree with what was said of the year and of the century.
-fn counted_span(facts: Facts) -> Span
-    ensures { λ r. ⌜ r ≡ countedSpan facts ⌝ }
-{
-    let all = Span {
-        first: Date::FIRST.year as u32,
-        last: Date::LAST.year as u32,
-    };
-    let year = said_of(facts, kinds::YEAR);
-    let number = number_of(year, 10000);
-    let span = narrowed(all, year, number, number);
-    let century = said_of(facts, kinds::CENTURY);
-    let hundreds = number_of(century, 100) * 100;
-    narrowed(span, century, hundreds, hundreds + 99)
-}
-
 // The days of the years 1 to `last` in months that agree.
 fn whole_years(facts: Facts, last: u32) -> u32
     requires { ⌜ last ≤ lastYear ⌝ }
     ensures { λ r. ⌜ r ≡ wholeYears facts last ⌝ }
 {
-    let span = counted_span(facts);
+    let span = said_years(facts, Date::LAST.year as u32);
     let end = earlier(last, span.last);
     if end < span.first {
         return 0;

@@ -1,14 +1,12 @@
 // Where a day can agree: what facts leave of the years, of a year's months, of its days, and of a month's days.
 use crate::Facts;
 use crate::search::date_at;
-use calendar::Date;
-use calendar::month_length;
 ghost use mathlib.Core.Path.{_≡_};
 ghost use Prim.Native.Nat.{_+_, _-_, _≤_, _<_, min, max};
-ghost use Rattle.calendar.specs.Calendar.{daysBefore};
 ghost use Rattle.kinds.specs.Kinds.{kinds};
 ghost use Rattle.judge.specs.Agreement.{said};
-ghost use Rattle.judge.specs.Private.{narrowed, yearSpan, yearStep, firstYear, isoCan, monthSpan, yearDays, monthStart, monthDaySpan};
+ghost use Rattle.judge.specs.Private.{narrowed, saidYears, yearSpan, yearStep, firstYear, isoCan, monthSpan};
+ghost use Rattle.judge.specs.Private.{yearDays, monthStart, monthDaySpan};
 
 // The numbers from `first` to `last`; none where `last` is smaller.
 pub struct Span {
@@ -68,10 +66,9 @@ pub(crate) fn number_of(said: u32, most: u32) -> u32
 
 // ---- The years
 
-// The years up to `horizon` that can agree with what was said of the year, the century and the ISO year, which is the year's own or the
-// one before or after it.
-pub(crate) fn year_span(facts: Facts, horizon: u32) -> Span
-    ensures { λ r. ⌜ r ≡ yearSpan facts horizon ⌝ }
+// The years up to `horizon` that agree with what was said of the year and of the century.
+pub(crate) fn said_years(facts: Facts, horizon: u32) -> Span
+    ensures { λ r. ⌜ r ≡ saidYears facts horizon ⌝ }
 {
     let all = Span {
         first: 1,
@@ -82,7 +79,14 @@ pub(crate) fn year_span(facts: Facts, horizon: u32) -> Span
     let span = narrowed(all, year, number, number);
     let century = said_of(facts, kinds::CENTURY);
     let hundreds = number_of(century, 100) * 100;
-    let span = narrowed(span, century, hundreds, hundreds + 99);
+    narrowed(span, century, hundreds, hundreds + 99)
+}
+
+// Those of them that can agree with what was said of the ISO year, which is the year's own or the one before or after it.
+pub(crate) fn year_span(facts: Facts, horizon: u32) -> Span
+    ensures { λ r. ⌜ r ≡ yearSpan facts horizon ⌝ }
+{
+    let span = said_years(facts, horizon);
     let iso = said_of(facts, kinds::ISO_YEAR);
     let number = number_of(iso, 20000);
     narrowed(span, iso, later(number, 1) - 1, number + 1)

@@ -3,20 +3,22 @@ use Prim.Native.Nat.{_+_, _-_, min}
 use mathlib.Core.Path.{_≡_, sym, ap}
 use native.Mathlib.Omega.{arith}
 use borrow.Author.Needs.{needs}
-use Rattle.judge.specs.Private.{endingDays, countedSpan, wholeYears}
+use Rattle.calendar.specs.Calendar.{lastYear}
+use Rattle.judge.specs.Private.{endingDays, saidYears, wholeYears}
 use Rattle.judge.specs.declared.spans.Span.{Span}
-use Rattle.judge.proofs.CountedYears.{span-first, whole-none, whole-some}
+use Rattle.judge.proofs.CountedYears.{whole-none, whole-some}
+use Rattle.judge.proofs.SpanLaws.{said-years-low}
 use Rattle.judge.proofs.counting.whole_years.Statement.{statement}
 use Rattle.judge.proofs.counting.whole_years.Tie as tie
 
-first-is : (c : tie.After-counted-span) → c .counted-span .result .first ≡ countedSpan (c .before .args .facts) .first
-first-is c = ap (λ (x : Span). x .first) (c .counted-span .ensures)
+first-is : (c : tie.After-said-years) → c .said-years .result .first ≡ saidYears (c .before .before .args .facts) lastYear .first
+first-is c = ap (λ (x : Span). x .first) (c .said-years .ensures)
 
-last-is : (c : tie.After-counted-span) → c .counted-span .result .last ≡ countedSpan (c .before .args .facts) .last
-last-is c = ap (λ (x : Span). x .last) (c .counted-span .ensures)
+last-is : (c : tie.After-said-years) → c .said-years .result .last ≡ saidYears (c .before .before .args .facts) lastYear .last
+last-is c = ap (λ (x : Span). x .last) (c .said-years .ensures)
 
 abbrev entry : tie.After-ending-days2 → tie.Start
-entry c = c .before .before .before .before .before .before .before
+entry c = c .before .before .before .before .before .before .before .before
 
 -- what is taken away is the days before the span
 left-over : (c : tie.After-ending-days2)
@@ -24,8 +26,8 @@ left-over : (c : tie.After-ending-days2)
 left-over c =
     let a = entry c .args in
     let k = c .before .before .before .before .before .before in
-    let span = countedSpan (a .facts) in
-    let start : k .counted-span .result .first - 1 ≡ span .first - 1 = omega (arith, first-is k) in
+    let span = saidYears (a .facts) lastYear in
+    let start : k .said-years .result .first - 1 ≡ span .first - 1 = omega (arith, first-is k) in
     let end : c .before .before .before .before .before .earlier .result ≡ min (a .last) (span .last)
     = omega (arith, c .before .before .before .before .before .earlier .ensures, last-is k) in
     omega (
@@ -37,17 +39,21 @@ left-over c =
       whole-some (a .facts) (a .last) (entry c .pre) (omega (arith, c .before .before .before .if1 .left, first-is k)),
     )
 
-counted-span-requires : tie.Need-counted-span-requires
-counted-span-requires c κs = search needs
+cast-said-years : tie.Need-cast-said-years
+cast-said-years c = search needs
+
+said-years-requires : tie.Need-said-years-requires
+said-years-requires c κs = search needs
 
 earlier-requires : tie.Need-earlier-requires
 earlier-requires c κs = search needs
 
 returns : tie.Need-returns
 returns c =
-    let a = c .before .before .before .before .args in
+    let a = c .before .before .before .before .before .args in
     let k = c .before .before .before in
-    sym (whole-none (a .facts) (a .last) (k .before .pre) (omega (arith, c .before .before .earlier .ensures, first-is k, last-is k)))
+    let e = c .before .before .earlier .ensures in
+    sym (whole-none (a .facts) (a .last) (k .before .before .pre) (omega (arith, e, first-is k, last-is k)))
 
 ending-days-requires : tie.Need-ending-days-requires
 ending-days-requires c κs = search needs
@@ -55,7 +61,7 @@ ending-days-requires c κs = search needs
 sub-ending-days : tie.Need-sub-ending-days
 sub-ending-days c =
     let k = c .before .before .before .before .before in
-    omega (arith, first-is k, span-first (k .before .args .facts))
+    omega (arith, first-is k, said-years-low (k .before .before .args .facts) lastYear)
 
 ending-days-requires-2 : tie.Need-ending-days-requires-2
 ending-days-requires-2 c κs = search needs
@@ -70,7 +76,8 @@ pub whole-years-spec : {M : Type 1} → statement M
 whole-years-spec =
     tie.close
     (tie.spec
-    counted-span-requires
+    cast-said-years
+    said-years-requires
     earlier-requires
     returns
     ending-days-requires

@@ -1,5 +1,5 @@
 -- `judge::judging::judge_day` meets its contract. Assumes nothing.
-use mathlib.Core.Bool.{true, false}
+use mathlib.Core.Bool.{true}
 use mathlib.Core.Path.{_≡_, sym, ap, _∙_}
 use borrow.Author.Needs.{needs}
 use Rattle.judge.specs.Agreement.{dayBorne}

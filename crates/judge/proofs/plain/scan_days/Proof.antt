@@ -5,7 +5,7 @@ use mathlib.Core.Logic.{⊎-elim}
 use mathlib.Core.Path.{_≡_, refl, sym, ap, _∙_}
 use native.Mathlib.Omega.{arith}
 use borrow.Author.Needs.{needs}
-use Rattle.calendar.specs.Calendar.{monthLength, days, date, dateOf}
+use Rattle.calendar.specs.Calendar.{monthLength, days, dateOf}
 use Rattle.judge.specs.Agreement.{dateAgrees, dayAgrees}
 use Rattle.judge.specs.Private.{isoKinds}
 use Rattle.judge.specs.Search.{isTwo, through}
@@ -156,8 +156,10 @@ day-agrees-requires :
 unfolding isoKinds range
 day-agrees-requires c κs =
     let d = c .before .before in
-    rw (c .date-at .ensures)
-    ((at-day d .at, omega (arith, entered d .years .inv .0 .at)), (omega (arith, one-of d, days-is), entered d .before .before .any-said .ensures))
+    rw (c .date-at .ensures) (
+      (at-day d .at, omega (arith, entered d .years .inv .0 .at)),
+      (omega (arith, one-of d, days-is), entered d .before .before .any-said .ensures),
+    )
 
 hit-requires : tie.Need-hit-requires Inv-loop2 μ-loop2 Inv-loop μ-loop Inv-years μ-years
 hit-requires c κs = search needs
@@ -176,13 +178,17 @@ loop2-again c =
     let d = within (c .before) in
     let i = d .before .loop2 .inv in
     let e = tested (c .before) in
-    let l : d .before .loop2 .examined + 1 ≤ entered d .before .before .before .args .budget = omega (arith, i .1 .few, c .before .before .before .if3 .left) in
+    let l : d .before .loop2 .examined + 1 ≤ entered d .before .before .before .args .budget
+    = omega (arith, i .1 .few, c .before .before .before .if3 .left) in
     ⊎-elim
     (λ w. (
       rw (w .4, w .1 .ensures) (next-day-hit _ _ _ _ _ _ (i .0) (in-month d) (sym e ∙ w .0 .taken)),
       record { few = l; open-yet = rw (w .4) (sym (w .2 .ensures) ∙ w .3 .left) },
     ))
-    (λ w. (rw (w .1) (next-day-miss _ _ _ _ _ _ (i .0) (in-month d) (sym e ∙ w .0 .left)), record { few = l; open-yet = rw (w .1) (i .1 .open-yet) }))
+    (λ w. (
+      rw (w .1) (next-day-miss _ _ _ _ _ _ (i .0) (in-month d) (sym e ∙ w .0 .left)),
+      record { few = l; open-yet = rw (w .1) (i .1 .open-yet) },
+    ))
     (c .if4 .came)
 
 add-month : tie.Need-add-month Inv-loop2 μ-loop2 Inv-loop μ-loop Inv-years μ-years

@@ -1,5 +1,4 @@
 -- `judge::skipping::judge_skipping` meets its contract. Assumes nothing.
-use mathlib.Core.Path.{ap}
 use borrow.Author.Needs.{needs}
 use Rattle.judge.specs.Engines.{lastExamined, skippingCount}
 use Rattle.judge.specs.Private.{skippingJudged}

@@ -1,21 +1,25 @@
 -- `judge::skipping::search_years` meets its contract. Assumes nothing.
 use Prim.Native.Nat.{ℕ, _+_, _-_, _≤_, _<_}
+use mathlib.Core.Bool.{true, false}
 use mathlib.Core.Logic.{⊎-elim}
-use mathlib.Core.Path.{_≡_, refl, sym, ap, ap₂, _∙_}
+use mathlib.Core.Path.{_≡_, sym, ap, ap₂, _∙_}
 use native.Mathlib.Omega.{arith}
 use borrow.Author.Needs.{needs}
 use Rattle.calendar.specs.Calendar.{sum, yearLength, monthLength, daysBefore, dayOfYear, dayNumber, date, dateOf, lastYear}
 use Rattle.calendar.specs.declared.Date.{Date}
 use Rattle.judge.specs.Agreement.{dateAgrees, dayAgrees}
-use Rattle.judge.specs.Private.{isoKinds, yearSpan, monthSpan, yearDays, monthStart, monthDaySpan}
+use Rattle.judge.specs.Private.{isoKinds, yearDays, monthStart, monthDaySpan}
+use Rattle.judge.specs.Search.{hit}
 use Rattle.judge.specs.declared.Facts.{Facts}
+use Rattle.judge.specs.declared.Found.{Found}
 use Rattle.judge.specs.declared.spans.Span.{Span}
 use Rattle.laws.specs.Lists.{range}
 use Rattle.calendar.proofs.Dates.{Valid, number-within, date-of-number}
 use Rattle.calendar.proofs.Months.{month-most, year-length-most}
 use Rattle.calendar.proofs.Years.{days-is}
-use Rattle.judge.proofs.Moves.{AtYear, AtMonth, AtDay, before-few, year-low, first-year, no-more-years, first-month, next-year}
-use Rattle.judge.proofs.Moves.{start-most, can, first-day, next-day-hit, next-day-miss, next-month}
+use Rattle.judge.proofs.SkippingMoves.{AtYear, AtMonth, AtDay, before-few, year-low, first-year, no-more-years}
+use Rattle.judge.proofs.SkippingMoves.{first-month, next-year}
+use Rattle.judge.proofs.SkippingMoves.{start-most, can, first-day, next-day-hit, next-day-miss, next-month}
 use Rattle.judge.proofs.SpanLaws.{years-most, years-high, steps, months-low, months-high, span-high}
 use Rattle.judge.proofs.Upto.{upto-two}
 use Rattle.judge.proofs.skipping.search_years.Statement.{statement}
@@ -61,7 +65,8 @@ In-year = tie.Then1 Inv-loop2 μ-loop2 Inv-loop μ-loop Inv-years μ-years
 abbrev year-at : In-year → ℕ
 year-at c = c .before .before .years .year
 
-abbrev at-year : (c : In-year) → AtYear (facts-at (c .before .before)) (horizon-at (c .before .before)) (year-at c) (c .before .before .years .found)
+abbrev at-year : (c : In-year)
+    → AtYear (facts-at (c .before .before)) (horizon-at (c .before .before)) (year-at c) (c .before .before .years .found)
 at-year c = c .before .before .years .inv
 
 far : (c : Years) → horizon-at c ≤ lastYear
@@ -86,14 +91,16 @@ After-days = tie.After-month-span Inv-loop2 μ-loop2 Inv-loop μ-loop Inv-years 
 abbrev in-year : After-days → In-year
 in-year c = c .before .before .before .before .before
 
-before-number : (c : tie.After-day-number Inv-loop2 μ-loop2 Inv-loop μ-loop Inv-years μ-years) → c .day-number .result ≡ daysBefore (year-at (c .before .before)) + 1
+before-number : (c : tie.After-day-number Inv-loop2 μ-loop2 Inv-loop μ-loop Inv-years μ-years)
+    → c .day-number .result ≡ daysBefore (year-at (c .before .before)) + 1
 unfolding dayNumber dayOfYear sum
 before-number c =
     c .day-number .ensures
     ∙ ap (λ (t : Date). dayNumber (t .year) (t .month) (t .day)) (c .before .date-at .ensures)
     ∙ omega arith
 
-before-is : (c : tie.After-day-number Inv-loop2 μ-loop2 Inv-loop μ-loop Inv-years μ-years) → c .day-number .result - 1 ≡ daysBefore (year-at (c .before .before))
+before-is : (c : tie.After-day-number Inv-loop2 μ-loop2 Inv-loop μ-loop Inv-years μ-years)
+    → c .day-number .result - 1 ≡ daysBefore (year-at (c .before .before))
 before-is c = omega (arith, before-number c)
 
 before-small : (c : tie.After-day-number Inv-loop2 μ-loop2 Inv-loop μ-loop Inv-years μ-years) → c .day-number .result - 1 ≤ 3652059
@@ -128,7 +135,8 @@ some-month c =
 few-months : (c : In-month) → month-at c ≤ 12
 few-months c =
     let y = in-year (of-year c) in
-    omega (arith, c .if2 .taken, ap (λ (x : Span). x .last) (of-year c .month-span .ensures), months-high (facts-at (y .before .before)) (year-at y))
+    let e = ap (λ (x : Span). x .last) (of-year c .month-span .ensures) in
+    omega (arith, c .if2 .taken, e, months-high (facts-at (y .before .before)) (year-at y))
 
 -- where it starts, and which of its days can agree
 abbrev After-span : Type 0
@@ -141,7 +149,8 @@ start-is : (c : tie.After-month-start Inv-loop2 μ-loop2 Inv-loop μ-loop Inv-ye
     c .month-start .result ≡ monthStart (daysBefore (year-at y)) (year-at y) (month-at (c .before))
 start-is c =
     let y = in-year (of-year (c .before)) in
-    c .month-start .ensures ∙ ap (λ (b : ℕ). monthStart b (year-at y) (month-at (c .before))) (before-is (of-year (c .before) .before .before .before))
+    c .month-start .ensures
+    ∙ ap (λ (b : ℕ). monthStart b (year-at y) (month-at (c .before))) (before-is (of-year (c .before) .before .before .before))
 
 start-small : (c : tie.After-month-start Inv-loop2 μ-loop2 Inv-loop μ-loop Inv-years μ-years) → c .month-start .result ≤ 3652059
 start-small c =
@@ -162,7 +171,8 @@ span-is : (c : After-span) → let y = in-year (of-year (in-month c)) in
 span-is c =
     let y = in-year (of-year (in-month c)) in
     c .month-days .ensures
-    ∙ span-alike (facts-at (y .before .before)) (days-is-here (of-year (in-month c))) (start-is (c .before .before)) (c .before .month-length .ensures)
+    ∙ span-alike (facts-at (y .before .before)) (days-is-here (of-year (in-month c))) (start-is (c .before .before))
+    (c .before .month-length .ensures)
 
 -- ---- at a day that can agree
 abbrev In-days : Type 0
@@ -196,7 +206,10 @@ module _ (c : In-days) where
   abbrev start : ℕ
   start = monthStart (daysBefore y) y m
 
-  at-day : AtDay f horizon y m number (c .before .before .loop2 .found)
+  abbrev found : Found
+  found = c .before .before .loop2 .found
+
+  at-day : AtDay f horizon y m number found
   at-day = c .before .before .loop2 .inv
 
   not-past : number ≤ can f y m .last
@@ -220,6 +233,20 @@ module _ (c : In-days) where
   unfolding dayNumber dayOfYear
   number-is = omega (arith, at-day .low)
 
+  -- and on to the next
+  far-here : horizon ≤ lastYear
+  far-here = far (here-year .before .before)
+
+  on-hit : dayAgrees f number ≡ true → AtDay f horizon y m (number + 1) (hit number found)
+  on-hit =
+      next-day-hit f horizon far-here y m (some-year here-year) (far-year here-year) (some-month here-month) (few-months here-month)
+      number found at-day not-past (few-years here-year)
+
+  on-miss : dayAgrees f number ≡ false → AtDay f horizon y m (number + 1) found
+  on-miss =
+      next-day-miss f horizon far-here y m (some-year here-year) (far-year here-year) (some-month here-month) (few-months here-month)
+      number found at-day not-past (few-years here-year)
+
   a-day : number ≤ 3652059
   a-day = omega (arith, number-is, number-within y m (number - start) valid, days-is)
 
@@ -232,7 +259,9 @@ within c = c .before .before
 
 dated : (c : tie.After-date-at2 Inv-loop2 μ-loop2 Inv-loop μ-loop Inv-years μ-years)
     → c .date-at2 .result ≡ date (y (c .before)) (m (c .before)) (number (c .before) - start (c .before))
-dated c = c .date-at2 .ensures ∙ ap (λ (a : ℕ). date (y (c .before)) (m (c .before)) (number (c .before) - a)) (start-is (of-span (c .before) .before .before))
+dated c =
+    c .date-at2 .ensures
+    ∙ ap (λ (a : ℕ). date (y (c .before)) (m (c .before)) (number (c .before) - a)) (start-is (of-span (c .before) .before .before))
 
 tested : (c : Tested) → c .day-agrees .result ≡ dayAgrees (f (within c)) (number (within c))
 unfolding dayAgrees
@@ -275,7 +304,8 @@ year-length-requires c κs = search needs
 
 year-days-requires :
     tie.Need-year-days-requires Inv-loop2 μ-loop2 Inv-loop μ-loop Inv-years μ-years
-year-days-requires c κs = (before-small (c .before), omega (arith, c .year-length .ensures, year-length-most (year-at (c .before .before .before))))
+year-days-requires c κs =
+    (before-small (c .before), omega (arith, c .year-length .ensures, year-length-most (year-at (c .before .before .before))))
 
 month-span-requires :
     tie.Need-month-span-requires Inv-loop2 μ-loop2 Inv-loop μ-loop Inv-years μ-years
@@ -296,7 +326,9 @@ month-length-requires c κs = search needs
 
 month-days-requires :
     tie.Need-month-days-requires Inv-loop2 μ-loop2 Inv-loop μ-loop Inv-years μ-years
-month-days-requires c κs = (start-small (c .before), omega (arith, c .month-length .ensures, month-most (year-at (in-year (of-year (c .before .before)))) (month-at (c .before .before))))
+month-days-requires c κs =
+    let i = c .before .before in
+    (start-small (c .before), omega (arith, c .month-length .ensures, month-most (year-at (in-year (of-year i))) (month-at i)))
 
 loop2-holds : tie.Need-loop2-holds Inv-loop2 μ-loop2 Inv-loop μ-loop Inv-years μ-years
 loop2-holds c =
@@ -324,8 +356,10 @@ day-agrees-requires :
 unfolding isoKinds range
 day-agrees-requires c κs =
     let d = c .before in
-    rw (dated c)
-    ((sym (number-is d), before-is (of-year (here-month d) .before .before .before)), (omega (arith, a-day d), here-year d .before .before .before .before .before .before .any-said .ensures))
+    rw (dated c) (
+      (sym (number-is d), before-is (of-year (here-month d) .before .before .before)),
+      (omega (arith, a-day d), here-year d .before .before .before .before .before .before .any-said .ensures),
+    )
 
 hit-requires : tie.Need-hit-requires Inv-loop2 μ-loop2 Inv-loop μ-loop Inv-years μ-years
 hit-requires c κs = search needs
@@ -343,15 +377,9 @@ loop2-again : tie.Need-loop2-again Inv-loop2 μ-loop2 Inv-loop μ-loop Inv-years
 loop2-again c =
     let d = within (c .before) in
     let e = tested (c .before) in
-    let g = far (here-year d .before .before) in
-    let few = few-years (here-year d) in
     ⊎-elim
-    (λ w.
-    rw (w .4, w .1 .ensures)
-    (next-day-hit _ _ g _ _ (some-year (here-year d)) (far-year (here-year d)) (some-month (here-month d)) (few-months (here-month d)) _ _ (at-day d) (not-past d) few (sym e ∙ w .0 .taken)))
-    (λ w.
-    rw (w .1)
-    (next-day-miss _ _ g _ _ (some-year (here-year d)) (far-year (here-year d)) (some-month (here-month d)) (few-months (here-month d)) _ _ (at-day d) (not-past d) few (sym e ∙ w .0 .left)))
+    (λ w. rw (w .4, w .1 .ensures) (on-hit d (sym e ∙ w .0 .taken)))
+    (λ w. rw (w .1) (on-miss d (sym e ∙ w .0 .left)))
     (c .if4 .came)
 
 add-month : tie.Need-add-month Inv-loop2 μ-loop2 Inv-loop μ-loop Inv-years μ-years
@@ -365,7 +393,8 @@ loop-again c =
     let k = c .before .before in
     let i = in-month (k .before) in
     let j = in-year (of-year i) in
-    next-month _ _ (far (j .before .before)) _ _ (some-year j) (far-year j) (some-month i) (few-months i) _ _ (at-month i .low) (k .loop2 .inv)
+    next-month _ _ (far (j .before .before)) _ _ (some-year j) (far-year j) (some-month i) (few-months i) _ _ (at-month i .low)
+    (k .loop2 .inv)
     (omega (arith, c .if3 .left, ap (λ (x : Span). x .last) (span-is (k .before))))
 
 add-year : tie.Need-add-year Inv-loop2 μ-loop2 Inv-loop μ-loop Inv-years μ-years
@@ -399,9 +428,7 @@ returns-2 : tie.Need-returns-2 Inv-loop2 μ-loop2 Inv-loop μ-loop Inv-years μ-
 returns-2 c =
     let t = c .before .before .before in
     let d = within (t .before) in
-    let g = far (here-year d .before .before) in
-    let h = next-day-hit _ _ g _ _ (some-year (here-year d)) (far-year (here-year d)) (some-month (here-month d)) (few-months (here-month d)) _ _ (at-day d) (not-past d)
-    (few-years (here-year d)) (sym (tested (t .before)) ∙ t .if4 .taken) in
+    let h = on-hit d (sym (tested (t .before)) ∙ t .if4 .taken) in
     upto-two _ _ _ _ (rw (← c .before .before .hit .ensures) at (h .upto)) (sym (c .before .is-two .ensures) ∙ c .if5 .taken)
 
 pub search-years-spec : {M : Type 1} → statement M

@@ -30,7 +30,14 @@ narrowed-requires c κs = search needs
 
 returns : tie.Need-returns
 unfolding monthDaySpan
-returns c = rw (c .narrowed .ensures, c .before .earlier .ensures, c .before .before .later .ensures, c .before .before .before .number-of .ensures, c .before .before .before .before .said-of .ensures)
+returns c =
+    rw (
+      c .narrowed .ensures,
+      c .before .earlier .ensures,
+      c .before .before .later .ensures,
+      c .before .before .before .number-of .ensures,
+      c .before .before .before .before .said-of .ensures,
+    )
 
 pub month-days-spec : {M : Type 1} → statement M
 month-days-spec =

@@ -24,7 +24,9 @@ narrowed-requires c κs = search needs
 
 returns-2 : tie.Need-returns-2
 unfolding monthSpan
-returns-2 c = rw (sym (c .before .before .before .before .iso-can .ensures) ∙ not-false _ (c .before .before .before .if1 .left)) (rw (c .narrowed .ensures, c .before .number-of .ensures, c .before .before .said-of .ensures))
+returns-2 c =
+    rw (sym (c .before .before .before .before .iso-can .ensures) ∙ not-false _ (c .before .before .before .if1 .left))
+    (rw (c .narrowed .ensures, c .before .number-of .ensures, c .before .before .said-of .ensures))
 
 pub month-span-spec : {M : Type 1} → statement M
 month-span-spec =

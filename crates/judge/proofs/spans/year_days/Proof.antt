@@ -66,7 +66,19 @@ narrowed-requires-3 c κs = search needs
 
 returns : tie.Need-returns
 unfolding yearDays
-returns c = rw (c .narrowed3 .ensures, c .before .later .ensures, c .before .before .number-of3 .ensures, c .before .before .before .said-of3 .ensures, c .before .before .before .before .narrowed2 .ensures, c .before .before .before .before .before .number-of2 .ensures, c .before .before .before .before .before .before .said-of2 .ensures, c .before .before .before .before .before .before .before .narrowed .ensures, c .before .before .before .before .before .before .before .before .number-of .ensures, c .before .before .before .before .before .before .before .before .before .said-of .ensures)
+returns c =
+    rw (
+      c .narrowed3 .ensures,
+      c .before .later .ensures,
+      c .before .before .number-of3 .ensures,
+      c .before .before .before .said-of3 .ensures,
+      c .before .before .before .before .narrowed2 .ensures,
+      c .before .before .before .before .before .number-of2 .ensures,
+      c .before .before .before .before .before .before .said-of2 .ensures,
+      c .before .before .before .before .before .before .before .narrowed .ensures,
+      c .before .before .before .before .before .before .before .before .number-of .ensures,
+      c .before .before .before .before .before .before .before .before .before .said-of .ensures,
+    )
 
 pub year-days-spec : {M : Type 1} → statement M
 year-days-spec =

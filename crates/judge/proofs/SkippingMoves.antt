@@ -4,12 +4,11 @@
 use Prim.Native.Nat.{ℕ, _+_, _-_, _%_, _≤_, _<_, min}
 use mathlib.Core.Bool.{Bool, true, false}
 use mathlib.Core.Logic.{⊎-elim}
-use mathlib.Core.Path.{_≡_, refl, sym, ap, _∙_}
+use mathlib.Core.Path.{_≡_}
 use native.Mathlib.Decide.{decLe}
-use native.Mathlib.Nat.{eq-or-lt-of-le, lt-of-not-le}
+use native.Mathlib.Nat.{eq-or-lt-of-le}
 use native.Mathlib.Omega.{arith}
 use Rattle.calendar.specs.Calendar.{sum, yearLength, monthLength, daysBefore, dayOfYear, dayNumber, days, dateOf, isoYear, lastYear}
-use Rattle.calendar.specs.declared.Date.{Date}
 use Rattle.judge.specs.Agreement.{dayAgrees}
 use Rattle.judge.specs.Private.{yearSpan, yearStep, firstYear, monthSpan, yearDays, monthStart, monthDaySpan}
 use Rattle.judge.specs.Search.{hit, firstTwo}
@@ -22,8 +21,8 @@ use Rattle.calendar.proofs.Months.{month-most, year-months, year-length-most}
 use Rattle.calendar.proofs.Sum.{sum-mono, sum-last}
 use Rattle.calendar.proofs.Years.{days-is, days-before-is, days-before-next}
 use Rattle.judge.proofs.Agreeing.{Agreeing, agreeing, agreeing-at, before-mono}
-use Rattle.judge.proofs.SpanLaws.{In, years-low, years-high, years-in, steps, no-steps, stepped-on, next-step}
-use Rattle.judge.proofs.SpanLaws.{months-low, months-most, months-high, months-in, days-in, span-low, span-high, span-in}
+use Rattle.judge.proofs.SpanLaws.{In, years-low, years-in, steps, no-steps, stepped-on, next-step}
+use Rattle.judge.proofs.SpanLaws.{months-most, months-in, days-in, span-low, span-high, span-in}
 use Rattle.judge.proofs.Upto.{Upto, upto-start, upto-skip, upto-hit, upto-miss, upto-none}
 
 pub before-few : (y : ℕ) → y ≤ lastYear + 1 → daysBefore y ≤ 3652059
@@ -37,7 +36,7 @@ start-mono y m m′ h = omega (arith, sum-mono (monthLength y) (m - 1) (m′ - 1
 pub start-most : (y m : ℕ) → 0 < y → m ≤ 13 → monthStart (daysBefore y) y m ≤ daysBefore (y + 1)
 start-most y m p h = omega (arith, sum-mono (monthLength y) (m - 1) 12 (omega arith), year-months y, days-before-next y p)
 
-pub start-next : (y m : ℕ) → 0 < m → monthStart (daysBefore y) y (m + 1) ≡ monthStart (daysBefore y) y m + monthLength y m
+start-next : (y m : ℕ) → 0 < m → monthStart (daysBefore y) y (m + 1) ≡ monthStart (daysBefore y) y m + monthLength y m
 start-next y m p = let e : m + 1 - 1 ≡ m = omega arith in rw e (omega (arith, sum-last (monthLength y) m p))
 
 -- the days of a month that can agree
@@ -73,7 +72,7 @@ module _ (f : Facts) (horizon : ℕ) where
     pub upto : Upto p n (min number (monthStart (daysBefore year) year (month + 1) + 1)) found
 
   module _ (far : horizon ≤ lastYear) where
-    pub all-days : n ≤ days
+    all-days : n ≤ days
     unfolding days
     all-days = sum-mono yearLength horizon lastYear far
 
@@ -101,7 +100,9 @@ module _ (f : Facts) (horizon : ℕ) where
           | yes l ↦ l
           | no l ↦ absurd (omega (arith, s .at, v .day-low, sum-mono yearLength horizon (t .year - 1) (omega (arith, l))))
         ] in
-        let i = years-in f horizon (t .year) (isoYear k) (v .year-low) near (v .year-high) (s .year) (s .century) (s .iso-year) (s .not-before) (s .not-after) in
+        let i : In (yearSpan f horizon) (t .year)
+        = years-in f horizon (t .year) (isoYear k) (v .year-low) near (v .year-high) (s .year) (s .century) (s .iso-year)
+        (s .not-before) (s .not-after) in
         record {
           y = t .year;
           m = t .month;
@@ -111,7 +112,8 @@ module _ (f : Facts) (horizon : ℕ) where
           in-span = i;
           on-step = stepped-on f (yearSpan f horizon .first) (t .year) (i .from) (s .year-in-century);
           in-months =
-              months-in f (t .year) (t .month) (isoYear k) (v .month-low) (v .month-high) (s .month) (s .iso-year-in-century) (s .not-before) (s .not-after);
+              months-in f (t .year) (t .month) (isoYear k) (v .month-low) (v .month-high) (s .month) (s .iso-year-in-century)
+              (s .not-before) (s .not-after);
           after-start = omega (arith, s .at, v .day-low);
           upto-end = omega (arith, s .at, v .day-high, start-next (t .year) (t .month) (v .month-low));
         }
@@ -164,7 +166,12 @@ module _ (f : Facts) (horizon : ℕ) where
             ⊎-elim
             (λ (s : y ≡ t .y).
             rw s
-            (omega (arith, t .says .at, t .says .valid .day-low, start-mono (t .y) (monthSpan f (t .y) .first) (t .m) (t .in-months .from))))
+            (omega (
+              arith,
+              t .says .at,
+              t .says .valid .day-low,
+              start-mono (t .y) (monthSpan f (t .y) .first) (t .m) (t .in-months .from),
+            )))
             (λ (s : y < t .y).
             omega (arith, start-most y (monthSpan f y .first) (year-low y h a) (months-most f y), later-start (y + 1) k t (omega arith)))
             (eq-or-lt-of-le (no-earlier y k t (omega arith)))
@@ -201,7 +208,7 @@ module _ (f : Facts) (horizon : ℕ) where
       abbrev span : Span
       span = can f y m
 
-      pub end-is : end ≡ start + monthLength y m
+      end-is : end ≡ start + monthLength y m
       end-is = start-next y m a
 
       pub valid-here : (k : ℕ) → start < k → k ≤ end → Valid y m (k - start)
@@ -215,7 +222,7 @@ module _ (f : Facts) (horizon : ℕ) where
             day-high = omega (arith, end-is);
           }
 
-      pub number-here : (k : ℕ) → start < k → dayNumber y m (k - start) ≡ k
+      number-here : (k : ℕ) → start < k → dayNumber y m (k - start) ≡ k
       unfolding dayNumber dayOfYear
       number-here k l = omega arith
 
@@ -234,7 +241,8 @@ module _ (f : Facts) (horizon : ℕ) where
           record {
             low = omega (arith, span-low f (yearDays f (daysBefore y) (yearLength y)) start (monthLength y m));
             upto = upto-skip p n (start + 1) (min (span .first) (end + 1)) h (c .upto)
-                (omega (arith, span-low f (yearDays f (daysBefore y) (yearLength y)) start (monthLength y m), end-is)) (λ k l g e. after k l e);
+                (omega (arith, span-low f (yearDays f (daysBefore y) (yearLength y)) start (monthLength y m), end-is))
+                (λ k l g e. after k l e);
           }
         where
           after : (k : ℕ) → start + 1 ≤ k → p k ≡ true → min (span .first) (end + 1) ≤ k
@@ -244,7 +252,7 @@ module _ (f : Facts) (horizon : ℕ) where
                 | no g ↦ omega (arith, g)
               ]
 
-      pub last-high : span .last ≤ end
+      last-high : span .last ≤ end
       last-high = omega (arith, end-is, span-high f (yearDays f (daysBefore y) (yearLength y)) start (monthLength y m))
 
       -- the day at hand is looked at
@@ -253,13 +261,22 @@ module _ (f : Facts) (horizon : ℕ) where
         in-month = omega (arith, last-high)
 
         pub one-of : k ≤ n
-        one-of = omega (arith, days-before-is (horizon + 1) horizon (omega arith), in-month, start-most y (m + 1) q (omega arith), before-mono (y + 1) (horizon + 1) (omega arith))
+        one-of =
+            omega (
+              arith,
+              days-before-is (horizon + 1) horizon (omega arith),
+              in-month,
+              start-most y (m + 1) q (omega arith),
+              before-mono (y + 1) (horizon + 1) (omega arith),
+            )
 
         at-number : Upto p n k h
         at-number = let e : min k (end + 1) ≡ k = omega (arith, in-month) in rw e at (c .upto)
 
         onward : (h : Found) → Upto p n (k + 1) h → AtDay y m (k + 1) h
-        onward h u = let e : k + 1 ≡ min (k + 1) (end + 1) = omega (arith, in-month) in record { low = omega (arith, c .low); upto = rw e at u }
+        onward h u =
+            let e : k + 1 ≡ min (k + 1) (end + 1) = omega (arith, in-month) in
+            record { low = omega (arith, c .low); upto = rw e at u }
 
         pub next-day-hit : p k ≡ true → AtDay y m (k + 1) (hit k h)
         next-day-hit e = onward (hit k h) (upto-hit p n k h at-number one-of e)

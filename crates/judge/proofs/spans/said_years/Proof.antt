@@ -1,14 +1,8 @@
--- `judge::counting::counted_span` meets its contract. Assumes nothing.
+-- `judge::spans::said_years` meets its contract. Assumes nothing.
 use borrow.Author.Needs.{needs}
-use Rattle.judge.specs.Private.{countedSpan}
-use Rattle.judge.proofs.counting.counted_span.Statement.{statement}
-use Rattle.judge.proofs.counting.counted_span.Tie as tie
-
-cast-hundreds : tie.Need-cast-hundreds
-cast-hundreds c = search needs
-
-cast-narrowed : tie.Need-cast-narrowed
-cast-narrowed c = search needs
+use Rattle.judge.specs.Private.{saidYears}
+use Rattle.judge.proofs.spans.said_years.Statement.{statement}
+use Rattle.judge.proofs.spans.said_years.Tie as tie
 
 said-of-requires : tie.Need-said-of-requires
 said-of-requires c κs = search needs
@@ -35,7 +29,7 @@ narrowed-requires-2 : tie.Need-narrowed-requires-2
 narrowed-requires-2 c κs = search needs
 
 returns : tie.Need-returns
-unfolding countedSpan
+unfolding saidYears
 returns c =
     rw (
       c .narrowed2 .ensures,
@@ -46,12 +40,10 @@ returns c =
       c .before .before .before .before .before .said-of .ensures,
     )
 
-pub counted-span-spec : {M : Type 1} → statement M
-counted-span-spec =
+pub said-years-spec : {M : Type 1} → statement M
+said-years-spec =
     tie.close
     (tie.spec
-    cast-hundreds
-    cast-narrowed
     said-of-requires
     number-of-requires
     narrowed-requires
