@@ -1,4 +1,5 @@
 pub mod Agreeing
+pub mod Complete
 pub mod CountedDays
 pub mod CountedYears
 pub mod Counts

@@ -21,7 +21,7 @@ pub record In (x : Span) (k : ℕ) : Type 0 where
   pub to : k ≤ x .last
 
 -- what was said is the value that agrees
-is-said : (s v : ℕ) → agrees s v ≡ true → (s ≡ 0 → ⊥) → s - 1 ≡ v
+pub is-said : (s v : ℕ) → agrees s v ≡ true → (s ≡ 0 → ⊥) → s - 1 ≡ v
 unfolding agrees
 is-said s v e n = eqb-true (s - 1) v (rw (ne-eqb s 0 n) at e)
 

@@ -103,6 +103,12 @@ monthDaySpan f x start length =
     let d = start + numberOf (said f kinds.day) 40 in
     narrowed (span (max (x .first) (start + 1)) (min (x .last) (start + length))) (said f kinds.day) d d
 
+-- ---- the whole date
+
+-- year, month and day were said
+unfoldable pub dateSaid : Facts → Bool
+dateSaid f = not (eqb (said f kinds.year) 0) && (not (eqb (said f kinds.month) 0) && not (eqb (said f kinds.day) 0))
+
 -- ---- what repeats
 
 -- something was said that names years

@@ -13,19 +13,22 @@ use crate::spans::first_year;
 use crate::spans::month_days;
 use crate::spans::month_span;
 use crate::spans::month_start;
+use crate::spans::said_of;
 use crate::spans::year_days;
 use crate::spans::year_span;
 use crate::spans::year_step;
 use calendar::Date;
+use calendar::FromFields;
 use calendar::month_length;
 use calendar::year_length;
+ghost use mathlib.Core.Bool.{true};
 ghost use mathlib.Core.Path.{_≡_};
 ghost use Prim.Native.Nat.{_+_, _≤_};
 ghost use Rattle.calendar.specs.Calendar.{sum, yearLength, lastYear};
 ghost use Rattle.judge.specs.Agreement.{dayAgrees};
 ghost use Rattle.judge.specs.Search.{firstTwo};
 ghost use Rattle.judge.specs.Verdicts.{daysFound};
-ghost use Rattle.judge.specs.Private.{named, cycle, firstOf, repeatedFound, skippingJudged};
+ghost use Rattle.judge.specs.Private.{dateSaid, named, cycle, firstOf, repeatedFound, skippingJudged};
 
 // All but the year's number repeats after so many years, which have so many days: whole weeks.
 const CYCLE_YEARS: u32 = 400;
@@ -98,10 +101,45 @@ fn repeated(found: Found) -> Found
     }
 }
 
+// Whether the whole date was said: year, month and day.
+fn date_said(facts: Facts) -> bool
+    ensures { λ r. ⌜ r ≡ dateSaid facts ⌝ }
+{
+    if said_of(facts, kinds::YEAR) == 0 {
+        return false;
+    }
+    if said_of(facts, kinds::MONTH) == 0 {
+        return false;
+    }
+    said_of(facts, kinds::DAY) != 0
+}
+
+// Then no other day can agree: what most texts say is answered without a search.
+fn search_date(facts: Facts) -> Found
+    requires { ⌜ dateSaid facts ≡ true ⌝ }
+    ensures { λ r. ⌜ r ≡ daysFound facts ⌝ }
+{
+    let year = said_of(facts, kinds::YEAR) - 1;
+    let month = said_of(facts, kinds::MONTH) - 1;
+    let day = said_of(facts, kinds::DAY) - 1;
+    let FromFields::Valid(date) = Date::from_fields(year, month, day) else {
+        return Found::Nothing;
+    };
+    let iso = any_said(facts, kinds::ISO_YEAR, kinds::ISO_WEEK);
+    let number = date.day_number();
+    if day_agrees(facts, iso, date, number, number - date.day_of_year()) {
+        return Found::One(number);
+    }
+    Found::Nothing
+}
+
 // The first two days that agree.
 pub fn search_days(facts: Facts) -> Found
     ensures { λ r. ⌜ r ≡ daysFound facts ⌝ }
 {
+    if date_said(facts) {
+        return search_date(facts);
+    }
     if named(facts) {
         return search_years(facts, Date::LAST.year as u32);
     }
