@@ -10,7 +10,8 @@ use borrow.Author.Tests.{eq-eqb, ne-eqb, eqb-true, le-leb}
 use lib.Dec.{eqb}
 use Rattle.kinds.specs.Kinds as kinds
 use Rattle.judge.specs.Agreement.{said, agrees}
-use Rattle.judge.specs.Private.{narrowed, saidYears, yearSpan, yearStep, firstYear, isoCan, monthSpan, yearDays, monthDaySpan}
+use Rattle.judge.specs.Private.{narrowed, saidYears, yearSpan, yearStep, firstYear, isoBack, isoCan, monthSpan, yearDays}
+use Rattle.judge.specs.Private.{monthDaySpan}
 use Rattle.judge.specs.declared.Facts.{Facts}
 use Rattle.judge.specs.declared.spans.Span.{Span}
 use Rattle.laws.proofs.Cases.{picked}
@@ -196,8 +197,7 @@ module _ (f : Facts) where
         elim (ℕ-discrete (said f kinds.isoYearInCentury) 0) [
           | yes z ↦ rw (eq-eqb (said f kinds.isoYearInCentury) 0 z)
           | no n ↦ (let q = is-said _ _ a n in
-              rw (ne-eqb (said f kinds.isoYearInCentury) 0 n)
-              (le-leb ((y + 101 - (said f kinds.isoYearInCentury - 1) % 100) % 100) 2 (omega arith)))
+              rw (ne-eqb (said f kinds.isoYearInCentury) 0 n) (le-leb (isoBack (said f kinds.isoYearInCentury) y) 2 (omega arith)))
         ]
 
     pub months-in : (m g : ℕ) → 0 < m → m ≤ 12 → agrees (said f kinds.month) m ≡ true

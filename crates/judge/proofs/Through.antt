@@ -119,9 +119,10 @@ module _ (f : Facts) (e : dayBorne f ≡ true) where
   unfolding searched plainSearched plainly counted dayVerdict
   within-borne budget = rw e
 
-  pub plain-borne : plainly 3652059 f ≡ searched Plain f
+  -- a budget of all days is enough
+  pub plain-borne : (budget : ℕ) → days ≤ budget → plainly budget f ≡ searched Plain f
   unfolding searched plainSearched plainly plainCount lastExamined counted dayVerdict
-  plain-borne = rw (e, le-leb (through days (daysFound f)) 3652059 (omega (arith, last-in f, days-is)))
+  plain-borne budget h = rw (e, le-leb (through days (daysFound f)) budget (omega (arith, last-in f)))
 
 pub unborne : (engine : Engine) (f : Facts) → dayBorne f ≡ false → Judged Unsaid 0 ≡ searched engine f
 unfolding searched plainSearched counted dayVerdict

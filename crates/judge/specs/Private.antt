@@ -73,11 +73,15 @@ firstYear f first =
     let s = said f kinds.yearInCentury in
     cond (eqb s 0) first (first + ((s - 1) % 100 + 100 - first % 100) % 100)
 
+-- how many years the year after y lies past the last that ends in what was said
+abbrev pub isoBack : ℕ → ℕ → ℕ
+isoBack s y = (y + 101 - (s - 1) % 100) % 100
+
 -- the ISO year of a day of year y is y, or the one before or after it
 unfoldable pub isoCan : Facts → ℕ → Bool
 isoCan f y =
     let s = said f kinds.isoYearInCentury in
-    cond (eqb s 0) true (leb ((y + 101 - (s - 1) % 100) % 100) 2)
+    cond (eqb s 0) true (leb (isoBack s y) 2)
 
 unfoldable pub monthSpan : Facts → ℕ → Span
 monthSpan f y =

@@ -1,7 +1,9 @@
 -- `judge::judging::judge_day` meets its contract. Assumes nothing.
 use mathlib.Core.Bool.{true}
 use mathlib.Core.Path.{_≡_, sym, ap, _∙_}
+use native.Mathlib.Omega.{arith}
 use borrow.Author.Needs.{needs}
+use Rattle.calendar.proofs.Years.{days-is}
 use Rattle.judge.specs.Agreement.{dayBorne}
 use Rattle.judge.specs.Engines.{searched}
 use Rattle.judge.specs.declared.Engine.{Engine}
@@ -48,7 +50,7 @@ returns-2 : tie.Need-returns-2
 returns-2 c =
     let m = c .before .before .before in
     c .judge-plainly .ensures
-    ∙ plain-borne _ (borne m)
+    ∙ plain-borne _ (borne m) _ (omega (arith, days-is))
     ∙ ap (λ (e : Engine). searched e (m .before .before .args .facts)) (sym (c .before .enum-told2 .given .1))
 
 returns-3 : tie.Need-returns-3
