@@ -69,10 +69,13 @@ number-is c =
     ∙ ap (λ (t : Date). dayNumber (t .year) (t .month) (t .day)) (sym (is-valid (dated c) .1))
 
 before-is : (c : tie.After-day-of-year) → let t = its-date (dated c) in
-    (c .day-of-year .result ≤ c .before .day-number .result) × (c .before .day-number .result - c .day-of-year .result ≡ daysBefore (t .year))
+    (c .day-of-year .result ≤ c .before .day-number .result)
+    × (c .before .day-number .result - c .day-of-year .result ≡ daysBefore (t .year))
 unfolding dayNumber
 before-is c =
-    (omega (arith, c .day-of-year .ensures, c .before .day-number .ensures), omega (arith, c .day-of-year .ensures, c .before .day-number .ensures))
+    let n = c .before .day-number .ensures in
+    let d = c .day-of-year .ensures in
+    (omega (arith, d, n), omega (arith, d, n))
 
 tested : (c : tie.After-day-agrees) → let t = dated (c .before) in c .day-agrees .result ≡ dateAgrees (f (from t)) (date (y t) (m t) (d t))
 tested c = c .day-agrees .ensures ∙ ap (dateAgrees (f (from (dated (c .before))))) (sym (is-valid (dated (c .before)) .1))
@@ -131,7 +134,8 @@ day-agrees-requires c κs =
 returns-2 : tie.Need-returns-2
 returns-2 c =
     let t = dated (c .before .before) in
-    rw (number-is (c .before .before)) (date-agrees (f (from t)) (said-whole (from t)) (no-fault t) (sym (tested (c .before)) ∙ c .if1 .taken))
+    let e = sym (tested (c .before)) ∙ c .if1 .taken in
+    rw (number-is (c .before .before)) (date-agrees (f (from t)) (said-whole (from t)) (no-fault t) e)
 
 returns-3 : tie.Need-returns-3
 returns-3 c =

@@ -1,9 +1,12 @@
 -- `strptime::answers::date_of` meets its contract. Assumes nothing.
 use borrow.Author.Needs.{needs}
+use Prim.Native.Nat.{_≤_, _<_}
 use mathlib.Core.Path.{_≡_}
 use native.Mathlib.Omega.{arith}
 use borrow.Author.Tests.{eqb-false}
+use Rattle.calendar.specs.Calendar.{days}
 use Rattle.judge.specs.Agreement.{said}
+use Rattle.judge.specs.Demand.{DayAgrees}
 use Rattle.judge.specs.declared.Facts.{Facts}
 use Rattle.kinds.specs.Kinds as kinds
 use Rattle.strptime.proofs.Days.{year-said, month-said, day-said, as-said}
@@ -54,6 +57,15 @@ module _ (c : tie.Else3) where
   abbrev f : Facts
   f = b .args .facts
 
+  day : (0 < b .args .number) × (b .args .number ≤ days)
+  day = b .pre .0
+
+  agrees-with : DayAgrees f (b .args .number)
+  agrees-with = b .pre .1
+
+  some-year : said f kinds.year ≡ 0 → ⊥
+  some-year = c .before .before .if1 .left
+
   some-month : said f kinds.month ≡ 0 → ⊥
   some-month = eqb-false (said f kinds.month) 0 (c .before .if2 .left)
 
@@ -61,22 +73,22 @@ module _ (c : tie.Else3) where
   some-day = eqb-false (said f kinds.day) 0 (c .if3 .left)
 
 cast-t19 : tie.Need-cast-t19
-cast-t19 c = omega (arith, year-said (f c) (b c .args .number) (b c .pre .0 .0) (b c .pre .0 .1) (b c .pre .1) (c .before .before .if1 .left) .1)
+cast-t19 c = omega (arith, year-said (f c) (b c .args .number) (day c .0) (day c .1) (agrees-with c) (some-year c) .1)
 
 sub-t20 : tie.Need-sub-t20
 sub-t20 c = omega (arith, some-month c)
 
 cast-t21 : tie.Need-cast-t21
-cast-t21 c = omega (arith, month-said (f c) (b c .args .number) (b c .pre .0 .0) (b c .pre .0 .1) (b c .pre .1) (some-month c) .1)
+cast-t21 c = omega (arith, month-said (f c) (b c .args .number) (day c .0) (day c .1) (agrees-with c) (some-month c) .1)
 
 sub-t22 : tie.Need-sub-t22
 sub-t22 c = omega (arith, some-day c)
 
 cast-t23 : tie.Need-cast-t23
-cast-t23 c = omega (arith, day-said (f c) (b c .args .number) (b c .pre .0 .0) (b c .pre .0 .1) (b c .pre .1) (some-day c) .1)
+cast-t23 c = omega (arith, day-said (f c) (b c .args .number) (day c .0) (day c .1) (agrees-with c) (some-day c) .1)
 
 returns-2 : tie.Need-returns-2
-returns-2 c = as-said (f c) (b c .args .number) (b c .pre .0 .0) (b c .pre .0 .1) (b c .pre .1) (c .before .before .if1 .left) (some-month c) (some-day c)
+returns-2 c = as-said (f c) (b c .args .number) (day c .0) (day c .1) (agrees-with c) (some-year c) (some-month c) (some-day c)
 
 pub date-of-spec : {M : Type 1} → statement M
 date-of-spec =
