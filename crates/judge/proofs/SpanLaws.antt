@@ -224,14 +224,6 @@ module _ (f : Facts) where
 
   -- ---- days of a month
   module _ (x : Span) (start length : ℕ) where
-    pub span-low : start + 1 ≤ monthDaySpan f x start length .first
-    unfolding monthDaySpan
-    span-low = narrowed-from _ _ _ _ _ (omega arith)
-
-    pub span-high : monthDaySpan f x start length .last ≤ start + length
-    unfolding monthDaySpan
-    span-high = narrowed-to _ _ _ _ _ (omega arith)
-
     pub span-in : (k d : ℕ) → In x k → k ≡ start + d → 0 < d → d ≤ length → length ≤ 31 → agrees (said f kinds.day) d ≡ true
         → In (monthDaySpan f x start length) k
     unfolding monthDaySpan
@@ -239,3 +231,11 @@ module _ (f : Facts) where
         narrowed-in _ _ _ _ k
         (record { from = omega (arith, i .from); to = omega (arith, i .to) })
         (λ n. let q = is-said _ _ a n in (omega arith, omega arith))
+
+    pub span-low : start + 1 ≤ monthDaySpan f x start length .first
+    unfolding monthDaySpan
+    span-low = narrowed-from _ _ _ _ _ (omega arith)
+
+    pub span-high : monthDaySpan f x start length .last ≤ start + length
+    unfolding monthDaySpan
+    span-high = narrowed-to _ _ _ _ _ (omega arith)
