@@ -14,11 +14,8 @@ use strftime::write_elements;
 use strftime::writing_of;
 use strptime::Answer;
 use strptime::Day;
-use strptime::Reading;
 use strptime::Said;
-use strptime::Shown;
 use strptime::read_elements;
-use strptime::reading_of;
 use strptime::strptime;
 use values::date_value;
 ghost use mathlib.Core.Path.{_≡_};
@@ -28,7 +25,8 @@ ghost use Rattle.calendar.specs.Dates.{fromFields, fromDayNumber};
 ghost use Rattle.format.specs.Opening.{openedInto};
 ghost use Rattle.kinds.specs.Kinds.{weekday, dayOfYear, isoYear, isoWeek};
 ghost use Rattle.strftime.specs.Writing.{writing, elementsWriting};
-ghost use Rattle.strptime.specs.Answers.{readingOf, readingBy, elementsReadingBy};
+ghost use Rattle.strptime.specs.Answers.{showing, refused, finished, examining, readingOf, readingBy, elementsReadingBy};
+ghost use Rattle.strptime.specs.declared.Shown.the-variants.{Days, Hours};
 ghost use Rattle.values.specs.Values.{dayNumberOf, dateValue};
 ghost use Rattle.larusqem.specs.Dates.{valueFrom, threeInOne, dateWord, versionWord};
 ghost use Rattle.larusqem.specs.Packed.{packed, packedWriting, packedReading, engineOf, sideOf, openedFor};
@@ -148,88 +146,156 @@ fn number_or_0(said: Said) -> u32
     }
 }
 
-fn words_of(r: Reading) -> [u32; 16]
-    requires { ⌜ r .place < 2 ^ 32 ⌝ }
-    ensures { λ w. ⌜ w ≡ wordsOf r ⌝ }
+// An answer's words, and its number and place, by what it shows. A refusal: nothing.
+fn refuse(number: u32, place: usize, examined: u32, words: &mut [u32; 16]) -> u64
+    requires { ⌜ place < 2 ^ 32 ⌝ }
+    ensures { λ r. ⌜ r ≡ packed number place ⌝ }
+    ensures { λ _. ⌜ now (words .exit) ≡ wordsOf (examining examined (refused number place)) ⌝ }
 {
-    let number = r.number;
-    let place = r.place as u32;
-    let examined = r.examined;
-    let shown = r.shown;
-    match shown {
-        Shown::Nothing => {
-            let day = r.day;
-            let hour = r.hour;
-            let minute = r.minute;
-            let second = r.second;
-            let date = day_or_zero(day);
-            [
-                number,
-                place,
-                date.year as u32,
-                date.month as u32,
-                date.day as u32,
-                flag(hour),
-                number_or_0(hour),
-                flag(minute),
-                number_or_0(minute),
-                flag(second),
-                number_or_0(second),
-                0,
-                0,
-                0,
-                0,
-                examined,
-            ]
-        }
-        Shown::Days { first, second } => [
-            number,
-            place,
-            first.year as u32,
-            first.month as u32,
-            first.day as u32,
-            0,
-            0,
-            0,
-            0,
-            0,
-            0,
-            second.year as u32,
-            second.month as u32,
-            second.day as u32,
-            0,
-            examined,
-        ],
-        Shown::Hours { first, second } => [
-            number,
-            place,
-            0,
-            0,
-            0,
-            0,
-            first,
-            0,
-            0,
-            0,
-            0,
-            0,
-            0,
-            0,
-            second,
-            examined,
-        ],
-    }
+    *words = [
+        number,
+        place as u32,
+        0,
+        0,
+        0,
+        0,
+        0,
+        0,
+        0,
+        0,
+        0,
+        0,
+        0,
+        0,
+        0,
+        examined,
+    ];
+    packed(number, place)
 }
 
-// An answer's words, and its number and place.
+// Two days.
+fn show_days(first: Date, second: Date, examined: u32, words: &mut [u32; 16]) -> u64
+    ensures { λ r. ⌜ r ≡ packed 10 1 ⌝ }
+    ensures { λ _. ⌜ now (words .exit) ≡ wordsOf (examining examined (showing 10 1 (Days first second))) ⌝ }
+{
+    *words = [
+        10,
+        1,
+        first.year as u32,
+        first.month as u32,
+        first.day as u32,
+        0,
+        0,
+        0,
+        0,
+        0,
+        0,
+        second.year as u32,
+        second.month as u32,
+        second.day as u32,
+        0,
+        examined,
+    ];
+    packed(10, 1)
+}
+
+// Two hours.
+fn show_hours(first: u32, second: u32, examined: u32, words: &mut [u32; 16]) -> u64
+    ensures { λ r. ⌜ r ≡ packed 10 2 ⌝ }
+    ensures { λ _. ⌜ now (words .exit) ≡ wordsOf (examining examined (showing 10 2 (Hours first second))) ⌝ }
+{
+    *words = [
+        10,
+        2,
+        0,
+        0,
+        0,
+        0,
+        first,
+        0,
+        0,
+        0,
+        0,
+        0,
+        0,
+        0,
+        second,
+        examined,
+    ];
+    packed(10, 2)
+}
+
+// A finished reading: its values.
+fn finish(
+    place: usize,
+    day: Day,
+    hour: Said,
+    minute: Said,
+    second: Said,
+    examined: u32,
+    words: &mut [u32; 16],
+) -> u64
+    requires { ⌜ place < 2 ^ 32 ⌝ }
+    ensures { λ r. ⌜ r ≡ packed 0 place ⌝ }
+    ensures { λ _. ⌜ now (words .exit) ≡ wordsOf (examining examined (finished place day hour minute second)) ⌝ }
+{
+    let date = day_or_zero(day);
+    *words = [
+        0,
+        place as u32,
+        date.year as u32,
+        date.month as u32,
+        date.day as u32,
+        flag(hour),
+        number_or_0(hour),
+        flag(minute),
+        number_or_0(minute),
+        flag(second),
+        number_or_0(second),
+        0,
+        0,
+        0,
+        0,
+        examined,
+    ];
+    packed(0, place)
+}
+
+// The same of any answer. The words come from the answer itself: a Reading between costs some 5 ns.
 fn tell(answer: Answer, words: &mut [u32; 16]) -> u64
     requires { ⌜ readingOf answer .place < 2 ^ 32 ⌝ }
     ensures { λ r. ⌜ r ≡ packedReading (readingOf answer) ⌝ }
     ensures { λ _. ⌜ now (words .exit) ≡ wordsOf (readingOf answer) ⌝ }
 {
-    let r = reading_of(answer);
-    *words = words_of(r);
-    packed(r.number, r.place)
+    match answer {
+        Answer::Done {
+            unread,
+            day,
+            hour,
+            minute,
+            second,
+            examined,
+        } => finish(unread, day, hour, minute, second, examined, words),
+        Answer::FormatTooLong => refuse(1, 0, 0, words),
+        Answer::TextTooLong => refuse(5, 0, 0, words),
+        Answer::BadConversion { at } => refuse(3, at, 0, words),
+        Answer::NoMatch { at } => refuse(6, at, 0, words),
+        Answer::OutOfRange { at } => refuse(7, at, 0, words),
+        Answer::Contradiction { at } => refuse(8, at, 0, words),
+        Answer::OverBudget { budget } => refuse(11, budget as usize, budget, words),
+        Answer::NoDay { examined } => refuse(9, 1, examined, words),
+        Answer::NoHour { examined } => refuse(9, 2, examined, words),
+        Answer::OpenDay {
+            first,
+            second,
+            examined,
+        } => show_days(first, second, examined, words),
+        Answer::OpenHour {
+            first,
+            second,
+            examined,
+        } => show_hours(first, second, examined, words),
+    }
 }
 
 // The engine that a number asks for: 0 the one that skips, 1 the plain one, any other the plain one with the budget.
