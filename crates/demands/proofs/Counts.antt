@@ -7,7 +7,7 @@ use mathlib.Core.Logic.{_↔_}
 use mathlib.Core.Path.{_≡_, refl, sym, ap, _∙_}
 use native.Mathlib.Omega.{arith}
 use Rattle.laws.specs.Lists.{every}
-use Rattle.kinds.specs.Kinds.{dayKinds, computes}
+use Rattle.kinds.specs.Kinds.{dayKinds}
 use Rattle.calendar.specs.Calendar.{sum, days, dateOf}
 use Rattle.judge.specs.Demand.{IsDay, AllAgree}
 use Rattle.judge.specs.Engines.{monthKinds, monthAgrees, monthDays}
@@ -16,7 +16,7 @@ use Rattle.judge.proofs.Engines.{by-plain, plain-two, plain-all, plain-most, sk
 use Rattle.strptime.specs.Answers.{examining, readingBy}
 use Rattle.strptime.specs.declared.Reading.{Reading}
 use Rattle.values.specs.Values.{dateValue}
-use Rattle.demands.specs.Counts.{passing, MonthAgrees, Counts}
+use Rattle.demands.specs.Counts.{passing, oneToFour, MonthAgrees, Counts}
 use Rattle.demands.specs.Engines.{plainDays}
 use Rattle.demands.specs.Facts.{Matched}
 use Rattle.demands.proofs.Demand.{within, not-none, day-by}
@@ -38,12 +38,13 @@ passing-same p q (suc n) f =
     let here = f (suc n) (omega arith) (omega arith) in
     rw (here, passing-same p q n (λ k l m. f k l (omega arith)))
 
-month-kind : (k : ℕ) → Member k monthKinds → (1 ≤ k) × (k ≤ 12)
-month-kind = within 1 12 monthKinds (unfold monthKinds computes every in refl)
+month-kind : (k : ℕ) → Member k oneToFour → (1 ≤ k) × (k ≤ 12)
+month-kind = within 1 12 oneToFour (unfold every in refl)
 
 module _ (f s : List ℕ) (m : Matched f s) where
   -- what is kept and what is said agree with the same years and months
   month-said : (d : ℕ) → IsDay d → AllAgree (kept f s m) monthKinds (λ j. dateValue j (dateOf d)) ↔ MonthAgrees f s d
+  unfolding monthKinds
   month-said d i = (
     λ g k n b x. let w = month-kind k b in day-would d (i .0) (i .1) k n (w .0) (w .1) .1 (g k n b (handed f s m k n .1 x)),
     λ g k n b x. let w = month-kind k b in day-would d (i .0) (i .1) k n (w .0) (w .1) .0 (g k n b (handed f s m k n .0 x)),
@@ -81,5 +82,12 @@ module _ (f s : List ℕ) (m : Matched f s) where
             plain-all (kept f s m) (λ e. not-none f s m dayKinds some (day-by f s m .unsaid .0 e))
             (λ a b e. none a b (day-by f s m .«open» a b .0 e .1)) in
             ap (λ (r : Reading). r .examined) (read-is f s m Plain q);
+        tested = (
+          monthAgrees (kept f s m),
+          λ k i.
+              let a = month-agrees (kept f s m) k in
+              let b = month-said k i in
+              (λ e. b .0 (a .0 e), λ e. a .1 (b .1 e)),
+        );
         skipping = skipping-days;
       }

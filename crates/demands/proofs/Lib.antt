@@ -1,7 +1,9 @@
+pub mod Bearing
 pub mod Columns
 pub mod Counts
 pub mod Demand
 pub mod Engines
+pub mod Examined
 pub mod Matched
 pub mod Rows
 pub mod Starred

@@ -7,11 +7,14 @@
 --      what the writer would write, in Writes (`day-would`, `hour-would` in proofs/Written);
 --      how a matched text is answered, `Answered` of Demand (`answered` in proofs/Demand);
 --      that it is answered alike by every engine, and what a budget does, in Engines (`one-verdict`, `engines` in proofs/Engines);
---      how many days each engine examines, `Counts` of Counts (`counts` in proofs/Counts)
+--      how many days each engine examines, `Counts` of Counts (`counts` in proofs/Counts), with cases in one table, Examined
+--      (`all-examined` in proofs/Examined); which kinds bear on what, by their numbers, in Bearing (`bearing` in proofs/Bearing)
+pub mod Bearing
 pub mod Columns
 pub mod Counts
 pub mod Demand
 pub mod Engines
+pub mod Examined
 pub mod Facts
 pub mod Rows
 pub mod Starred
