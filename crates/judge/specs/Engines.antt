@@ -20,7 +20,7 @@ use Rattle.values.specs.Values.{dateValue}
 unfoldable pub lastExamined : Facts → ℕ
 lastExamined f = through days (daysFound f)
 
--- the plain engine examines every day up to it
+-- where a fact bears on the day, the plain engine examines every day up to it
 unfoldable pub plainCount : Facts → ℕ
 plainCount f = lastExamined f
 
@@ -36,7 +36,7 @@ monthAgrees f k = allAgree f monthKinds (λ j. dateValue j (dateOf k))
 unfoldable pub monthDays : Facts → ℕ → ℕ
 monthDays f n = sum (λ k. cond (monthAgrees f k) 1 0) n
 
--- the skipping engine's count is over the days of such months alone
+-- and the skipping engine's count is over the days of such months alone
 unfoldable pub skippingCount : Facts → ℕ
 skippingCount f = monthDays f (lastExamined f)
 

@@ -80,7 +80,7 @@ readingOf (NoHour n) = examining n (refused 9 2)
 readingOf (OpenDay a b n) = examining n (showing 10 1 (Days a b))
 readingOf (OpenHour a b n) = examining n (showing 10 2 (Hours a b))
 
--- ---- 9 and 10
+-- ---- 11, 9 and 10
 
 -- what was said of a kind, as an answer gives it
 unfoldable pub saidOf : ℕ → Said

@@ -164,7 +164,7 @@ fn date_at(number: u32) -> Date
 }
 
 // The date of the one day that agrees: as it was said, where year, month and day were.
-fn date_of(facts: Facts, number: u32) -> Date
+fn said_date(facts: Facts, number: u32) -> Date
     requires { ⌜ (0 < number) × (number ≤ days) ⌝ }
     requires { ⌜ DayAgrees facts number ⌝ }
     ensures { λ r. ⌜ r ≡ dateOf number ⌝ }
@@ -203,7 +203,7 @@ fn by_verdict(state: State, verdict: Verdict, examined: u32) -> Dated
             },
         },
         Verdict::Agreed(day) => Dated::Fixed {
-            day: Day::On(date_of(state.facts, day)),
+            day: Day::On(said_date(state.facts, day)),
             examined,
         },
     }

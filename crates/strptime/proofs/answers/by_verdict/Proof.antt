@@ -29,8 +29,8 @@ date-at-requires-2 c κs =
 enum-known-verdict-2 : tie.Need-enum-known-verdict-2
 enum-known-verdict-2 c = search needs
 
-date-of-requires : tie.Need-date-of-requires
-date-of-requires c κs =
+said-date-requires : tie.Need-said-date-requires
+said-date-requires c κs =
     let d = c .before .before .before in
     let o = day-judged (d .args .state .facts) .agreed _ .0 (sym (d .pre) ∙ c .before .verdict2 .given .1) .1 in
     (o .is, o .agrees)
@@ -49,7 +49,7 @@ returns-3 c = rw (c .before .before .before .verdict .given .1, c .before .date-
 
 returns-4 : tie.Need-returns-4
 unfolding withDay withDated
-returns-4 c = rw (c .before .before .verdict2 .given .1, c .date-of .ensures)
+returns-4 c = rw (c .before .before .verdict2 .given .1, c .said-date .ensures)
 
 pub by-verdict-spec : {M : Type 1} → statement M
 by-verdict-spec =
@@ -61,7 +61,7 @@ by-verdict-spec =
     date-at-requires
     date-at-requires-2
     enum-known-verdict-2
-    date-of-requires
+    said-date-requires
     returns
     returns-2
     returns-3

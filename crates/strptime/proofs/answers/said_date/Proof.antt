@@ -1,4 +1,4 @@
--- `strptime::answers::date_of` meets its contract. Assumes nothing.
+-- `strptime::answers::said_date` meets its contract. Assumes nothing.
 use borrow.Author.Needs.{needs}
 use Prim.Native.Nat.{_≤_, _<_}
 use mathlib.Core.Path.{_≡_}
@@ -10,8 +10,8 @@ use Rattle.judge.specs.Demand.{DayAgrees}
 use Rattle.judge.specs.declared.Facts.{Facts}
 use Rattle.kinds.specs.Kinds as kinds
 use Rattle.strptime.proofs.Days.{year-said, month-said, day-said, as-said}
-use Rattle.strptime.proofs.answers.date_of.Statement.{statement}
-use Rattle.strptime.proofs.answers.date_of.Tie as tie
+use Rattle.strptime.proofs.answers.said_date.Statement.{statement}
+use Rattle.strptime.proofs.answers.said_date.Tie as tie
 
 cast-year : tie.Need-cast-year
 cast-year c = search needs
@@ -90,8 +90,8 @@ cast-t23 c = omega (arith, day-said (f c) (b c .args .number) (day c .0) (day c 
 returns-2 : tie.Need-returns-2
 returns-2 c = as-said (f c) (b c .args .number) (day c .0) (day c .1) (agrees-with c) (some-year c) (some-month c) (some-day c)
 
-pub date-of-spec : {M : Type 1} → statement M
-date-of-spec =
+pub said-date-spec : {M : Type 1} → statement M
+said-date-spec =
     tie.close
     (tie.spec
     cast-year
