@@ -209,7 +209,8 @@ enum larusqem_engine {
     LARUSQEM_WITHIN = 2 /* the plain one with a budget */
 };
 
-/* how a text is read: by an engine of the enum (any other number is as LARUSQEM_WITHIN), and with a budget, which only WITHIN looks at */
+/* how a text is read: by an engine of the enum (any other number is as LARUSQEM_WITHIN), and with a budget, which only WITHIN looks at: a
+   budget alone does nothing, the engine must be LARUSQEM_WITHIN too */
 struct larusqem_options {
     uint32_t engine;
     uint32_t budget;

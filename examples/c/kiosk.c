@@ -1,4 +1,4 @@
-/* kiosk BUDGET FORMAT TEXT: reads a text within a budget of days and, where that is too small, once more without one. */
+/* kiosk BUDGET FORMAT TEXT: reads a text within a budget of days and, where that is too small, by the skipping engine. */
 #include <inttypes.h>
 #include <stdio.h>
 #include <string.h>
@@ -29,6 +29,6 @@ int main(int count, char **words)
     r = larusqem_strptime_with(words[2], strlen(words[2]), words[3], strlen(words[3]), within);
     print_reading("within the budget", r);
     if (r.number == LARUSQEM_OVER_BUDGET)
-        print_reading("without a budget", larusqem_strptime(words[2], strlen(words[2]), words[3], strlen(words[3])));
+        print_reading("by the skipping engine", larusqem_strptime(words[2], strlen(words[2]), words[3], strlen(words[3])));
     return 0;
 }

@@ -3,7 +3,8 @@
 /// How the day of a text is looked for among all days of the calendar (RULES 8.4). Every engine gives the same answer, shown days
 /// included, unless its budget is too small; they differ in time, and in the days that they count as examined. Each counts through the
 /// second day that fits, and where there are not two through the last day of the calendar; no day is examined where nothing that the text
-/// says bears on the day, or where it is refused before the day is judged.
+/// says bears on the day, or where it is refused before the day is judged. Readings and errors compare their counts too: the same answer by
+/// two engines is equal only if the counts are.
 ///
 /// ```
 /// use larusqem::{strptime_with, Date, Engine, ReadError};
