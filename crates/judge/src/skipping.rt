@@ -3,6 +3,7 @@ use crate::Facts;
 use crate::Found;
 use crate::Searched;
 use crate::agreement::any_said;
+use crate::agreement::date_kinds_agree;
 use crate::counting::month_days_through;
 use crate::judging::verdict_of;
 use crate::search::date_at;
@@ -114,7 +115,8 @@ fn date_said(facts: Facts) -> bool
     said_of(facts, kinds::DAY) != 0
 }
 
-// Then no other day can agree: what most texts say is answered without a search.
+// Then no other day can agree: what most texts say is answered without a search. The test is not the one for a day of a scan, which the
+// compiler puts into each engine's loop as long as no other function asks for it.
 fn search_date(facts: Facts) -> Found
     requires { ⌜ dateSaid facts ≡ true ⌝ }
     ensures { λ r. ⌜ r ≡ daysFound facts ⌝ }
@@ -125,10 +127,8 @@ fn search_date(facts: Facts) -> Found
     let FromFields::Valid(date) = Date::from_fields(year, month, day) else {
         return Found::Nothing;
     };
-    let iso = any_said(facts, kinds::ISO_YEAR, kinds::ISO_WEEK);
-    let number = date.day_number();
-    if day_agrees(facts, iso, date, number, number - date.day_of_year()) {
-        return Found::One(number);
+    if date_kinds_agree(facts, date, kinds::FIRST_DAY_KIND, kinds::LAST_DAY_KIND) {
+        return Found::One(date.day_number());
     }
     Found::Nothing
 }

@@ -1,21 +1,20 @@
 -- `judge::skipping::search_date` meets its contract. Assumes nothing.
 use borrow.Author.Needs.{needs}
-use Prim.Native.Nat.{ℕ, _-_, _≤_}
+use Prim.Native.Nat.{ℕ, _-_}
 use mathlib.Core.Bool.{true}
 use mathlib.Core.Path.{_≡_, sym, ap, _∙_}
 use native.Mathlib.Omega.{arith}
 use borrow.Author.Tests.{eqb-true, eqb-false}
 use lib.Dec.{eqb}
-use Rattle.calendar.specs.Calendar.{date, dateFault, daysBefore, dayNumber}
+use Rattle.calendar.specs.Calendar.{date, dateFault, dayNumber}
 use Rattle.calendar.specs.Dates.{fromFields}
 use Rattle.calendar.specs.declared.Date.{Date}
 use Rattle.kinds.specs.Kinds as kinds
+use Rattle.kinds.specs.Kinds.{dayKinds}
 use Rattle.judge.specs.Agreement.{said, dateAgrees}
-use Rattle.judge.specs.Private.{isoKinds}
 use Rattle.judge.specs.declared.Facts.{Facts}
 use Rattle.laws.specs.Lists.{range}
-use Rattle.calendar.proofs.Dates.{no-fault-valid, number-within, fields-bad, fields-valid}
-use Rattle.calendar.proofs.Years.{days-is}
+use Rattle.calendar.proofs.Dates.{fields-bad, fields-valid}
 use Rattle.judge.proofs.Complete.{Whole, whole, no-date, date-agrees, date-differs}
 use Rattle.judge.proofs.skipping.search_date.Statement.{statement}
 use Rattle.judge.proofs.skipping.search_date.Tie as tie
@@ -59,26 +58,13 @@ module _ (c : tie.After-date) where
   no-fault : dateFault y m d ≡ 0
   no-fault = eqb-true (dateFault y m d) 0 (is-valid .0)
 
--- its day number, and its test
-abbrev dated : tie.After-day-of-year → tie.After-date
-dated c = c .before .before .before .before
-
-number-is : (c : tie.After-day-of-year) → c .before .day-number .result ≡ dayNumber (y (dated c)) (m (dated c)) (d (dated c))
-number-is c =
-    c .before .day-number .ensures
-    ∙ ap (λ (t : Date). dayNumber (t .year) (t .month) (t .day)) (sym (is-valid (dated c) .1))
-
-before-is : (c : tie.After-day-of-year) → let t = its-date (dated c) in
-    (c .day-of-year .result ≤ c .before .day-number .result)
-    × (c .before .day-number .result - c .day-of-year .result ≡ daysBefore (t .year))
-unfolding dayNumber
-before-is c =
-    let n = c .before .day-number .ensures in
-    let d = c .day-of-year .ensures in
-    (omega (arith, d, n), omega (arith, d, n))
-
-tested : (c : tie.After-day-agrees) → let t = dated (c .before) in c .day-agrees .result ≡ dateAgrees (f (from t)) (date (y t) (m t) (d t))
-tested c = c .day-agrees .ensures ∙ ap (dateAgrees (f (from (dated (c .before))))) (sym (is-valid (dated (c .before)) .1))
+-- its test
+tested : (c : tie.After-date-kinds-agree) → let t = c .before .before in
+    c .date-kinds-agree .result ≡ dateAgrees (f (from t)) (date (y t) (m t) (d t))
+unfolding dateAgrees dayKinds range
+tested c =
+    let t = c .before .before in
+    c .date-kinds-agree .ensures ∙ unfold dateAgrees dayKinds in ap (dateAgrees (f (from t))) (sym (is-valid t .1))
 
 said-of-requires : tie.Need-said-of-requires
 said-of-requires c κs = search needs
@@ -112,34 +98,22 @@ returns c =
     let e = c .before .before in
     no-date (f e) (said-whole e) (eqb-false _ 0 (fields-bad _ _ _ _ (sym (fields e) ∙ c .enum-told .given .1) .0))
 
-any-said-requires : tie.Need-any-said-requires
-any-said-requires c κs = search needs
+date-kinds-agree-requires : tie.Need-date-kinds-agree-requires
+date-kinds-agree-requires c κs = search needs
 
 day-number-requires : tie.Need-day-number-requires
 day-number-requires c κs = search needs
 
-day-of-year-requires : tie.Need-day-of-year-requires
-day-of-year-requires c κs = search needs
-
-sub-day-agrees : tie.Need-sub-day-agrees
-sub-day-agrees c = before-is c .0
-
-day-agrees-requires : tie.Need-day-agrees-requires
-unfolding isoKinds range
-day-agrees-requires c κs =
-    let t = dated c in
-    let n = number-within _ _ _ (no-fault-valid (y t) (m t) (d t) (no-fault t)) in
-    ((c .before .day-number .ensures, before-is c .1), (omega (arith, number-is c, n, days-is), c .before .before .any-said .ensures))
-
 returns-2 : tie.Need-returns-2
 returns-2 c =
-    let t = dated (c .before .before) in
-    let e = sym (tested (c .before)) ∙ c .if1 .taken in
-    rw (number-is (c .before .before)) (date-agrees (f (from t)) (said-whole (from t)) (no-fault t) e)
+    let a = c .before .before in
+    let t = a .before .before in
+    let n = c .day-number .ensures ∙ ap (λ (x : Date). dayNumber (x .year) (x .month) (x .day)) (sym (is-valid t .1)) in
+    rw n (date-agrees (f (from t)) (said-whole (from t)) (no-fault t) (sym (tested a) ∙ c .before .if1 .taken))
 
 returns-3 : tie.Need-returns-3
 returns-3 c =
-    let t = dated (c .before .before) in
+    let t = c .before .before .before in
     date-differs (f (from t)) (said-whole (from t)) (no-fault t) (sym (tested (c .before)) ∙ c .if1 .left)
 
 pub search-date-spec : {M : Type 1} → statement M
@@ -156,10 +130,7 @@ search-date-spec =
     enum-known-date
     enum-told
     returns
-    any-said-requires
+    date-kinds-agree-requires
     day-number-requires
-    day-of-year-requires
-    sub-day-agrees
-    day-agrees-requires
     returns-2
     returns-3)
