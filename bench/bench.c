@@ -83,6 +83,14 @@ static void open_format(const char *f, enum larusqem_use use) {
     element_count = larusqem_open(f, format_length, use, elements, LARUSQEM_ELEMENTS).place;
 }
 
+/* a row of a table against the C library: its time, ours with the format opened each time, and ours with it opened once */
+static void row_to_c(void (*theirs)(void), void (*opened_anew)(void), void (*opened_once)(void)) {
+    struct racer r[] = {{theirs, 0}, {opened_anew, 0}, {opened_once, 0}};
+    race(r, COUNT(r), ROUNDS);
+    double c = r[0].best / DATES, anew = r[1].best / DATES, once = r[2].best / DATES;
+    printf("| `%s` | %.0f ns | %.0f ns | %.2f | %.0f ns | %.2f |\n", format, c, anew, anew / c, once, once / c);
+}
+
 /* ---- writing */
 
 static void write_theirs(void) {
@@ -112,12 +120,9 @@ static void writing(void) {
     static const char *formats[] = {"%c", "%F %T", "%G-W%V-%u", "%A %d %B %Y", "%-d %^b %_5Y"};
     printf("| write | C library | ours, format opened each time | ratio | ours, opened once | ratio |\n|---|---|---|---|---|---|\n");
     for (size_t k = 0; k < COUNT(formats); k++) {
-        struct racer r[] = {{write_theirs, 0}, {write_anew, 0}, {write_opened, 0}};
         open_format(formats[k], LARUSQEM_FOR_WRITING);
         check_writing();
-        race(r, COUNT(r), ROUNDS);
-        double c = r[0].best / DATES, anew = r[1].best / DATES, once = r[2].best / DATES;
-        printf("| `%s` | %.0f ns | %.0f ns | %.2f | %.0f ns | %.2f |\n", format, c, anew, anew / c, once, once / c);
+        row_to_c(write_theirs, write_anew, write_opened);
     }
     printf("\n");
 }
@@ -166,12 +171,9 @@ static void reading_clocks(void) {
     printf("| read, no day to judge | C library | ours, format opened each time | ratio | ours, opened once | ratio |\n");
     printf("|---|---|---|---|---|---|\n");
     for (size_t k = 0; k < COUNT(cases); k++) {
-        struct racer r[] = {{read_theirs, 0}, {read_anew, 0}, {read_opened, 0}};
         open_format(cases[k].format, LARUSQEM_FOR_READING);
         for (int i = 0; i < DATES; i++) text_lengths[i] = strlen(strcpy(texts[i], cases[k].text));
-        race(r, COUNT(r), ROUNDS);
-        double c = r[0].best / DATES, anew = r[1].best / DATES, once = r[2].best / DATES;
-        printf("| `%s` | %.0f ns | %.0f ns | %.2f | %.0f ns | %.2f |\n", format, c, anew, anew / c, once, once / c);
+        row_to_c(read_theirs, read_anew, read_opened);
     }
     printf("\n");
 }

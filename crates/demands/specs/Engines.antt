@@ -68,4 +68,5 @@ module _ (f s : List ℕ) where
     -- otherwise the budget changes nothing
     pub enough : (b : ℕ) → plainDays ≤ b → readingBy (Within b) f s ≡ readingBy Plain f s
     -- and a larger budget changes no reading that was not refused by 11
-    pub larger : (b c : ℕ) → b ≤ c → (readingBy (Within b) f s .number ≡ 11 → ⊥) → readingBy (Within c) f s ≡ readingBy (Within b) f s
+    pub larger : (b c : ℕ) → b ≤ c → (readingBy (Within b) f s .number ≡ 11 → ⊥)
+        → readingBy (Within c) f s ≡ readingBy (Within b) f s
