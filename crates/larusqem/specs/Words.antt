@@ -1,7 +1,7 @@
--- A moment and the reader's answer for C (RULES 10): six words and sixteen.
+-- A moment and the reader's answer for C (RULES 10): six words and eighteen.
 -- Those of an answer: 0 number, 1 place, 2 to 4 year, month and day, 5 and 6 whether the hour is said and which, 7 and 8 the minute,
--- 9 and 10 the second, 11 to 13 the second of two days, 14 the second of two hours, 15 the days examined. What the row of the number
--- does not name is 0.
+-- 9 and 10 the second, 11 to 13 the second of two days, 14 the second of two hours, 15 the days examined, 16 and 17 the form of the
+-- last weekday name and of the last month name. What the row of the number does not name is 0.
 use Prim.Native.Nat.{ℕ}
 use mathlib.Core.List.{List, [], _∷_, _++_}
 use lib.ListN.{getD}
@@ -15,6 +15,8 @@ use Rattle.strptime.specs.declared.Said.{Said}
 use Rattle.strptime.specs.declared.Said.the-variants.{Unsaid, Is}
 use Rattle.strptime.specs.declared.Shown.{Shown}
 use Rattle.strptime.specs.declared.Shown.the-variants.{Nothing, Days, Hours}
+use Rattle.text.specs.declared.names.NameForm.{NameForm}
+use Rattle.text.specs.declared.names.NameForm.the-variants.{NoName, Full, Middle, Short}
 
 -- the fields of a moment's words
 abbrev pub fieldsOf : List ℕ → Fields
@@ -42,6 +44,13 @@ abbrev pub numberOr0 : Said → ℕ
 numberOr0 Unsaid = 0
 numberOr0 (Is n) = n
 
+-- the form of a name: none, full, middle, short
+unfoldable pub formNumber : NameForm → ℕ
+formNumber NoName = 0
+formNumber Full = 1
+formNumber Middle = 2
+formNumber Short = 3
+
 -- words 2 to 14, by what is shown: nothing, two days, or two hours
 unfoldable pub more : Reading → Shown → List ℕ
 more r Nothing =
@@ -55,4 +64,6 @@ more r (Days a b) = a .year ∷ a .month ∷ a .day ∷ 0 ∷ 0 ∷ 0 ∷ 0 ∷ 
 more r (Hours a b) = 0 ∷ 0 ∷ 0 ∷ 0 ∷ a ∷ 0 ∷ 0 ∷ 0 ∷ 0 ∷ 0 ∷ 0 ∷ 0 ∷ b ∷ []
 
 unfoldable pub wordsOf : Reading → List ℕ
-wordsOf r = r .number ∷ r .place ∷ (more r (r .shown) ++ (r .examined ∷ []))
+wordsOf r =
+    r .number ∷ r .place
+    ∷ (more r (r .shown) ++ (r .examined ∷ formNumber (r .forms .weekday) ∷ formNumber (r .forms .month) ∷ []))

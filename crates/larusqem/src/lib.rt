@@ -14,9 +14,11 @@ use strftime::write_elements;
 use strftime::writing_of;
 use strptime::Answer;
 use strptime::Day;
+use strptime::Forms;
 use strptime::Said;
 use strptime::read_elements;
 use strptime::strptime;
+use text::NameForm;
 use values::date_value;
 ghost use mathlib.Core.Path.{_≡_};
 ghost use Prim.Native.Nat.{_<_, _^_};
@@ -25,12 +27,12 @@ ghost use Rattle.calendar.specs.Dates.{fromFields, fromDayNumber};
 ghost use Rattle.format.specs.Opening.{openedInto};
 ghost use Rattle.kinds.specs.Kinds.{weekday, dayOfYear, isoYear, isoWeek};
 ghost use Rattle.strftime.specs.Writing.{writing, elementsWriting};
-ghost use Rattle.strptime.specs.Answers.{showing, refused, finished, examining, readingOf, readingBy, elementsReadingBy};
+ghost use Rattle.strptime.specs.Answers.{showing, refused, finished, naming, examining, readingOf, readingBy, elementsReadingBy};
 ghost use Rattle.strptime.specs.declared.Shown.the-variants.{Days, Hours};
 ghost use Rattle.values.specs.Values.{dayNumberOf, dateValue};
 ghost use Rattle.larusqem.specs.Dates.{valueFrom, threeInOne, dateWord, versionWord};
 ghost use Rattle.larusqem.specs.Packed.{packed, packedWriting, packedReading, engineOf, sideOf, openedFor};
-ghost use Rattle.larusqem.specs.Words.{fieldsOf, dayOrZero, flag, numberOr0, wordsOf};
+ghost use Rattle.larusqem.specs.Words.{fieldsOf, dayOrZero, flag, numberOr0, formNumber, wordsOf};
 
 fn packed(number: u32, place: usize) -> u64
     requires { ⌜ place < 2 ^ 32 ⌝ }
@@ -146,8 +148,20 @@ fn number_or_0(said: Said) -> u32
     }
 }
 
+// The number of a name's form: 0 none, 1 full, 2 middle, 3 short.
+fn form_number(form: NameForm) -> u32
+    ensures { λ r. ⌜ r ≡ formNumber form ⌝ }
+{
+    match form {
+        NameForm::NoName => 0,
+        NameForm::Full => 1,
+        NameForm::Middle => 2,
+        NameForm::Short => 3,
+    }
+}
+
 // An answer's words, and its number and place, by what it shows. A refusal: nothing.
-fn refuse(number: u32, place: usize, examined: u32, words: &mut [u32; 16]) -> u64
+fn refuse(number: u32, place: usize, examined: u32, words: &mut [u32; 18]) -> u64
     requires { ⌜ place < 2 ^ 32 ⌝ }
     ensures { λ r. ⌜ r ≡ packed number place ⌝ }
     ensures { λ _. ⌜ now (words .exit) ≡ wordsOf (examining examined (refused number place)) ⌝ }
@@ -169,12 +183,14 @@ fn refuse(number: u32, place: usize, examined: u32, words: &mut [u32; 16]) -> u6
         0,
         0,
         examined,
+        0,
+        0,
     ];
     packed(number, place)
 }
 
 // Two days.
-fn show_days(first: Date, second: Date, examined: u32, words: &mut [u32; 16]) -> u64
+fn show_days(first: Date, second: Date, examined: u32, words: &mut [u32; 18]) -> u64
     ensures { λ r. ⌜ r ≡ packed 10 1 ⌝ }
     ensures { λ _. ⌜ now (words .exit) ≡ wordsOf (examining examined (showing 10 1 (Days first second))) ⌝ }
 {
@@ -195,12 +211,14 @@ fn show_days(first: Date, second: Date, examined: u32, words: &mut [u32; 16]) ->
         second.day as u32,
         0,
         examined,
+        0,
+        0,
     ];
     packed(10, 1)
 }
 
 // Two hours.
-fn show_hours(first: u32, second: u32, examined: u32, words: &mut [u32; 16]) -> u64
+fn show_hours(first: u32, second: u32, examined: u32, words: &mut [u32; 18]) -> u64
     ensures { λ r. ⌜ r ≡ packed 10 2 ⌝ }
     ensures { λ _. ⌜ now (words .exit) ≡ wordsOf (examining examined (showing 10 2 (Hours first second))) ⌝ }
 {
@@ -221,6 +239,8 @@ fn show_hours(first: u32, second: u32, examined: u32, words: &mut [u32; 16]) -> 
         0,
         second,
         examined,
+        0,
+        0,
     ];
     packed(10, 2)
 }
@@ -232,12 +252,13 @@ fn finish(
     hour: Said,
     minute: Said,
     second: Said,
+    forms: Forms,
     examined: u32,
-    words: &mut [u32; 16],
+    words: &mut [u32; 18],
 ) -> u64
     requires { ⌜ place < 2 ^ 32 ⌝ }
     ensures { λ r. ⌜ r ≡ packed 0 place ⌝ }
-    ensures { λ _. ⌜ now (words .exit) ≡ wordsOf (examining examined (finished place day hour minute second)) ⌝ }
+    ensures { λ _. ⌜ now (words .exit) ≡ wordsOf (naming forms (examining examined (finished place day hour minute second))) ⌝ }
 {
     let date = day_or_zero(day);
     *words = [
@@ -257,12 +278,14 @@ fn finish(
         0,
         0,
         examined,
+        form_number(forms.weekday),
+        form_number(forms.month),
     ];
     packed(0, place)
 }
 
 // The same of any answer. The words come from the answer itself: a Reading between costs some 5 ns.
-fn tell(answer: Answer, words: &mut [u32; 16]) -> u64
+fn tell(answer: Answer, words: &mut [u32; 18]) -> u64
     requires { ⌜ readingOf answer .place < 2 ^ 32 ⌝ }
     ensures { λ r. ⌜ r ≡ packedReading (readingOf answer) ⌝ }
     ensures { λ _. ⌜ now (words .exit) ≡ wordsOf (readingOf answer) ⌝ }
@@ -274,8 +297,9 @@ fn tell(answer: Answer, words: &mut [u32; 16]) -> u64
             hour,
             minute,
             second,
+            forms,
             examined,
-        } => finish(unread, day, hour, minute, second, examined, words),
+        } => finish(unread, day, hour, minute, second, forms, examined, words),
         Answer::FormatTooLong => refuse(1, 0, 0, words),
         Answer::TextTooLong => refuse(5, 0, 0, words),
         Answer::BadConversion { at } => refuse(3, at, 0, words),
@@ -318,7 +342,7 @@ pub extern "C" fn larusqem_strptime_words(
     text: &[u8],
     engine: u32,
     budget: u32,
-    words: &mut [u32; 16],
+    words: &mut [u32; 18],
 ) -> u64
     ensures { λ r. ⌜ r ≡ packedReading (readingBy (engineOf engine budget) (now (format .entry)) (now (text .entry))) ⌝ }
     ensures { λ _. ⌜ now (words .exit) ≡ wordsOf (readingBy (engineOf engine budget) (now (format .entry)) (now (text .entry))) ⌝ }
@@ -333,7 +357,7 @@ pub extern "C" fn larusqem_read_words(
     text: &[u8],
     engine: u32,
     budget: u32,
-    words: &mut [u32; 16],
+    words: &mut [u32; 18],
 ) -> u64
     ensures { λ r. ⌜ r ≡ packedReading (elementsReadingBy (engineOf engine budget) (now (elements .entry)) (now (text .entry))) ⌝ }
     ensures { λ _. ⌜ now (words .exit)

@@ -1,6 +1,6 @@
 // Runs the reader on the cases that compare/src/bin/vectors/read.rs makes. The input is pairs of lines: a format, and a text. A line of the
-// output is `number place date hour minute second | shown | examined`: what is unsaid is -, shown has the first two days or hours of number
-// 10, and the days examined are those of the engine that skips.
+// output is `number place date hour minute second | shown | examined | weekday month`: what is unsaid is -, shown has the first two days or
+// hours of number 10, the days examined are those of the engine that skips, and last come the forms of names.
 use calendar::Date;
 use judge::Engine;
 use libc::STDOUT_FILENO;
@@ -11,6 +11,7 @@ use strptime::Said;
 use strptime::Shown;
 use strptime::reading_of;
 use strptime::strptime;
+use text::NameForm;
 ghost use mathlib.Core.Path.{_≡_};
 ghost use Prim.Native.Nat.{_+_, min};
 ghost use lib.ListN.{length};
@@ -71,11 +72,22 @@ fn print_shown(shown: Shown) {
     }
 }
 
+fn print_form(form: NameForm) {
+    print(b" ");
+    match form {
+        NameForm::NoName => print(b"-"),
+        NameForm::Full => print(b"full"),
+        NameForm::Middle => print(b"middle"),
+        NameForm::Short => print(b"short"),
+    }
+}
+
 fn print_reading(reading: Reading) {
     let day = reading.day;
     let hour = reading.hour;
     let minute = reading.minute;
     let second = reading.second;
+    let forms = reading.forms;
     let shown = reading.shown;
     print_number(reading.number);
     print(b" ");
@@ -89,6 +101,9 @@ fn print_reading(reading: Reading) {
     print_shown(shown);
     print(b" | ");
     print_number(reading.examined);
+    print(b" |");
+    print_form(forms.weekday);
+    print_form(forms.month);
     print(b"\n");
 }
 

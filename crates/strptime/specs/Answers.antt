@@ -17,13 +17,14 @@ use Rattle.judge.specs.declared.Searched.{Searched}
 use Rattle.judge.specs.declared.Searched.the-variants.{Judged, OverBudget as TooFew}
 use Rattle.judge.specs.declared.Verdict.{Verdict}
 use Rattle.judge.specs.declared.Verdict.the-variants.{Unsaid as NotSaid, Impossible, Open, Agreed}
-use Rattle.strptime.specs.Reading.{start, readAll}
+use Rattle.strptime.specs.Reading.{start, noForms, readAll}
 use Rattle.strptime.specs.declared.Answer.{Answer}
 use Rattle.strptime.specs.declared.Answer.the-variants.{Done, FormatTooLong, TextTooLong, BadConversion}
 use Rattle.strptime.specs.declared.Answer.the-variants.{NoMatch, OutOfRange, Contradiction}
 use Rattle.strptime.specs.declared.Answer.the-variants.{NoDay, NoHour, OpenDay, OpenHour, OverBudget}
 use Rattle.strptime.specs.declared.Day.{Day}
 use Rattle.strptime.specs.declared.Day.the-variants.{NoDate, On}
+use Rattle.strptime.specs.declared.Forms.{Forms}
 use Rattle.strptime.specs.declared.Outcome.{Outcome}
 use Rattle.strptime.specs.declared.Outcome.the-variants.{Read, Mismatch, Range, Conflict}
 use Rattle.strptime.specs.declared.Reading.{Reading}
@@ -35,17 +36,53 @@ use Rattle.strptime.specs.declared.State.{State}
 
 -- ---- the numbers
 
--- a number and a place, and what is shown; all else is unsaid, and no day was examined
+-- a number and a place, and what is shown; all else is unsaid, no name has a form, and no day was examined
 unfoldable pub showing : ℕ → ℕ → Shown → Reading
 showing n p x =
-    record { number = n; place = p; day = NoDate; hour = Unsaid; minute = Unsaid; second = Unsaid; shown = x; examined = 0 }
+    record {
+      number = n;
+      place = p;
+      day = NoDate;
+      hour = Unsaid;
+      minute = Unsaid;
+      second = Unsaid;
+      forms = noForms;
+      shown = x;
+      examined = 0;
+    }
 
 unfoldable pub refused : ℕ → ℕ → Reading
 refused n p = showing n p Nothing
 
 -- 0, with the first offset that was not read, and what is said of day, hour, minute and second
 unfoldable pub finished : ℕ → Day → Said → Said → Said → Reading
-finished p d h m s = record { number = 0; place = p; day = d; hour = h; minute = m; second = s; shown = Nothing; examined = 0 }
+finished p d h m s =
+    record {
+      number = 0;
+      place = p;
+      day = d;
+      hour = h;
+      minute = m;
+      second = s;
+      forms = noForms;
+      shown = Nothing;
+      examined = 0;
+    }
+
+-- a reading with the forms of the names that were read: a refused one gives none
+unfoldable pub naming : Forms → Reading → Reading
+naming fs r =
+    record {
+      number = r .number;
+      place = r .place;
+      day = r .day;
+      hour = r .hour;
+      minute = r .minute;
+      second = r .second;
+      forms = cond (eqb (r .number) 0) fs noForms;
+      shown = r .shown;
+      examined = r .examined;
+    }
 
 -- a reading with the days that were examined for it
 unfoldable pub examining : ℕ → Reading → Reading
@@ -57,6 +94,7 @@ examining n r =
       hour = r .hour;
       minute = r .minute;
       second = r .second;
+      forms = r .forms;
       shown = r .shown;
       examined = n;
     }
@@ -67,7 +105,7 @@ overBudget b = examining b (refused 11 b)
 
 -- the number, place and values of each answer
 unfoldable pub readingOf : Answer → Reading
-readingOf (Done p d h m s n) = examining n (finished p d h m s)
+readingOf (Done p d h m s fs n) = naming fs (examining n (finished p d h m s))
 readingOf FormatTooLong = refused 1 0
 readingOf TextTooLong = refused 5 0
 readingOf (BadConversion p) = refused 3 p
@@ -114,16 +152,16 @@ judged e t = withSearched t (searched e (t .facts)) (hourVerdict (t .facts))
 
 -- ---- the whole order, by an engine
 
--- 6, 7 or 8 where the reading of the elements met one, else the judging
-unfoldable pub concluded : Engine → State → Outcome → Reading
-concluded e t Read = judged e t
-concluded e t (Mismatch p) = refused 6 p
-concluded e t (Range p) = refused 7 p
-concluded e t (Conflict p) = refused 8 p
+-- 6, 7 or 8 where the reading of the elements met one, else the judging, with the forms of names
+unfoldable pub concluded : Engine → State → Forms → Outcome → Reading
+concluded e t fs Read = naming fs (judged e t)
+concluded e t fs (Mismatch p) = refused 6 p
+concluded e t fs (Range p) = refused 7 p
+concluded e t fs (Conflict p) = refused 8 p
 
 -- a text read by elements
 unfoldable pub readBy : Engine → List ℕ → List ℕ → Reading
-readBy e es s = let r = readAll es s start in concluded e (r .state) (r .outcome)
+readBy e es s = let r = readAll es s start noForms in concluded e (r .state) (r .forms) (r .outcome)
 
 -- 3, then by the elements of a format
 unfoldable pub byFormat : Engine → List ℕ → List ℕ → Reading
@@ -162,6 +200,6 @@ elementsReading es s = elementsReadingBy Skipping es s
 
 -- everything here, for proofs that compute
 unfoldable pub computes : Unit {0}
-unfolding showing refused finished examining overBudget readingOf saidOf done withHour withDay withSearched judged concluded
+unfolding showing refused finished naming examining overBudget readingOf saidOf done withHour withDay withSearched judged concluded
     readBy byFormat byElements unlessLong readingBy elementsReadingBy
 computes = tt

@@ -15,6 +15,7 @@ use Rattle.text.specs.Digits.{digitRun, decimal}
 use Rattle.text.specs.Names.{readName}
 use Rattle.text.specs.Naming.{valueAt}
 use Rattle.text.specs.Space.{isSpace, spaces}
+use Rattle.text.specs.declared.names.NameForm.the-variants.{NoName}
 use Rattle.text.specs.declared.names.NameRead.{NameRead}
 use Rattle.text.specs.declared.names.NameRead.the-variants.{Found, Nothing}
 use Rattle.text.specs.declared.names.Names.{Names}
@@ -28,12 +29,12 @@ ordinary b (c ∷ s) at = cond (eqb c b) (Skip (at + 1)) (NoMatch at)
 unfoldable pub readByte : ℕ → List ℕ → ℕ → Item
 readByte b s at = cond (isSpace b) (Skip (at + spaces (drop at s))) (ordinary b (drop at s) at)
 
--- digits found at an offset: at least one, and in range
+-- digits found at an offset: at least one, and in range; a number is no name
 unfoldable pub ranged : Conversion → List ℕ → ℕ → Item
 ranged c ds from =
     let v = decimal 0 ds in
     cond (eqb (length ds) 0) (NoMatch from)
-    (cond (leb (c .low) v && leb v (c .high)) (Fact (c .kind) v from (from + length ds)) (OutOfRange from))
+    (cond (leb (c .low) v && leb v (c .high)) (Fact (c .kind) v NoName from (from + length ds)) (OutOfRange from))
 
 -- a number: white space before it is skipped, then as many digits as stand there are taken, at most as many as its width
 unfoldable pub readNumber : Conversion → List ℕ → ℕ → Item
@@ -44,13 +45,13 @@ readNumber c s at =
 -- 0 by %w is Sunday, 7
 unfoldable pub fromSunday : Item → Item
 fromSunday (Skip next) = Skip next
-fromSunday (Fact k n from next) = Fact k (cond (eqb n 0) 7 n) from next
+fromSunday (Fact k n f from next) = Fact k (cond (eqb n 0) 7 n) f from next
 fromSunday (NoMatch p) = NoMatch p
 fromSunday (OutOfRange p) = OutOfRange p
 
--- a name, which must stand right there
+-- a name, which must stand right there, in one of its forms
 unfoldable pub named : Names → ℕ → NameRead → ℕ → Item
-named t k (Found i n) at = Fact k (valueAt t i) at (at + n)
+named t k (Found i n f) at = Fact k (valueAt t i) f at (at + n)
 named t k Nothing at = NoMatch at
 
 unfoldable pub readNamed : Names → Conversion → List ℕ → ℕ → Item

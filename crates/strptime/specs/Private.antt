@@ -1,12 +1,13 @@
 -- What the reader's functions hand each other.
 use Rattle.judge.specs.Verdicts.{hourVerdict}
-use Rattle.strptime.specs.Answers.{examining, readingOf, withHour}
+use Rattle.strptime.specs.Answers.{examining, naming, readingOf, withHour}
+use Rattle.strptime.specs.declared.Forms.{Forms}
 use Rattle.strptime.specs.declared.Reading.{Reading}
 use Rattle.strptime.specs.declared.State.{State}
 use Rattle.strptime.specs.declared.answers.Dated.{Dated}
 use Rattle.strptime.specs.declared.answers.Dated.the-variants.{Fixed, Refused}
 
 -- what becomes of a reading once its day is judged: the hour is, or the answer stands
-unfoldable pub withDated : State → Dated → Reading
-withDated t (Fixed d n) = examining n (withHour t d (hourVerdict (t .facts)))
-withDated t (Refused a) = readingOf a
+unfoldable pub withDated : State → Forms → Dated → Reading
+withDated t fs (Fixed d n) = naming fs (examining n (withHour t d (hourVerdict (t .facts))))
+withDated t fs (Refused a) = readingOf a

@@ -1,13 +1,14 @@
--- Reading the elements from left to right, with the facts so far.
+-- Reading the elements from left to right, with the facts and the forms of names so far.
 use Prim.Native.Nat.{ℕ, suc}
 use mathlib.Core.Bool.{Bool, true, false, cond, _||_}
 use mathlib.Core.List.{List, [], _∷_}
 use lib.Dec.{eqb}
 use lib.ListN.{set, replicate}
-use Rattle.kinds.specs.Kinds.{kinds}
+use Rattle.kinds.specs.Kinds.{kinds, weekday, month}
 use Rattle.judge.specs.Agreement.{said}
 use Rattle.judge.specs.declared.Facts.{Facts}
 use Rattle.strptime.specs.Elements.{readElement}
+use Rattle.strptime.specs.declared.Forms.{Forms}
 use Rattle.strptime.specs.declared.Outcome.{Outcome}
 use Rattle.strptime.specs.declared.Outcome.the-variants.{Read, Mismatch, Range, Conflict}
 use Rattle.strptime.specs.declared.State.{State}
@@ -15,6 +16,8 @@ use Rattle.strptime.specs.declared.Stepped.{Stepped}
 use Rattle.strptime.specs.declared.elements.Item.{Item}
 use Rattle.strptime.specs.declared.elements.Item.the-variants.{Skip, Fact, NoMatch, OutOfRange}
 use Rattle.strptime.specs.declared.steps.Step.{Step}
+use Rattle.text.specs.declared.names.NameForm.{NameForm}
+use Rattle.text.specs.declared.names.NameForm.the-variants.{NoName, Full, Middle, Short}
 
 -- nothing said yet
 unfoldable pub unsaid : Facts
@@ -28,35 +31,54 @@ abbrev pub here : List ℕ → ℕ → State
 here said at = record { facts = record { said = said }; at = at }
 
 -- a reading that goes on, and one that is refused and stays where it was
-unfoldable pub goes : Facts → ℕ → Stepped
-goes f at = record { state = record { facts = f; at = at }; outcome = Read }
+unfoldable pub goes : Facts → Forms → ℕ → Stepped
+goes f fs at = record { state = record { facts = f; at = at }; forms = fs; outcome = Read }
 
-unfoldable pub stays : State → Outcome → Stepped
-stays t o = record { state = t; outcome = o }
+unfoldable pub stays : State → Forms → Outcome → Stepped
+stays t fs o = record { state = t; forms = fs; outcome = o }
 
 -- what one step answers, with what was said after it
 abbrev pub stepped : List ℕ → Step → Stepped
-stepped said r = stays (here said (r .at)) (r .outcome)
+stepped said r = stays (here said (r .at)) (r .forms) (r .outcome)
 
 -- the facts with one more
 unfoldable pub noted : Facts → ℕ → ℕ → Facts
 noted f k n = record { said = set (f .said) k (suc n) }
 
--- a kind may be said again with the same number; with another, that is 8 (RULES 7)
-unfoldable pub tell : State → ℕ → ℕ → ℕ → ℕ → Stepped
-tell t k n from next =
-    cond (eqb (said (t .facts) k) 0 || eqb (said (t .facts) k) (suc n)) (goes (noted (t .facts) k n) next)
-    (stays t (Conflict from))
+-- no name read yet
+unfoldable pub noForms : Forms
+noForms = record { weekday = NoName; month = NoName }
 
-unfoldable pub taken : State → Item → Stepped
-taken t (Skip next) = goes (t .facts) next
-taken t (Fact k n from next) = tell t k n from next
-taken t (NoMatch p) = stays t (Mismatch p)
-taken t (OutOfRange p) = stays t (Range p)
+-- the form of a later name takes the place of the one before; where no name stands, that one stays
+unfoldable pub later : NameForm → NameForm → NameForm
+later before NoName = before
+later before Full = Full
+later before Middle = Middle
+later before Short = Short
+
+-- the forms with that of a fact of a kind
+unfoldable pub met : Forms → ℕ → NameForm → Forms
+met fs k f =
+    record {
+      weekday = cond (eqb k weekday) (later (fs .weekday) f) (fs .weekday);
+      month = cond (eqb k month) (later (fs .month) f) (fs .month);
+    }
+
+-- a kind may be said again with the same number; with another, that is 8 (RULES 7)
+unfoldable pub tell : State → Forms → ℕ → ℕ → NameForm → ℕ → ℕ → Stepped
+tell t fs k n f from next =
+    cond (eqb (said (t .facts) k) 0 || eqb (said (t .facts) k) (suc n)) (goes (noted (t .facts) k n) (met fs k f) next)
+    (stays t fs (Conflict from))
+
+unfoldable pub taken : State → Forms → Item → Stepped
+taken t fs (Skip next) = goes (t .facts) fs next
+taken t fs (Fact k n f from next) = tell t fs k n f from next
+taken t fs (NoMatch p) = stays t fs (Mismatch p)
+taken t fs (OutOfRange p) = stays t fs (Range p)
 
 -- one element is read
-unfoldable pub stepOn : ℕ → List ℕ → State → Stepped
-stepOn e s t = taken t (readElement e s (t .at))
+unfoldable pub stepOn : ℕ → List ℕ → State → Forms → Stepped
+stepOn e s t fs = taken t fs (readElement e s (t .at))
 
 unfoldable pub isRead : Outcome → Bool
 isRead Read = true
@@ -65,14 +87,14 @@ isRead (Range p) = false
 isRead (Conflict p) = false
 
 -- the elements in order, up to the first refusal
-unfoldable pub readAll : List ℕ → List ℕ → State → Stepped
-readAll [] s t = stays t Read
-readAll (e ∷ es) s t =
-    let r = stepOn e s t in
-    let more = readAll es s (r .state) in
+unfoldable pub readAll : List ℕ → List ℕ → State → Forms → Stepped
+readAll [] s t fs = stays t fs Read
+readAll (e ∷ es) s t fs =
+    let r = stepOn e s t fs in
+    let more = readAll es s (r .state) (r .forms) in
     cond (isRead (r .outcome)) more r
 
 -- everything here, for proofs that compute
 unfoldable pub computes : Unit {0}
-unfolding unsaid start goes stays noted tell taken stepOn isRead readAll
+unfolding unsaid start goes stays noted noForms later met tell taken stepOn isRead readAll
 computes = tt

@@ -1,6 +1,7 @@
 // The reader's answer: what was read, then the day, then the hour.
 use crate::Answer;
 use crate::Day;
+use crate::Forms;
 use crate::Outcome;
 use crate::Reading;
 use crate::Said;
@@ -26,6 +27,7 @@ use judge::Searched;
 use judge::Verdict;
 use judge::judge_day;
 use judge::judge_hour;
+use text::NameForm;
 ghost use mathlib.Core.Path.{_≡_};
 ghost use Prim.Native.Nat.{_*_, _≤_, _<_};
 ghost use lib.ListN.{length};
@@ -33,8 +35,9 @@ ghost use Rattle.calendar.specs.Calendar.{days, dateOf};
 ghost use Rattle.format.specs.Opening.{longest};
 ghost use Rattle.judge.specs.Demand.{DayAgrees};
 ghost use Rattle.judge.specs.Verdicts.{dayVerdict, hourVerdict};
-ghost use Rattle.strptime.specs.Answers.{showing, refused, examining, readingOf, saidOf, done, withHour, withDay, judged};
+ghost use Rattle.strptime.specs.Answers.{showing, refused, examining, naming, readingOf, saidOf, done, withHour, withDay, judged};
 ghost use Rattle.strptime.specs.Private.{withDated};
+ghost use Rattle.strptime.specs.declared.Forms.{Forms};
 ghost use Rattle.strptime.specs.Answers.{readBy, unlessLong, readingBy, elementsReadingBy};
 
 // A number and a place, what is shown, and the days examined; all else is unsaid.
@@ -48,6 +51,10 @@ fn showing(number: u32, place: usize, shown: Shown, examined: u32) -> Reading
         hour: Said::Unsaid,
         minute: Said::Unsaid,
         second: Said::Unsaid,
+        forms: Forms {
+            weekday: NameForm::NoName,
+            month: NameForm::NoName,
+        },
         shown,
         examined,
     }
@@ -70,6 +77,7 @@ pub fn reading_of(answer: Answer) -> Reading
             hour,
             minute,
             second,
+            forms,
             examined,
         } => Reading {
             number: 0,
@@ -78,6 +86,7 @@ pub fn reading_of(answer: Answer) -> Reading
             hour,
             minute,
             second,
+            forms,
             shown: Shown::Nothing,
             examined,
         },
@@ -112,10 +121,10 @@ fn said_of(s: u32) -> Said
     Said::Is(s - 1)
 }
 
-// What follows has the days examined in its answer.
+// What follows has the days examined in its answer, and the forms of names where it is finished.
 
-fn done(state: State, day: Day, hour: Said, examined: u32) -> Answer
-    ensures { λ r. ⌜ readingOf r ≡ examining examined (done state day hour) ⌝ }
+fn done(state: State, forms: Forms, day: Day, hour: Said, examined: u32) -> Answer
+    ensures { λ r. ⌜ readingOf r ≡ naming forms (examining examined (done state day hour)) ⌝ }
 {
     let facts = state.facts;
     let said = facts.said;
@@ -125,22 +134,23 @@ fn done(state: State, day: Day, hour: Said, examined: u32) -> Answer
         hour,
         minute: said_of(said[kinds::MINUTE as usize]),
         second: said_of(said[kinds::SECOND as usize]),
+        forms,
         examined,
     }
 }
 
-fn with_hour(state: State, day: Day, examined: u32) -> Answer
-    ensures { λ r. ⌜ readingOf r ≡ examining examined (withHour state day (hourVerdict (state .facts))) ⌝ }
+fn with_hour(state: State, forms: Forms, day: Day, examined: u32) -> Answer
+    ensures { λ r. ⌜ readingOf r ≡ naming forms (examining examined (withHour state day (hourVerdict (state .facts)))) ⌝ }
 {
     match judge_hour(state.facts) {
-        Verdict::Unsaid => done(state, day, Said::Unsaid, examined),
+        Verdict::Unsaid => done(state, forms, day, Said::Unsaid, examined),
         Verdict::Impossible => Answer::NoHour { examined },
         Verdict::Open { first, second } => Answer::OpenHour {
             first,
             second,
             examined,
         },
-        Verdict::Agreed(hour) => done(state, day, Said::Is(hour), examined),
+        Verdict::Agreed(hour) => done(state, forms, day, Said::Is(hour), examined),
     }
 }
 
@@ -185,7 +195,8 @@ fn said_date(facts: Facts, number: u32) -> Date
 
 fn by_verdict(state: State, verdict: Verdict, examined: u32) -> Dated
     requires { ⌜ verdict ≡ dayVerdict (state .facts) ⌝ }
-    ensures { λ r. ⌜ withDated state r ≡ examining examined (withDay state verdict (hourVerdict (state .facts))) ⌝ }
+    ensures { λ r. ⌜ (forms : Forms)
+        → withDated state forms r ≡ naming forms (examining examined (withDay state verdict (hourVerdict (state .facts)))) ⌝ }
 {
     match verdict {
         Verdict::Unsaid => Dated::Fixed {
@@ -210,7 +221,7 @@ fn by_verdict(state: State, verdict: Verdict, examined: u32) -> Dated
 }
 
 fn date_by(engine: Engine, state: State) -> Dated
-    ensures { λ r. ⌜ withDated state r ≡ judged engine state ⌝ }
+    ensures { λ r. ⌜ (forms : Forms) → withDated state forms r ≡ naming forms (judged engine state) ⌝ }
 {
     match judge_day(engine, state.facts) {
         Searched::Judged { verdict, examined } => by_verdict(state, verdict, examined),
@@ -221,11 +232,11 @@ fn date_by(engine: Engine, state: State) -> Dated
 }
 
 // The day, then the hour. It is asked for at one place, so that the compiler puts it there: a call would hand the answer on in memory.
-fn judged(engine: Engine, state: State) -> Answer
-    ensures { λ r. ⌜ readingOf r ≡ judged engine state ⌝ }
+fn judged(engine: Engine, state: State, forms: Forms) -> Answer
+    ensures { λ r. ⌜ readingOf r ≡ naming forms (judged engine state) ⌝ }
 {
     match date_by(engine, state) {
-        Dated::Fixed { day, examined } => with_hour(state, day, examined),
+        Dated::Fixed { day, examined } => with_hour(state, forms, day, examined),
         Dated::Refused { answer } => answer,
     }
 }
@@ -237,7 +248,7 @@ fn read_by(engine: Engine, elements: &[u32], s: &[u8]) -> Answer
     let stepped = read_all(elements, s);
     let outcome = stepped.outcome;
     match outcome {
-        Outcome::Read => judged(engine, stepped.state),
+        Outcome::Read => judged(engine, stepped.state, stepped.forms),
         Outcome::Mismatch { at } => Answer::NoMatch { at },
         Outcome::Range { at } => Answer::OutOfRange { at },
         Outcome::Conflict { at } => Answer::Contradiction { at },

@@ -2,6 +2,7 @@
 use format::Conversion;
 use format::Form;
 use format::conversion_of;
+use text::NameForm;
 use text::NameRead;
 use text::Names;
 use text::is_space;
@@ -14,7 +15,8 @@ ghost use Prim.Native.Nat.{_≤_};
 ghost use lib.ListN.{length};
 ghost use Rattle.strptime.specs.Elements.{readByte, readNumber, fromSunday, readNamed, readConversion, readElement};
 
-// What an element found: nothing to say, a fact with the offset of its first digit or letter, or a refusal with its place.
+// What an element found: nothing to say, a fact with its form if it is a name and with the offset of its first digit or letter, or a
+// refusal with its place.
 pub enum Item {
     Skip {
         next: usize,
@@ -22,6 +24,7 @@ pub enum Item {
     Fact {
         kind: u32,
         number: u32,
+        form: NameForm,
         from: usize,
         next: usize,
     },
@@ -70,6 +73,7 @@ fn read_number(c: Conversion, s: &[u8], at: usize) -> Item
     Item::Fact {
         kind: c.kind,
         number: digits.value,
+        form: NameForm::NoName,
         from: start,
         next: start + digits.count,
     }
@@ -82,6 +86,7 @@ fn from_sunday(item: Item) -> Item
         Item::Fact {
             kind,
             number,
+            form,
             from,
             next,
         } => {
@@ -89,6 +94,7 @@ fn from_sunday(item: Item) -> Item
                 return Item::Fact {
                     kind,
                     number: 7,
+                    form,
                     from,
                     next,
                 };
@@ -96,6 +102,7 @@ fn from_sunday(item: Item) -> Item
             Item::Fact {
                 kind,
                 number,
+                form,
                 from,
                 next,
             }
@@ -111,9 +118,14 @@ fn read_named(names: Names, c: Conversion, s: &[u8], at: usize) -> Item
     ensures { λ r. ⌜ r ≡ readNamed names c (now (s .entry)) at ⌝ }
 {
     match read_name(names, s, at) {
-        NameRead::Found { index, length } => Item::Fact {
+        NameRead::Found {
+            index,
+            length,
+            form,
+        } => Item::Fact {
             kind: c.kind,
             number: value_at(names, index as u8),
+            form,
             from: at,
             next: at + length,
         },

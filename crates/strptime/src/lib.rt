@@ -1,6 +1,7 @@
 // The reader (RULES 6): a format and a text; the facts that the text says, and the day and hour that they fix.
 use calendar::Date;
 use judge::Facts;
+use text::NameForm;
 
 mod answers;
 mod elements;
@@ -16,6 +17,12 @@ pub struct State {
     pub at: usize,
 }
 
+// The forms of the last weekday name and of the last month name that were read.
+pub struct Forms {
+    pub weekday: NameForm,
+    pub month: NameForm,
+}
+
 // How the reading of elements went: all are read, or one is refused, with its place.
 pub enum Outcome {
     Read,
@@ -24,8 +31,10 @@ pub enum Outcome {
     Conflict { at: usize },
 }
 
+// The forms stand beside the state, and not in it: as two bytes of what is copied whole they would cost 7 ns a reading.
 pub struct Stepped {
     pub state: State,
+    pub forms: Forms,
     pub outcome: Outcome,
 }
 
@@ -57,6 +66,7 @@ pub enum Answer {
         hour: Said,
         minute: Said,
         second: Said,
+        forms: Forms,
         examined: u32,
     },
     FormatTooLong,
@@ -94,7 +104,7 @@ pub enum Answer {
     },
 }
 
-// The number, place and values of an answer (RULES 3), and how many days were examined for it.
+// The number, place and values of an answer (RULES 3), the forms of names in it, and how many days were examined for it.
 pub struct Reading {
     pub number: u32,
     pub place: usize,
@@ -102,6 +112,7 @@ pub struct Reading {
     pub hour: Said,
     pub minute: Said,
     pub second: Said,
+    pub forms: Forms,
     pub shown: Shown,
     pub examined: u32,
 }

@@ -1,15 +1,20 @@
 -- Names: seven weekdays, twelve months, the two halves of the day (RULES 5); and how a name is read (RULES 6).
 use Prim.Native.Nat.{ℕ, suc}
+use Prim.Native.String.{String}
 use mathlib.Core.Bool.{Bool, true, false, cond}
-use mathlib.Core.List.{List, [], _∷_, map}
+use mathlib.Core.List.{List, [], _∷_, _++_, map}
 use lib.Dec.{eqb}
 use lib.ListN.{length, getD, take}
 use Rattle.laws.specs.Bytes.{bytes}
 use Rattle.text.specs.Case.{fold}
 use Rattle.text.specs.declared.names.Names.{Names}
 use Rattle.text.specs.declared.names.Names.the-variants.{Weekdays, Months, Halves}
+use Rattle.text.specs.declared.names.NameForm.{NameForm}
+use Rattle.text.specs.declared.names.NameForm.the-variants.{Full, Middle, Short}
 use Rattle.text.specs.declared.names.NameRead.{NameRead}
 use Rattle.text.specs.declared.names.NameRead.the-variants.{Found, Nothing}
+
+-- ---- the names, as they are written
 
 unfoldable pub weekdayNames : List (List ℕ)
 weekdayNames =
@@ -38,26 +43,52 @@ nameAt t i = getD (namesOf t) i []
 abbrev pub short : List ℕ → List ℕ
 short n = take 3 n
 
--- a text goes on with a name, compared without case
+-- ---- their forms, as they are read
+
+-- a form of a name: its letters, the place of the name in its table, and which form it is
+pub record Form : Type 0 where
+  pub letters : List ℕ
+  pub index : ℕ
+  pub form : NameForm
+
+-- the middle forms, which old records have; the longest stands first
+unfoldable pub middle : String → ℕ → Form
+middle x i = record { letters = bytes x; index = i; form = Middle }
+
+unfoldable pub middlesOf : Names → List Form
+middlesOf Weekdays = middle "Thurs" 3 ∷ middle "Tues" 1 ∷ middle "Thur" 3 ∷ []
+middlesOf Months = middle "Sept" 8 ∷ []
+middlesOf Halves = []
+
+-- one form of each name, counted from i
+unfoldable pub eachAs : NameForm → ℕ → List (List ℕ) → List Form
+eachAs f i [] = []
+eachAs f i (n ∷ ns) = record { letters = n; index = i; form = f } ∷ eachAs f (suc i) ns
+
+-- all forms of a table in the order in which they are tried: the full names, then the others, the longest first
+unfoldable pub formsOf : Names → List Form
+formsOf t = eachAs Full 0 (namesOf t) ++ (middlesOf t ++ eachAs Short 0 (map short (namesOf t)))
+
+-- ---- reading
+
+-- a text goes on with some letters, compared without case
 unfoldable pub goesOn : List ℕ → List ℕ → Bool
 goesOn [] s = true
 goesOn (a ∷ n) [] = false
 goesOn (a ∷ n) (b ∷ s) = let more = goesOn n s in cond (eqb (fold a) (fold b)) more false
 
--- the first of some names, counted from i, that a text goes on with, and its length
-unfoldable pub firstName : ℕ → List (List ℕ) → List ℕ → NameRead
-firstName i [] s = Nothing
-firstName i (n ∷ ns) s = let more = firstName (suc i) ns s in cond (goesOn n s) (Found i (length n)) more
+-- the first of some forms that a text goes on with
+unfoldable pub firstForm : List Form → List ℕ → NameRead
+firstForm [] s = Nothing
+firstForm (x ∷ xs) s =
+    let more = firstForm xs s in
+    cond (goesOn (x .letters) s) (Found (x .index) (length (x .letters)) (x .form)) more
 
-unfoldable pub orElse : NameRead → NameRead → NameRead
-orElse (Found i n) r = Found i n
-orElse Nothing r = r
-
--- a name of a table at the start of a text: full names go before short ones
+-- a name of a table at the start of a text, and the form in which it stands there
 unfoldable pub readName : Names → List ℕ → NameRead
-readName t s = let shorter = firstName 0 (map short (namesOf t)) s in orElse (firstName 0 (namesOf t) s) shorter
+readName t s = firstForm (formsOf t) s
 
 -- the tables, for a proof that computes
 unfoldable pub computes : Unit {0}
-unfolding bytes weekdayNames monthNames halfNames namesOf nameAt
+unfolding bytes weekdayNames monthNames halfNames namesOf nameAt middle middlesOf eachAs formsOf
 computes = tt

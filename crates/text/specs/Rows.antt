@@ -1,17 +1,37 @@
--- How the code holds and compares a name: what its private functions answer.
+-- How the code holds and compares names: what its private functions answer.
 use Prim.Native.Nat.{ℕ, suc}
-use mathlib.Core.Bool.{cond}
-use mathlib.Core.List.{List, [], _∷_, _++_}
+use mathlib.Core.Bool.{Bool, cond, _&&_}
+use mathlib.Core.List.{List, [], _∷_, _++_, map}
+use mathlib.Core.Path.{_≡_}
 use lib.Dec.{eqb}
-use lib.ListN.{take, replicate}
-use Rattle.text.specs.Case.{fold}
+use lib.ListN.{length, getD, take, replicate}
+use Rattle.text.specs.Names.{Form, namesOf, short, goesOn}
+use Rattle.text.specs.declared.names.Names.{Names}
 
 -- a name in its row of nine bytes, with blanks after it
 unfoldable pub padded : List ℕ → List ℕ
 padded n = take 9 (n ++ replicate 9 32)
 
--- how many letters of a name a text goes on with, compared without case
-unfoldable pub agreeing : List ℕ → List ℕ → ℕ
-agreeing [] s = 0
-agreeing (a ∷ n) [] = 0
-agreeing (a ∷ n) (b ∷ s) = let more = suc (agreeing n s) in cond (eqb (fold a) (fold b)) more 0
+-- some forms in three tables: their rows, their lengths and the places of their names
+pub record IsTable (xs : List Form) (rows : List (List ℕ)) (lengths places : List ℕ) : Type 0 where
+  pub rows-are : rows ≡ map (λ (x : Form). padded (x .letters)) xs
+  pub lengths-are : lengths ≡ map (λ (x : Form). length (x .letters)) xs
+  pub places-are : places ≡ map (λ (x : Form). x .index) xs
+
+-- three bytes are the same
+unfoldable pub same : List ℕ → List ℕ → Bool
+same x y = eqb (getD x 0 0) (getD y 0 0) && (eqb (getD x 1 0) (getD y 1 0) && eqb (getD x 2 0) (getD y 2 0))
+
+-- the place of the first row that has three bytes; how many rows there are if none has
+unfoldable pub placeOf : List (List ℕ) → List ℕ → ℕ
+placeOf [] k = 0
+placeOf (r ∷ rs) k = let more = suc (placeOf rs k) in cond (same r k) 0 more
+
+-- the place of the first of some names that a text goes on with; how many there are if it goes on with none
+unfoldable pub placeIn : List (List ℕ) → List ℕ → ℕ
+placeIn [] s = 0
+placeIn (n ∷ ns) s = let more = suc (placeIn ns s) in cond (goesOn n s) 0 more
+
+-- the place of the name whose short form a text goes on with
+unfoldable pub shortPlace : Names → List ℕ → ℕ
+shortPlace t s = placeIn (map short (namesOf t)) s

@@ -9,6 +9,7 @@ pub use digits::is_digit;
 pub use digits::read_digits;
 pub use digits::write_number;
 pub use names::Case;
+pub use names::NameForm;
 pub use names::NameRead;
 pub use names::Names;
 pub use names::fold;
