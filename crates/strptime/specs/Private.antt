@@ -1,4 +1,5 @@
 -- What the reader's functions hand each other.
+use mathlib.Core.Path.{_≡_}
 use Rattle.judge.specs.Verdicts.{hourVerdict}
 use Rattle.strptime.specs.Answers.{examining, naming, readingOf, withHour}
 use Rattle.strptime.specs.declared.Forms.{Forms}
@@ -11,3 +12,7 @@ use Rattle.strptime.specs.declared.answers.Dated.the-variants.{Fixed, Re
 unfoldable pub withDated : State → Forms → Dated → Reading
 withDated t fs (Fixed d n) = naming fs (examining n (withHour t d (hourVerdict (t .facts))))
 withDated t fs (Refused a) = readingOf a
+
+-- with whichever forms of names were read, that is the reading r
+abbrev pub ComesTo : State → Reading → Dated → Type 0
+ComesTo t r d = (fs : Forms) → withDated t fs d ≡ naming fs r

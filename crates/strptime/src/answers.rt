@@ -36,8 +36,7 @@ ghost use Rattle.format.specs.Opening.{longest};
 ghost use Rattle.judge.specs.Demand.{DayAgrees};
 ghost use Rattle.judge.specs.Verdicts.{dayVerdict, hourVerdict};
 ghost use Rattle.strptime.specs.Answers.{showing, refused, examining, naming, readingOf, saidOf, done, withHour, withDay, judged};
-ghost use Rattle.strptime.specs.Private.{withDated};
-ghost use Rattle.strptime.specs.declared.Forms.{Forms};
+ghost use Rattle.strptime.specs.Private.{ComesTo};
 ghost use Rattle.strptime.specs.Answers.{readBy, unlessLong, readingBy, elementsReadingBy};
 
 // A number and a place, what is shown, and the days examined; all else is unsaid.
@@ -195,8 +194,7 @@ fn said_date(facts: Facts, number: u32) -> Date
 
 fn by_verdict(state: State, verdict: Verdict, examined: u32) -> Dated
     requires { ⌜ verdict ≡ dayVerdict (state .facts) ⌝ }
-    ensures { λ r. ⌜ (forms : Forms)
-        → withDated state forms r ≡ naming forms (examining examined (withDay state verdict (hourVerdict (state .facts)))) ⌝ }
+    ensures { λ r. ⌜ ComesTo state (examining examined (withDay state verdict (hourVerdict (state .facts)))) r ⌝ }
 {
     match verdict {
         Verdict::Unsaid => Dated::Fixed {
@@ -221,7 +219,7 @@ fn by_verdict(state: State, verdict: Verdict, examined: u32) -> Dated
 }
 
 fn date_by(engine: Engine, state: State) -> Dated
-    ensures { λ r. ⌜ (forms : Forms) → withDated state forms r ≡ naming forms (judged engine state) ⌝ }
+    ensures { λ r. ⌜ ComesTo state (judged engine state) r ⌝ }
 {
     match judge_day(engine, state.facts) {
         Searched::Judged { verdict, examined } => by_verdict(state, verdict, examined),
