@@ -1,9 +1,9 @@
 -- Laws that the proofs of several functions cite, and that callers may cite.
 pub mod Case
 pub mod Decimals
-pub mod Distinct
 pub mod Fill
-pub mod OnePass
+pub mod Forms
+pub mod Goes
 pub mod ReadBack
 pub mod Rows
 pub mod Spaces

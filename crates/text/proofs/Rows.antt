@@ -13,8 +13,8 @@ use Rattle.laws.specs.Lists.{every}
 use Rattle.laws.proofs.Lists.{each}
 use Rattle.laws.proofs.Stores.{sets-past}
 use Rattle.text.specs.Case.{fold, cased}
-use Rattle.text.specs.Names.{namesOf, nameAt, computes}
-use Rattle.text.specs.Rows.{padded, agreeing}
+use Rattle.text.specs.Names.{namesOf, nameAt, goesOn, computes}
+use Rattle.text.specs.Rows.{padded}
 use Rattle.text.specs.declared.names.Case.{Case}
 use Rattle.text.specs.declared.names.Names.{Names}
 use Rattle.text.specs.declared.names.Names.the-variants.{Weekdays, Months, Halves}
@@ -88,25 +88,21 @@ module _ (k : Case) (x buf : List ℕ) (j : ℕ) where
 
 -- ---- comparing
 
-none-left : (x : List ℕ) → agreeing x [] ≡ 0
-unfolding agreeing
-none-left [] = refl
-none-left (a ∷ x) = refl
-
 module _ (x s : List ℕ) (j k : ℕ) where
-  pub all-agree : length x ≤ j → agreeing (drop j x) (drop k s) ≡ 0
-  unfolding agreeing
-  all-agree h = rw (drop-of-length-le x h)
+  pub all-same : length x ≤ j → goesOn (drop j x) (drop k s) ≡ true
+  unfolding goesOn
+  all-same h = rw (drop-of-length-le x h)
 
-  pub at-end : length s ≤ k → agreeing (drop j x) (drop k s) ≡ 0
-  at-end h = rw (drop-of-length-le s h) (none-left (drop j x))
+  pub at-end : j < length x → length s ≤ k → goesOn (drop j x) (drop k s) ≡ false
+  unfolding goesOn
+  at-end h l = rw (drop-cons x j 0 h, drop-of-length-le s l)
 
   pub differs : {t : Bool} → j < length x → k < length s → t ≡ eqb (fold (getD x j 0)) (fold (getD s k 0)) → not t ≡ true
-      → agreeing (drop j x) (drop k s) ≡ 0
-  unfolding agreeing
+      → goesOn (drop j x) (drop k s) ≡ false
+  unfolding goesOn
   differs {t} h l e f = rw (drop-cons x j 0 h, drop-cons s k 0 l, ← e, not-true t f)
 
   pub agrees : {t : Bool} → j < length x → k < length s → t ≡ eqb (fold (getD x j 0)) (fold (getD s k 0)) → not t ≡ false
-      → agreeing (drop j x) (drop k s) ≡ suc (agreeing (drop (suc j) x) (drop (suc k) s))
-  unfolding agreeing
+      → goesOn (drop j x) (drop k s) ≡ goesOn (drop (suc j) x) (drop (suc k) s)
+  unfolding goesOn
   agrees {t} h l e f = rw (drop-cons x j 0 h, drop-cons s k 0 l, ← e, not-false t f)
