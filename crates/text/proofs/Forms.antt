@@ -242,19 +242,27 @@ module _ (t : Names) (s : List ℕ) where
   -- full names, middle forms, short forms
   in-order : readName t s
       ≡ orElse (firstForm (eachAs Full 0 (namesOf t)) s)
-        (orElse (firstForm (middlesOf t) s) (firstForm (eachAs Short 0 (map short (namesOf t))) s))
+      (orElse (firstForm (middlesOf t) s) (firstForm (eachAs Short 0 (map short (namesOf t))) s))
   unfolding readName formsOf othersOf
   in-order =
-      rw (first-append (eachAs Full 0 (namesOf t)) (othersOf t) s,
-        first-append (middlesOf t) (eachAs Short 0 (map short (namesOf t))) s) refl
+      rw (
+        first-append (eachAs Full 0 (namesOf t)) (othersOf t) s,
+        first-append (middlesOf t) (eachAs Short 0 (map short (namesOf t))) s,
+      ) refl
 
   -- the full name is tried first
   pub reads-full : (i : ℕ) → i < length (namesOf t) → goesOn (nameAt t i) s ≡ true → readName t s ≡ Found i (length (nameAt t i)) Full
   unfolding nameAt orElse
   reads-full i h g =
-      rw (in-order, each-first Full s 0 (namesOf t) i h g
-        (λ j l. fails (goesOn (nameAt t j) s) (λ f. absurd (omega (arith,
-          one-value (formed Full j (nameAt t j)) (formed Full i (nameAt t i)) (full-in j (omega arith)) (full-in i h) f g)))), zero-add i)
+      rw (
+        in-order,
+        each-first Full s 0 (namesOf t) i h g
+            (λ j l. fails (goesOn (nameAt t j) s) (λ f. absurd (omega (
+              arith,
+              one-value (formed Full j (nameAt t j)) (formed Full i (nameAt t i)) (full-in j (omega arith)) (full-in i h) f g,
+            )))),
+        zero-add i,
+      )
       refl
 
   -- then the others

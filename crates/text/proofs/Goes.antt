@@ -1,11 +1,12 @@
 -- When a text goes on with some letters, and with some of them.
-use Prim.Native.Nat.{ℕ, zero, suc, _≤_, zero-le, suc-le-suc}
+use Prim.Native.Nat.{ℕ, zero, suc, _+_, _≤_, _<_, zero-le, suc-le-suc}
 use mathlib.Core.Path.{_≡_, refl, sym, ap, _∙_}
 use mathlib.Core.Bool.{Bool, true, false, cond, false≢true}
 use mathlib.Core.List.{List, [], _∷_}
+use native.Mathlib.Omega.{arith}
 use borrow.Author.Tests.{eqb-true, eqb-false, eq-eqb, ne-eqb}
 use lib.Dec.{eqb}
-use lib.ListN.{length, take, drop}
+use lib.ListN.{length, take, drop, length-take, length-drop, drop-of-length-le}
 use Rattle.text.specs.Case.{fold}
 use Rattle.text.specs.Names.{short, goesOn}
 use Rattle.text.specs.Distinct.{apart}
@@ -57,6 +58,16 @@ shorter (suc k) (a ∷ x) [] g n = absurd (false≢true g)
 shorter (suc k) (a ∷ x) (b ∷ s) g n =
     let p = both (eqb (fold a) (fold b)) (goesOn (take k x) s) g in
     ap suc (shorter k x s (p .1) (rw (p .0) at n))
+
+module _ (x s : List ℕ) where
+  -- a name of at most three letters is its short form
+  pub is-short : length x ≤ 3 → goesOn (short x) s ≡ true → goesOn x s ≡ true
+  unfolding goesOn
+  is-short h g = parted 3 x s g ∙ rw (drop-of-length-le x h) refl
+
+  -- a longer one has its first three letters in the text
+  pub room : (at : ℕ) → 3 < length x → goesOn (short x) (drop at s) ≡ true → at + 3 ≤ length s
+  room at h g = let l = rw (length-take, length-drop) at (goes-length (short x) (drop at s) g) in omega arith
 
 carried : (t : Bool) {x y : Bool} → (x ≡ true → y ≡ true) → cond t x false ≡ true → cond t y false ≡ true
 carried true h e = h e

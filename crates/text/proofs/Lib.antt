@@ -4,7 +4,9 @@ pub mod Decimals
 pub mod Fill
 pub mod Forms
 pub mod Goes
+pub mod Middles
 pub mod ReadBack
 pub mod Rows
+pub mod Shorts
 pub mod Spaces
 pub mod Table

@@ -1,14 +1,14 @@
 -- A name held in its row; a text copied over a buffer; a name compared with a text.
-use Prim.Native.Nat.{ℕ, suc, _+_, _≤_, _<_}
+use Prim.Native.Nat.{ℕ, zero, suc, _+_, _-_, _≤_, _<_}
 use mathlib.Core.Path.{_≡_, refl, sym}
 use mathlib.Core.Bool.{Bool, true, false, not}
 use mathlib.Core.List.{List, [], _∷_, _++_, map}
-use native.Mathlib.Numerals.{add-one}
+use native.Mathlib.Numerals.{add-one, unary-clauses}
 use native.Mathlib.Omega.{arith}
 use borrow.Author.Tests.{leb-true, not-true, not-false}
 use lib.Dec.{eqb, leb}
 use lib.ListN.{length, getD, take, drop, set, replicate, length-append, length-take, length-map, length-replicate, drop-of-length-le}
-use lib.Seq.{sets, drop-cons, take-take, take-append-seam}
+use lib.Seq.{sets, drop-cons, take-take, take-append-seam, drop-nil, take-nil}
 use Rattle.laws.specs.Lists.{every}
 use Rattle.laws.proofs.Lists.{each}
 use Rattle.laws.proofs.Stores.{sets-past}
@@ -67,6 +67,13 @@ module _ (t : Names) {rows : List (List ℕ)} {lengths : List ℕ} (p : rows ≡
   pub tabled : (i : ℕ) → i < length (namesOf t) → Held t i (getD lengths i 0) (getD rows i [])
   unfolding nameAt
   tabled i h = held t i (rw e (entry length 0 (namesOf t) i h)) (rw p (entry padded [] (namesOf t) i h))
+
+-- a name after its first letters, in its row
+pub after-first : (k n : ℕ) (row : List ℕ) → take (n - k) (drop k row) ≡ drop k (take n row)
+after-first zero n row = simp unary-clauses refl
+after-first (suc k) zero row = let none : zero - suc k ≡ 0 = omega arith in rw none refl
+after-first (suc k) (suc n) [] = rw (drop-nil (suc k), take-nil (suc n - suc k)) refl
+after-first (suc k) (suc n) (b ∷ row) = simp unary-clauses (after-first k n row)
 
 -- ---- copying
 
