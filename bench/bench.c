@@ -197,7 +197,7 @@ static void check_reading(void) {
 
 /* readings with their conclusion: the day is judged, and theirs made a time */
 static void reading_dates(void) {
-    static const char *formats[] = {"%d %b %Y %H:%M", "%Y-%m-%d %H:%M"};
+    static const char *formats[] = {"%d %b %Y %H:%M", "%Y-%m-%d %H:%M", "%a %d %b %Y %H:%M", "%A %d %B %Y %H:%M", "%d %b %Y %I:%M %p"};
     printf("| read, day and time | C library, strptime and timegm | chrono, opened once | ours, format opened each time | "
            "to C | to chrono | ours, opened once | to C | to chrono |\n|---|---|---|---|---|---|---|---|---|\n");
     for (size_t k = 0; k < COUNT(formats); k++) {
@@ -225,6 +225,34 @@ static void reading_dates(void) {
 #endif
     }
     printf("\n");
+}
+
+/* the forms of a weekday and a month; the C library takes no middle one, so all three are ours */
+static const struct { const char *text; uint32_t form; } named[] = {{"Thu 6 Sep 1934", LARUSQEM_SHORT_NAME},
+                                                                    {"Thurs 6 Sept 1934", LARUSQEM_MIDDLE_NAME},
+                                                                    {"Thursday 6 September 1934", LARUSQEM_FULL_NAME}};
+
+static void read_named(size_t k) {
+    size_t length = strlen(named[k].text);
+    for (int i = 0; i < DATES; i++) sink += larusqem_read(elements, element_count, named[k].text, length).place;
+}
+
+static void read_short(void) { read_named(0); }
+static void read_middle(void) { read_named(1); }
+static void read_full(void) { read_named(2); }
+
+static void reading_forms(void) {
+    struct racer r[] = {{read_short, 0}, {read_middle, 0}, {read_full, 0}};
+    open_format("%a %d %b %Y", LARUSQEM_FOR_READING);
+    for (size_t k = 0; k < COUNT(named); k++) {
+        struct larusqem_reading reading = larusqem_read(elements, element_count, named[k].text, strlen(named[k].text));
+        if (reading.number != LARUSQEM_DONE || reading.weekday_form != named[k].form || reading.month_form != named[k].form)
+            fail("not read in its form", format, named[k].text);
+    }
+    race(r, COUNT(r), ROUNDS);
+    double s = r[0].best / DATES, m = r[1].best / DATES, f = r[2].best / DATES;
+    printf("| read, opened once | short names | middle forms | to short | full names | to short |\n|---|---|---|---|---|---|\n");
+    printf("| `%s` | %.0f ns | %.0f ns | %.2f | %.0f ns | %.2f |\n\n", format, s, m, m / s, f, f / s);
 }
 
 /* ---- the slowest readings: of every set of kinds 1 to 12 a set of facts that agrees with a day, three of which one fact is another
@@ -422,6 +450,7 @@ int main(void) {
     writing();
     reading_clocks();
     reading_dates();
+    reading_forms();
     slowest();
     scanning();
     return 0;

@@ -649,7 +649,7 @@ fn read_items(items: &[Item], text: &[u8]) -> Result<(Facts, Forms, usize), Read
             }
             Item::Conversion(c) => c.letter,
         };
-        let (kind, number, length) = if let Some((kind, width, least, greatest)) = numeric(letter) {
+        let (kind, number, length, form) = if let Some((kind, width, least, greatest)) = numeric(letter) {
             at += spaces(at);
             let digits = text[at..].iter().take(width).take_while(|b| b.is_ascii_digit()).count();
             if digits == 0 {
@@ -659,19 +659,13 @@ fn read_items(items: &[Item], text: &[u8]) -> Result<(Facts, Forms, usize), Read
             if n < least || n > greatest {
                 return Err(refused(7, at));
             }
-            (kind, if letter == b'w' && n == 0 { 7 } else { n }, digits)
+            (kind, if letter == b'w' && n == 0 { 7 } else { n }, digits, None)
         } else {
             let rest = &text[at..];
             let found = match letter {
-                b'a' | b'A' => name_at(rest, &WEEKDAYS).map(|(i, length, form)| {
-                    forms.weekday = Some(form);
-                    (7, i + 1, length)
-                }),
-                b'b' | b'B' | b'h' => name_at(rest, &MONTHS).map(|(i, length, form)| {
-                    forms.month = Some(form);
-                    (4, i + 1, length)
-                }),
-                _ => HALVES.iter().position(|half| goes_on(rest, half)).map(|half| (15, half as u32, 2)),
+                b'a' | b'A' => name_at(rest, &WEEKDAYS).map(|(i, length, form)| (7, i + 1, length, Some(form))),
+                b'b' | b'B' | b'h' => name_at(rest, &MONTHS).map(|(i, length, form)| (4, i + 1, length, Some(form))),
+                _ => HALVES.iter().position(|half| goes_on(rest, half)).map(|half| (15, half as u32, 2, None)),
             };
             found.ok_or_else(|| refused(6, at))?
         };
@@ -679,6 +673,11 @@ fn read_items(items: &[Item], text: &[u8]) -> Result<(Facts, Forms, usize), Read
             return Err(refused(8, at));
         }
         facts[kind] = Some(number);
+        match kind {
+            4 => forms.month = form.or(forms.month),
+            7 => forms.weekday = form.or(forms.weekday),
+            _ => {}
+        }
         at += length;
     }
     Ok((facts, forms, at))

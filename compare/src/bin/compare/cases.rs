@@ -1,7 +1,7 @@
 //! Random formats, moments and texts: well formed, damaged, contradictory, and nonsense.
 use crate::elements::LETTERS;
 use compare::random::Random;
-use compare::rules::{month_length, numeric, written, Calendar, Item, Moment, NAMED, PAIRS};
+use compare::rules::{forms_of, month_length, numeric, written, Calendar, Item, Moment, MONTHS, NAMED, PAIRS, WEEKDAYS};
 
 const DATES: &[u8] = b"YCymdejuwaAbBhUWGgV";
 const TIMES: &[u8] = b"HkIlpPMS";
@@ -310,12 +310,48 @@ fn damage(random: &mut Random, text: &mut Vec<u8>) {
     }
 }
 
+/// Letters as they stand, all of the other case, or each of either.
+pub fn in_any_case(random: &mut Random, letters: &str) -> Vec<u8> {
+    let odds = *random.pick(&[0, 0, 50, 100]);
+    letters.bytes().map(|b| if random.chance(odds) { b ^ 32 } else { b }).collect()
+}
+
+/// A weekday or a month by its full name: in any form, or cut at any letter, some with a letter more, in letters of any case.
+fn name(random: &mut Random, full: &str) -> Vec<u8> {
+    let letters = match random.below(5) {
+        0 => &full[..1 + random.below(full.len())],
+        _ => random.pick(&forms_of(full)).0,
+    };
+    let mut out = in_any_case(random, letters);
+    if random.chance(10) {
+        out.push(*random.pick(b"STdersty"));
+    }
+    out
+}
+
+/// What an item writes for a moment; with `any_form` a weekday or a month as `name` has it.
+fn said(random: &mut Random, cal: &Calendar, item: &Item, m: &Moment, any_form: bool) -> Vec<u8> {
+    match item {
+        Item::Conversion(c) if any_form && b"aA".contains(&c.letter) => {
+            let weekday = cal.find(m[0], m[1], m[2]).weekday;
+            name(random, WEEKDAYS[weekday as usize - 1])
+        }
+        Item::Conversion(c) if any_form && b"bBh".contains(&c.letter) => name(random, MONTHS[m[1] as usize - 1]),
+        _ => written(cal, &[*item], m),
+    }
+}
+
 /// A text for some items: what they write for a moment, with other things said here and there, then damaged or not.
 pub fn text(random: &mut Random, cal: &Calendar, items: &[Item]) -> Vec<u8> {
     let m = moment(random);
+    let any_form = random.chance(60);
     let mut out = Vec::new();
     match random.below(100) {
-        0..=39 => out = written(cal, items, &m),
+        0..=39 => {
+            for item in items {
+                out.extend(said(random, cal, item, &m, any_form));
+            }
+        }
         40..=69 => {
             // some elements written for another moment, near or far: facts that quarrel
             let mut other = m;
@@ -329,7 +365,7 @@ pub fn text(random: &mut Random, cal: &Calendar, items: &[Item]) -> Vec<u8> {
             let odds = *random.pick(&[5, 20, 50]);
             for item in items {
                 let which = if random.chance(odds) { &other } else { &m };
-                out.extend(written(cal, &[*item], which));
+                out.extend(said(random, cal, item, which, any_form));
             }
         }
         70..=89 => {
@@ -348,7 +384,7 @@ pub fn text(random: &mut Random, cal: &Calendar, items: &[Item]) -> Vec<u8> {
                         }
                         out.extend(n.to_string().bytes());
                     }
-                    _ => out.extend(written(cal, &[*item], &m)),
+                    _ => out.extend(said(random, cal, item, &m, any_form)),
                 }
             }
         }

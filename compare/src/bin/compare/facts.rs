@@ -85,16 +85,17 @@ pub fn compare_set(random: &mut Random, cal: &Calendar, tally: &mut Tally, kinds
         format += &format!("%{} ", LETTERS[kind - 1] as char);
         text += &format!("{} ", facts[kind].unwrap());
     }
-    compare_both(random, cal, tally, &format, &text, false);
+    compare_both(random, cal, tally, &format, text.as_bytes(), false);
 }
 
-fn compare_both(random: &mut Random, cal: &Calendar, tally: &mut Tally, format: &str, text: &str, whole: bool) {
-    let matched = rules::matched(cal, format.as_bytes(), text.as_bytes());
+/// Both readers on a text: by the format, and by what it opens to.
+pub fn compare_both(random: &mut Random, cal: &Calendar, tally: &mut Tally, format: &str, text: &[u8], whole: bool) {
+    let matched = rules::matched(cal, format.as_bytes(), text);
     let elements = Opened::new(format.as_bytes(), Use::Reading).elements;
-    let case = (format, text);
-    readings::compare(random, tally, &READ, &matched, whole, &case, |told, lent| library::read(&elements, text.as_bytes(), told, lent));
+    let case = (format, text.escape_ascii().to_string());
+    readings::compare(random, tally, &READ, &matched, whole, &case, |told, lent| library::read(&elements, text, told, lent));
     readings::compare(random, tally, &STRPTIME, &matched, whole, &case, |told, lent| {
-        library::strptime(format.as_bytes(), text.as_bytes(), told, lent)
+        library::strptime(format.as_bytes(), text, told, lent)
     });
 }
 
@@ -109,7 +110,7 @@ pub fn compare(random: &mut Random, cal: &Calendar, tally: &mut Tally) -> usize 
         }
     }
     for (format, text) in WHOLE {
-        compare_both(random, cal, tally, format, text, true);
+        compare_both(random, cal, tally, format, text.as_bytes(), true);
         count += 1;
     }
     count

@@ -3,7 +3,7 @@ use compare::random::Random;
 use compare::rules::Moment;
 
 /// The words of a reading.
-pub const WORDS: usize = 16;
+pub const WORDS: usize = 18;
 const GUARD: usize = 24;
 
 mod raw {

@@ -1,6 +1,7 @@
-//! Compares the proved library with an independent implementation of the rules (`rules.rs`) on random cases, on every flag and width and
-//! on every set of kinds of facts, its readings by every engine, its writer with the C library's strftime on every day of the years 1000
-//! to 9999 and on flags and widths, and its white space with isspace on every byte. Usage: compare SECONDS [SEED]
+//! Compares the proved library with an independent implementation of the rules (`rules.rs`) on random cases, on every flag and width, on
+//! every set of kinds of facts and on every beginning of a name, its readings by every engine, its writer with the C library's strftime on
+//! every day of the years 1000 to 9999 and on flags and widths, and its white space with isspace on every byte.
+//! Usage: compare SECONDS [SEED]
 mod c_columns;
 mod c_days;
 mod c_spaces;
@@ -9,6 +10,7 @@ mod columns;
 mod elements;
 mod facts;
 mod library;
+mod names;
 mod readings;
 mod speed;
 
@@ -16,17 +18,18 @@ use compare::random::Random;
 use compare::rules::{self, Calendar, Reading, Use};
 use elements::Opened;
 use library::Lent;
-use readings::{READ, STRANGE, STRPTIME};
+use readings::{form_number, READ, STRANGE, STRPTIME};
 use std::collections::BTreeMap;
 use std::time::{Duration, Instant};
 
 /// What tells the writings by a format with flags and widths apart.
 const COLUMNS: &str = "flags and widths";
 
-/// How often each outcome came: a function, a number, and what tells its cases apart.
+/// How often each outcome came: a function, a number, and what tells its cases apart; and each form of weekday and month names, or none.
 #[derive(Default)]
 struct Tally {
     counts: BTreeMap<(&'static str, u32, &'static str), u64>,
+    forms: [[u64; 4]; 2],
     differences: u64,
 }
 
@@ -43,7 +46,10 @@ impl Tally {
             (9 | 10, _) => "place 2",
             _ => "",
         };
-        *self.counts.entry((function, r.number, which)).or_insert(0) += 1;
+        self.count(function, r.number, which);
+        for (counts, form) in self.forms.iter_mut().zip([r.forms.weekday, r.forms.month]) {
+            counts[form_number(form)] += 1;
+        }
     }
 
     fn differs(&mut self, function: &str, case: &dyn std::fmt::Debug) {
@@ -283,6 +289,9 @@ fn main() {
     let sets = facts::compare(&mut random, &cal, &mut tally);
     println!("{:6.1} s  {sets} sets of facts, of every set of kinds, by every engine", began.elapsed().as_secs_f64());
 
+    let texts = names::compare(&mut random, &cal, &mut tally);
+    println!("{:6.1} s  {texts} texts of every beginning of every name, before each byte", began.elapsed().as_secs_f64());
+
     let cases_began = Instant::now();
     let mut formats = 0u64;
     while cases_began.elapsed() < Duration::from_secs(seconds) {
@@ -318,6 +327,9 @@ fn main() {
         by(2, false),
         by(2, true)
     );
+    for (what, [_, full, middle, short]) in ["weekday", "month"].iter().zip(tally.forms) {
+        println!("readings that gave the form of a {what}: {full} full, {middle} middle, {short} short");
+    }
     println!("\nspeed of the library alone, one thread:");
     speed::measure();
     println!("\n{total} cases, {} differences", tally.differences);

@@ -2,7 +2,7 @@
 use crate::library::{Lent, Told, WORDS};
 use crate::Tally;
 use compare::random::Random;
-use compare::rules::{Engine, Matched, Reading};
+use compare::rules::{Engine, Form, Matched, Reading};
 use std::fmt::Debug;
 
 /// The days that the plain engine may examine for a case, on the average: a search of more days is run less often, by so much.
@@ -17,7 +17,17 @@ pub const STRPTIME: Names = ["strptime", "strptime, plain", "strptime, budget"];
 pub const READ: Names = ["read", "read, plain", "read, budget"];
 pub const STRANGE: Names = ["read, strange", "the same, plain", "the same, budget"];
 
-/// A reading as its sixteen words (RULES 10).
+/// The number of a name's form, 0 for none (RULES 10).
+pub fn form_number(form: Option<Form>) -> usize {
+    match form {
+        None => 0,
+        Some(Form::Full) => 1,
+        Some(Form::Middle) => 2,
+        Some(Form::Short) => 3,
+    }
+}
+
+/// A reading as its eighteen words (RULES 10).
 pub fn words(r: &Reading) -> [u32; WORDS] {
     let mut w = [0; WORDS];
     w[0] = r.number;
@@ -41,6 +51,8 @@ pub fn words(r: &Reading) -> [u32; WORDS] {
         w[14] = b;
     }
     w[15] = r.examined;
+    w[16] = form_number(r.forms.weekday) as u32;
+    w[17] = form_number(r.forms.month) as u32;
     w
 }
 

@@ -85,6 +85,7 @@ fn cases() -> Vec<(&'static str, Vec<u8>)> {
         ("hour_only", b"%I %p\n12 AM\n12 PM\n1 am\n11 pm\n0 am\n13 am\n".to_vec()),
         ("minute_only", b"%M\n7\n59\n60\n".to_vec()),
         ("second_only", b"%S\n0\n60\n61\n".to_vec()),
+        ("names", b"%a %d %b %Y\nThurs 6 Sept 1934\nthur 6 SEPTEMBER 1934\nThu 6 Sep 1934\nTues 6 Sept 1934\nTuesd 4 Sept 1934\n".to_vec()),
         ("all", b"%c\nMon Mar  5 07:08:09 1934\nTue Mar  5 07:08:09 1934\ntue feb 29 12:00:60 2000\nSun Feb 29 12:00:60 2000\n".to_vec()),
         // every number that a line can have: the other fields are then unsaid
         ("number_1", cat(&[&b"%H".repeat(512), b"x\n7\n", &b"7".repeat(1025), b"\n\n"])),
