@@ -1,22 +1,22 @@
 -- How much of a text white space, digits and names take.
 -- Assumes nothing.
-use Prim.Native.Nat.{ℕ, zero, suc, _+_, _≤_, _<_}
-use mathlib.Core.Bool.{Bool, true, false, cond, false≢true}
-use mathlib.Core.List.{List, [], _∷_, map}
-use mathlib.Core.Path.{_≡_, refl, _∙_}
+use Prim.Native.Nat.{ℕ, zero, suc, _≤_, _<_}
+use mathlib.Core.Bool.{Bool, true, false, cond, _&&_, false≢true}
+use mathlib.Core.List.{List, [], _∷_}
+use mathlib.Core.Path.{_≡_, refl}
 use native.Mathlib.Omega.{arith}
-use lib.Dec.{T, eqb, leb, leb→le, lit≤}
-use lib.ListN.{length, length-map}
+use lib.Dec.{T, eqb, leb, ltb, leb→le, ltb→lt, lit≤}
+use lib.ListN.{length}
 use Rattle.laws.specs.Lists.{every}
 use Rattle.laws.proofs.Cases.{picked, clash}
 use Rattle.laws.proofs.Table.{both}
 use Rattle.text.specs.Case.{fold}
 use Rattle.text.specs.Digits.{isDigit, digitRun}
 use Rattle.text.specs.Names as names
-use Rattle.text.specs.Names.{namesOf, short, goesOn, firstName, orElse, readName}
+use Rattle.text.specs.Names.{namesOf, Form, formsOf, goesOn, firstForm, readName}
 use Rattle.text.specs.Space.{isSpace, spaces}
-use Rattle.text.specs.declared.names.NameRead.{NameRead}
-use Rattle.text.specs.declared.names.NameRead.the-variants.{Found, Nothing}
+use Rattle.text.specs.declared.names.NameForm.{NameForm}
+use Rattle.text.specs.declared.names.NameRead.the-variants.{Found}
 use Rattle.text.specs.declared.names.Names.{Names}
 use Rattle.text.specs.declared.names.Names.the-variants.{Weekdays, Months, Halves}
 
@@ -51,25 +51,28 @@ pub record Named (names : ℕ) (s : List ℕ) (i n : ℕ) : Type 0 where
   pub some : 1 ≤ n
   pub long : n ≤ length s
 
--- some bytes
-nonempty : List ℕ → Bool
-nonempty n = leb 1 (length n)
+-- a form of one of so many names: its place is one of theirs, and it has letters
+placed : ℕ → Form → Bool
+placed names x = ltb (x .index) names && leb 1 (length (x .letters))
 
-first-named : (ns : List (List ℕ)) → T (every nonempty ns) → (i : ℕ) (s : List ℕ) (j n : ℕ) → firstName i ns s ≡ Found j n
-    → Named (i + length ns) s j n
-unfolding firstName every nonempty
-first-named [] m i s j n e = clash (cc)
-first-named (x ∷ ns) m i s j n e =
-    let b = both (nonempty x) (every nonempty ns) m in
-    go (leb→le 1 (length x) (b .0)) (goesOn x s) refl e (λ f. first-named ns (b .1) (suc i) s j n f)
+first-named : (names : ℕ) (xs : List Form) → T (every (placed names) xs) → (s : List ℕ) {j n : ℕ} {f : NameForm}
+    → firstForm xs s ≡ Found j n f → Named names s j n
+unfolding firstForm every placed
+first-named names [] m s e = clash (cc)
+first-named names (x ∷ xs) m s {j} {n} {f} e =
+    let b = both (placed names x) (every (placed names) xs) m in
+    let p = both (ltb (x .index) names) (leb 1 (length (x .letters))) (b .0) in
+    go (ltb→lt (x .index) names (p .0)) (leb→le 1 (length (x .letters)) (p .1)) (goesOn (x .letters) s) refl e
+    (first-named names xs (b .1) s)
   where
-    go : 1 ≤ length x → (t : Bool) → goesOn x s ≡ t → cond t (Found i (length x)) (firstName (suc i) ns s) ≡ Found j n
-        → (firstName (suc i) ns s ≡ Found j n → Named (suc i + length ns) s j n) → Named (i + suc (length ns)) s j n
-    go l true g f more =
-        let a : i ≡ j = cc in
-        let b : length x ≡ n = cc in
-        record { place = omega arith; some = omega arith; long = omega (arith, goes-on-most x s g) }
-    go l false g f more = let r = more f in record { place = omega (arith, r .place); some = r .some; long = r .long }
+    go : x .index < names → 1 ≤ length (x .letters) → (t : Bool) → goesOn (x .letters) s ≡ t
+        → cond t (Found (x .index) (length (x .letters)) (x .form)) (firstForm xs s) ≡ Found j n f
+        → (firstForm xs s ≡ Found j n f → Named names s j n) → Named names s j n
+    go i l true g e more =
+        let a : x .index ≡ j = cc in
+        let b : length (x .letters) ≡ n = cc in
+        record { place = omega arith; some = omega arith; long = omega (arith, goes-on-most (x .letters) s g) }
+    go i l false g e more = more e
 
 pub few-names : (t : Names) → length (namesOf t) ≤ 12
 unfolding names.computes
@@ -77,22 +80,13 @@ few-names Weekdays = lit≤ tt
 few-names Months = lit≤ tt
 few-names Halves = lit≤ tt
 
--- no name is empty, in full or short
-all-nonempty : (t : Names) → T (every nonempty (namesOf t)) × T (every nonempty (map short (namesOf t)))
-unfolding names.computes every nonempty
-all-nonempty Weekdays = (tt, tt)
-all-nonempty Months = (tt, tt)
-all-nonempty Halves = (tt, tt)
+-- one computed test over the forms of each table
+all-placed : (t : Names) → T (every (placed (length (namesOf t))) (formsOf t))
+unfolding names.computes every placed
+all-placed Weekdays = tt
+all-placed Months = tt
+all-placed Halves = tt
 
-pub name-named : (t : Names) (s : List ℕ) (j n : ℕ) → readName t s ≡ Found j n → Named (length (namesOf t)) s j n
-unfolding readName orElse
-name-named t s j n e = go (firstName 0 (namesOf t) s) refl e
-  where
-    go : (r : NameRead) → firstName 0 (namesOf t) s ≡ r → orElse r (firstName 0 (map short (namesOf t)) s) ≡ Found j n
-        → Named (length (namesOf t)) s j n
-    go (Found a b) f g =
-        let r = first-named (namesOf t) (all-nonempty t .0) 0 s j n (f ∙ g) in
-        record { place = omega (arith, r .place); some = r .some; long = r .long }
-    go Nothing f g =
-        let r = first-named (map short (namesOf t)) (all-nonempty t .1) 0 s j n g in
-        record { place = omega (arith, r .place, length-map (namesOf t) short); some = r .some; long = r .long }
+pub name-named : (t : Names) (s : List ℕ) {j n : ℕ} {f : NameForm} → readName t s ≡ Found j n f → Named (length (namesOf t)) s j n
+unfolding readName
+name-named t s e = first-named (length (namesOf t)) (formsOf t) (all-placed t) s e

@@ -4,7 +4,7 @@ use Prim.Native.Nat.{ℕ}
 use mathlib.Core.Bool.{cond}
 use mathlib.Core.Path.{_≡_, refl, sym, ap, _∙_}
 use lib.Dec.{eqb}
-use Rattle.strptime.specs.Answers.{showing, refused, finished, examining, overBudget, readingOf}
+use Rattle.strptime.specs.Answers.{showing, refused, finished, naming, examining, overBudget, readingOf}
 use Rattle.strptime.specs.declared.Answer.{Answer}
 use Rattle.strptime.specs.declared.Answer.the-variants.{Done, FormatTooLong, TextTooLong, BadConversion}
 use Rattle.strptime.specs.declared.Answer.the-variants.{NoMatch, OutOfRange, Contradiction}
@@ -25,7 +25,7 @@ answerOf r =
     let n = r .number in
     let p = r .place in
     let x = r .examined in
-    cond (eqb n 0) (Done p (r .day) (r .hour) (r .minute) (r .second) x)
+    cond (eqb n 0) (Done p (r .day) (r .hour) (r .minute) (r .second) (r .forms) x)
     (cond (eqb n 1) FormatTooLong
     (cond (eqb n 5) TextTooLong
     (cond (eqb n 3) (BadConversion p)
@@ -37,8 +37,8 @@ answerOf r =
     (opened x (r .shown))))))))))
 
 answer-back : (a : Answer) → answerOf (readingOf a) ≡ a
-unfolding answerOf opened readingOf examining overBudget finished refused showing
-answer-back (Done p d h m s n) = refl
+unfolding answerOf opened readingOf naming examining overBudget finished refused showing
+answer-back (Done p d h m s fs n) = refl
 answer-back FormatTooLong = refl
 answer-back TextTooLong = refl
 answer-back (BadConversion p) = refl

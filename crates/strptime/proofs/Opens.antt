@@ -9,16 +9,17 @@ use Rattle.format.specs.Opening.{Whole, BadAt, longest, opening, mostElements, 
 use Rattle.format.specs.declared.opening.Side.the-variants.{Reader}
 use Rattle.judge.specs.declared.Engine.{Engine}
 use Rattle.strptime.specs.Answers.{refused, concluded, readBy, byFormat, byElements, unlessLong, readingBy, elementsReadingBy}
-use Rattle.strptime.specs.Reading.{start, readAll}
+use Rattle.strptime.specs.Reading.{start, noForms, readAll}
 use Rattle.strptime.specs.declared.Outcome.{Outcome}
 use Rattle.strptime.specs.declared.Reading.{Reading}
 use Rattle.strptime.specs.declared.Stepped.{Stepped}
 
 -- ---- what the elements' reading comes to
 pub by-outcome : (e : Engine) (es s : List ℕ) {r : Stepped} {o : Outcome} {a : Reading}
-    → r ≡ readAll es s start → r .outcome ≡ o → a ≡ concluded e (r .state) o → a ≡ readBy e es s
+    → r ≡ readAll es s start noForms → r .outcome ≡ o → a ≡ concluded e (r .state) (r .forms) o → a ≡ readBy e es s
 unfolding readBy
-by-outcome e es s {r} q g h = h ∙ ap (concluded e (r .state)) (sym g) ∙ ap (λ (x : Stepped). concluded e (x .state) (x .outcome)) q
+by-outcome e es s {r} q g h =
+    h ∙ ap (concluded e (r .state) (r .forms)) (sym g) ∙ ap (λ (x : Stepped). concluded e (x .state) (x .forms) (x .outcome)) q
 
 -- ---- 5
 module _ (s : List ℕ) (r : Reading) where

@@ -23,23 +23,25 @@ use Rattle.judge.specs.declared.Searched.the-variants.{Judged, OverBudget}
 use Rattle.judge.specs.declared.Verdict.{Verdict}
 use Rattle.judge.specs.declared.Verdict.the-variants.{Unsaid, Impossible, Open, Agreed}
 use Rattle.judge.proofs.Engines.{searched-over}
-use Rattle.strptime.specs.Answers.{showing, refused, finished, examining, overBudget, done, withHour, withDay, withSearched}
+use Rattle.strptime.specs.Answers.{showing, refused, finished, naming, examining, overBudget, done, withHour, withDay, withSearched}
 use Rattle.strptime.specs.Answers.{judged, concluded, readBy, byFormat, byElements, unlessLong, readingBy, elementsReadingBy}
 use Rattle.strptime.specs.Answers.{reading, elementsReading}
-use Rattle.strptime.specs.Reading.{start, stays, stepOn, isRead, readAll}
+use Rattle.strptime.specs.Reading.{start, stays, noForms, stepOn, isRead, readAll}
 use Rattle.strptime.specs.declared.Day.{Day}
+use Rattle.strptime.specs.declared.Forms.{Forms}
 use Rattle.strptime.specs.declared.Outcome.{Outcome}
 use Rattle.strptime.specs.declared.Outcome.the-variants.{Read, Mismatch, Range, Conflict}
 use Rattle.strptime.specs.declared.Reading.{Reading}
 use Rattle.strptime.specs.declared.State.{State}
 use Rattle.strptime.proofs.Walk.{Placed, Within, step-placed}
 
-pub all-within : (es s : List ℕ) (t : State) → t .at ≤ length s → Within s (readAll es s t)
+pub all-within : (es s : List ℕ) (t : State) (fs : Forms) → t .at ≤ length s → Within s (readAll es s t fs)
 unfolding readAll stays Placed
-all-within [] s t h = (h, tt)
-all-within (e ∷ es) s t h =
-    let w = step-placed e s t h in
-    picked (Within s) (isRead (stepOn e s t .outcome)) (all-within es s (stepOn e s t .state) (w .0)) w
+all-within [] s t fs h = (h, tt)
+all-within (e ∷ es) s t fs h =
+    let r = stepOn e s t fs in
+    let w = step-placed e s t fs h in
+    picked (Within s) (isRead (r .outcome)) (all-within es s (r .state) (r .forms) (w .0)) w
 
 module _ (t : State) (n : ℕ) (h : t .at ≤ n) (l : longest ≤ n) where
   hour-place : (d : Day) (v : Verdict) → withHour t d v .place ≤ n
@@ -75,19 +77,19 @@ module _ (e : Engine) (n : ℕ) (l : longest ≤ n) (m : budget e ≤ n) where
       (λ b q. omega (arith, m, ap budget (searched-over e (t .facts) q)))
 
   module _ (s : List ℕ) (short : length s ≤ longest) where
-    concluded-place : (t : State) (o : Outcome) → t .at ≤ length s → Placed s o → concluded e t o .place ≤ n
-    unfolding concluded showing refused Placed
-    concluded-place t Read h p = judged-place t (omega arith)
-    concluded-place t (Mismatch q) h p = omega arith
-    concluded-place t (Range q) h p = omega arith
-    concluded-place t (Conflict q) h p = omega arith
+    concluded-place : (t : State) (fs : Forms) (o : Outcome) → t .at ≤ length s → Placed s o → concluded e t fs o .place ≤ n
+    unfolding concluded naming showing refused Placed
+    concluded-place t fs Read h p = judged-place t (omega arith)
+    concluded-place t fs (Mismatch q) h p = omega arith
+    concluded-place t fs (Range q) h p = omega arith
+    concluded-place t fs (Conflict q) h p = omega arith
 
     by-place : (es : List ℕ) → readBy e es s .place ≤ n
     unfolding readBy start
     by-place es =
-        let r = readAll es s start in
-        let w = all-within es s start (omega arith) in
-        concluded-place (r .state) (r .outcome) (w .0) (w .1)
+        let r = readAll es s start noForms in
+        let w = all-within es s start noForms (omega arith) in
+        concluded-place (r .state) (r .forms) (r .outcome) (w .0) (w .1)
 
     format-place : (f : List ℕ) → length f ≤ longest → byFormat e f s .place ≤ n
     unfolding byFormat showing refused

@@ -23,6 +23,8 @@ use Rattle.text.specs.Digits.{digitRun, decimal}
 use Rattle.text.specs.Names.{namesOf, readName}
 use Rattle.text.specs.Naming.{firstValue, valueAt}
 use Rattle.text.specs.Space.{isSpace, spaces}
+use Rattle.text.specs.declared.names.NameForm.{NameForm}
+use Rattle.text.specs.declared.names.NameForm.the-variants.{NoName}
 use Rattle.text.specs.declared.names.NameRead.{NameRead}
 use Rattle.text.specs.declared.names.NameRead.the-variants.{Found, Nothing}
 use Rattle.text.specs.declared.names.Names.{Names}
@@ -32,7 +34,7 @@ use Rattle.strptime.proofs.Told.{Told, spans, spans-told, spansNames, s
 -- what an element found: offsets of the text, and a fact of which P holds
 unfoldable pub Finds : (ℕ → ℕ → Type 0) → List ℕ → Item → Type 0
 Finds P s (Skip n) = n ≤ length s
-Finds P s (Fact k v from n) = P k v × (from < n) × (n ≤ length s)
+Finds P s (Fact k v f from n) = P k v × (from < n) × (n ≤ length s)
 Finds P s (NoMatch p) = p ≤ length s
 Finds P s (OutOfRange p) = p ≤ length s
 
@@ -61,7 +63,7 @@ module _ (s : List ℕ) (at : ℕ) (h : at ≤ length s) where
         (λ (e : eqb (length ds) 0 ≡ false). go (eqb-false (length ds) 0 e) (leb (c .low) v) (leb v (c .high)) refl refl)
       where
         go : (length ds ≡ 0 → ⊥) → (a b : Bool) → leb (c .low) (decimal 0 ds) ≡ a → leb (decimal 0 ds) (c .high) ≡ b
-            → Finds P s (cond (a && b) (Fact (c .kind) (decimal 0 ds) from (from + length ds)) (OutOfRange from))
+            → Finds P s (cond (a && b) (Fact (c .kind) (decimal 0 ds) NoName from (from + length ds)) (OutOfRange from))
         go m false b e f = omega arith
         go m true false e f = omega arith
         go m true true e f =
@@ -78,7 +80,7 @@ module _ (s : List ℕ) (at : ℕ) (h : at ≤ length s) where
   sound-sunday : (i : Item) → Finds (λ k v. Told k (cond (eqb v 0) 7 v)) s i → Sound s (fromSunday i)
   unfolding fromSunday Finds
   sound-sunday (Skip n) t = t
-  sound-sunday (Fact k v from n) t = t
+  sound-sunday (Fact k v f from n) t = t
   sound-sunday (NoMatch p) t = t
   sound-sunday (OutOfRange p) t = t
 
@@ -87,12 +89,12 @@ module _ (s : List ℕ) (at : ℕ) (h : at ≤ length s) where
   sound-named t c m = go (readName t (drop at s)) refl
     where
       go : (r : NameRead) → readName t (drop at s) ≡ r → Sound s (named t (c .kind) r at)
-      go (Found i n) e =
-          let f = name-named t (drop at s) i n e in (
+      go (Found i n f) e =
+          let x = name-named t (drop at s) e in (
             spans-told (c .kind) (firstValue t) (firstValue t + length (namesOf t) - 1) m (firstValue t + i)
-                (omega arith) (omega (arith, f .place)),
-            omega (arith, f .some),
-            omega (arith, f .long, length-drop at s),
+                (omega arith) (omega (arith, x .place)),
+            omega (arith, x .some),
+            omega (arith, x .long, length-drop at s),
           )
       go Nothing e = h
 
@@ -121,11 +123,13 @@ module _ (s : List ℕ) (at : ℕ) (h : at ≤ length s) where
       picked (Sound s) (isByte e) (sound-byte e) (sound-form (c .form) c (conversion-spans (letterOf e)))
 
   -- what an element says is a fact that a text can say, and it stands in the text
-  module _ (e : ℕ) {m : Item} {k n from next : ℕ} (g : m ≡ readElement e s at) (f : m ≡ Fact k n from next) where
-    pub fact-told : Told k n
-    unfolding Finds
-    fact-told = rw (← g, f) at (sound e) .0
+  module _
+      (e : ℕ) {m : Item} {k n from next : ℕ} {x : NameForm} (g : m ≡ readElement e s at) (f : m ≡ Fact k n x from next)
+    where
+      pub fact-told : Told k n
+      unfolding Finds
+      fact-told = rw (← g, f) at (sound e) .0
 
-    pub fact-placed : (from < next) × (next ≤ length s)
-    unfolding Finds
-    fact-placed = let r = rw (← g, f) at (sound e) in (r .1, r .2)
+      pub fact-placed : (from < next) × (next ≤ length s)
+      unfolding Finds
+      fact-placed = let r = rw (← g, f) at (sound e) in (r .1, r .2)

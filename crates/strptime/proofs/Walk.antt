@@ -15,13 +15,15 @@ use types.Run.{OneOf, miss}
 use Rattle.laws.proofs.Cases.{picked}
 use Rattle.judge.specs.Agreement.{said}
 use Rattle.strptime.specs.Elements.{readElement}
-use Rattle.strptime.specs.Reading.{here, goes, stays, noted, tell, taken, stepOn, isRead, readAll}
+use Rattle.strptime.specs.Reading.{here, goes, stays, noted, met, tell, taken, stepOn, isRead, readAll}
+use Rattle.strptime.specs.declared.Forms.{Forms}
 use Rattle.strptime.specs.declared.Outcome.{Outcome}
 use Rattle.strptime.specs.declared.Outcome.the-variants.{Read, Mismatch, Range, Conflict}
 use Rattle.strptime.specs.declared.State.{State}
 use Rattle.strptime.specs.declared.Stepped.{Stepped}
 use Rattle.strptime.specs.declared.elements.Item.{Item}
 use Rattle.strptime.specs.declared.elements.Item.the-variants.{Skip, Fact, NoMatch, OutOfRange}
+use Rattle.text.specs.declared.names.NameForm.{NameForm}
 use Rattle.strptime.proofs.Outcome.{the-type}
 use Rattle.strptime.proofs.Sound.{Finds, Sound, sound}
 
@@ -39,44 +41,46 @@ Placed s (Conflict p) = p ≤ length s
 abbrev pub Within : List ℕ → Stepped → Type 0
 Within s r = (r .state .at ≤ length s) × Placed s (r .outcome)
 
-taken-within : (s : List ℕ) (t : State) → t .at ≤ length s → (i : Item) → Sound s i → Within s (taken t i)
+taken-within : (s : List ℕ) (t : State) (fs : Forms) → t .at ≤ length s → (i : Item) → Sound s i → Within s (taken t fs i)
 unfolding taken goes stays tell Finds Placed
-taken-within s t h (Skip n) p = (p, tt)
-taken-within s t h (Fact k n from next) p =
+taken-within s t fs h (Skip n) p = (p, tt)
+taken-within s t fs h (Fact k n f from next) p =
     picked (Within s) (consistent t k n) (p .2, tt) (h, omega (arith, p .1, p .2))
-taken-within s t h (NoMatch q) p = (h, p)
-taken-within s t h (OutOfRange q) p = (h, p)
+taken-within s t fs h (NoMatch q) p = (h, p)
+taken-within s t fs h (OutOfRange q) p = (h, p)
 
-pub step-placed : (e : ℕ) (s : List ℕ) (t : State) → t .at ≤ length s → Within s (stepOn e s t)
+pub step-placed : (e : ℕ) (s : List ℕ) (t : State) (fs : Forms) → t .at ≤ length s → Within s (stepOn e s t fs)
 unfolding stepOn
-step-placed e s t h = taken-within s t h (readElement e s (t .at)) (sound s (t .at) h e)
+step-placed e s t fs h = taken-within s t fs h (readElement e s (t .at)) (sound s (t .at) h e)
 
-pub step-within : (e : ℕ) (s : List ℕ) (t u : State) (o : Outcome) → t .at ≤ length s → stays u o ≡ stepOn e s t → u .at ≤ length s
+pub step-within : (e : ℕ) (s : List ℕ) (t : State) (fs : Forms) (u : State) (gs : Forms) (o : Outcome) → t .at ≤ length s
+    → stays u gs o ≡ stepOn e s t fs → u .at ≤ length s
 unfolding stays
-step-within e s t u o h g = rw (← g) at (step-placed e s t h) .0
+step-within e s t fs u gs o h g = rw (← g) at (step-placed e s t fs h) .0
 
 -- ---- one element, by what was read there
-module _ (e : ℕ) (s : List ℕ) (t : State) {m : Item} (g : m ≡ readElement e s (t .at)) where
-  pub on-skip : {n : ℕ} → m ≡ Skip n → stays (here (t .facts .said) n) Read ≡ stepOn e s t
+module _ (e : ℕ) (s : List ℕ) (t : State) (fs : Forms) {m : Item} (g : m ≡ readElement e s (t .at)) where
+  pub on-skip : {n : ℕ} → m ≡ Skip n → stays (here (t .facts .said) n) fs Read ≡ stepOn e s t fs
   unfolding stepOn taken goes stays
   on-skip f = rw (← g, f)
 
-  pub on-mismatch : {p : ℕ} → m ≡ NoMatch p → stays t (Mismatch p) ≡ stepOn e s t
+  pub on-mismatch : {p : ℕ} → m ≡ NoMatch p → stays t fs (Mismatch p) ≡ stepOn e s t fs
   unfolding stepOn taken
   on-mismatch f = rw (← g, f)
 
-  pub on-range : {p : ℕ} → m ≡ OutOfRange p → stays t (Range p) ≡ stepOn e s t
+  pub on-range : {p : ℕ} → m ≡ OutOfRange p → stays t fs (Range p) ≡ stepOn e s t fs
   unfolding stepOn taken
   on-range f = rw (← g, f)
 
-  module _ {k n from next : ℕ} {b : Bool} (f : m ≡ Fact k n from next) (x : b ≡ not (consistent t k n)) where
-    pub on-conflict : b ≡ true → stays t (Conflict from) ≡ stepOn e s t
+  module _ {k n from next : ℕ} {x : NameForm} {b : Bool} (f : m ≡ Fact k n x from next) (c : b ≡ not (consistent t k n)) where
+    pub on-conflict : b ≡ true → stays t fs (Conflict from) ≡ stepOn e s t fs
     unfolding stepOn taken tell
-    on-conflict h = rw (← g, f, not-true (consistent t k n) (sym x ∙ h))
+    on-conflict h = rw (← g, f, not-true (consistent t k n) (sym c ∙ h))
 
-    pub on-fact : b ≡ false → stays (here (set (t .facts .said) k (n + 1)) next) Read ≡ stepOn e s t
+    pub on-fact : {gs : Forms} → b ≡ false → gs ≡ met fs k x
+        → stays (here (set (t .facts .said) k (n + 1)) next) gs Read ≡ stepOn e s t fs
     unfolding stepOn taken tell noted goes stays
-    on-fact h = rw (← g, f, not-false (consistent t k n) (sym x ∙ h), add-one)
+    on-fact h q = rw (← g, f, not-false (consistent t k n) (sym c ∙ h), add-one, q)
 
 -- ---- one turn of the loop
 refused-here : (o : Outcome) → OneOf (1 ∷ 2 ∷ 3 ∷ []) (tagOf the-type o) → isRead o ≡ false
@@ -86,19 +90,19 @@ refused-here (Mismatch p) k = refl
 refused-here (Range p) k = refl
 refused-here (Conflict p) k = refl
 
-module _ (es s : List ℕ) (t : State) (i : ℕ) where
-  pub all-end : length es ≤ i → readAll (drop i es) s t ≡ stays t Read
+module _ (es s : List ℕ) (t : State) (fs : Forms) (i : ℕ) where
+  pub all-end : length es ≤ i → readAll (drop i es) s t fs ≡ stays t fs Read
   unfolding readAll
   all-end h = rw (drop-of-length-le es h)
 
-  module _ (h : i < length es) (u : State) (o : Outcome) (e : stays u o ≡ stepOn (getD es i 0) s t) where
-    all-is : readAll (drop i es) s t ≡ cond (isRead o) (readAll (drop (i + 1) es) s u) (stays u o)
+  module _ (h : i < length es) (u : State) (gs : Forms) (o : Outcome) (e : stays u gs o ≡ stepOn (getD es i 0) s t fs) where
+    all-is : readAll (drop i es) s t fs ≡ cond (isRead o) (readAll (drop (i + 1) es) s u gs) (stays u gs o)
     unfolding readAll stays
     all-is = rw (drop-cons es i 0 h, add-one, ← e)
 
-    pub all-more : o ≡ Read → readAll (drop i es) s t ≡ readAll (drop (i + 1) es) s u
+    pub all-more : o ≡ Read → readAll (drop i es) s t fs ≡ readAll (drop (i + 1) es) s u gs
     unfolding isRead
     all-more f = all-is ∙ rw f
 
-    pub all-stop : OneOf (1 ∷ 2 ∷ 3 ∷ []) (tagOf the-type o) → readAll (drop i es) s t ≡ stays u o
+    pub all-stop : OneOf (1 ∷ 2 ∷ 3 ∷ []) (tagOf the-type o) → readAll (drop i es) s t fs ≡ stays u gs o
     all-stop k = all-is ∙ rw (refused-here o k)

@@ -20,6 +20,8 @@ use Rattle.text.specs.Names.{readName}
 use Rattle.text.specs.Naming.{valueAt}
 use Rattle.text.specs.Space.{isSpace, spaces}
 use Rattle.text.specs.declared.digits.Digits.{Digits}
+use Rattle.text.specs.declared.names.NameForm.{NameForm}
+use Rattle.text.specs.declared.names.NameForm.the-variants.{NoName}
 use Rattle.text.specs.declared.names.NameRead.{NameRead}
 use Rattle.text.specs.declared.names.NameRead.the-variants.{Found, Nothing}
 use Rattle.text.specs.declared.names.Names.{Names}
@@ -49,7 +51,7 @@ module _
     (e : from ≡ at + spaces (drop at s)) (g : d ≡ readDigits (min (c .width) 9) (drop from s))
   where
     abbrev found : Item
-    found = Fact (c .kind) (d .value) from (from + d .count)
+    found = Fact (c .kind) (d .value) NoName from (from + d .count)
 
     number-is : readNumber c s at
         ≡ cond (eqb (d .count) 0) (NoMatch from)
@@ -91,9 +93,10 @@ module _ (t : Names) (c : Conversion) (s : List ℕ) (at : ℕ) {r : NameRead} (
   unfolding readNamed
   name-is f = ap (λ (x : NameRead). named t (c .kind) x at) (sym f ∙ e)
 
-  pub name-found : (i n : ℕ) {v : ℕ} → r ≡ Found i n → v ≡ valueAt t i → Fact (c .kind) v at (at + n) ≡ readNamed t c s at
+  pub name-found : (i n : ℕ) (f : NameForm) {v : ℕ} → r ≡ Found i n f → v ≡ valueAt t i
+      → Fact (c .kind) v f at (at + n) ≡ readNamed t c s at
   unfolding named
-  name-found i n f h = rw h (name-is f)
+  name-found i n f g h = rw h (name-is g)
 
   pub name-none : r ≡ Nothing → NoMatch at ≡ readNamed t c s at
   unfolding named
