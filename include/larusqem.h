@@ -52,13 +52,14 @@ extern "C" {
 #define LARUSQEM_WIDEST 25344
 /* the words of a moment and of a reading, for the functions on words */
 #define LARUSQEM_MOMENT_WORDS 6
-#define LARUSQEM_READING_WORDS 16
+#define LARUSQEM_READING_WORDS 18
 
 /* ---- Numbers that come back (RULES 3)
  *
  *   no.  meaning                             place                                          what else (reader)
  *   0    done                                writer: bytes written                          day, hour, minute, second,
- *                                            reader: first unread offset of the text        each said or unsaid
+ *                                            reader: first unread offset of the text        each said or unsaid; forms
+ *                                                                                           of names
  *   1    format over 1,024 bytes             0
  *   2    moment not valid                    first bad field: 1 year, 2 month, 3 day,
  *                                            4 hour, 5 minute, 6 second
@@ -127,6 +128,21 @@ static inline const char *larusqem_sentence(uint32_t number)
     }
 }
 
+/* ---- Forms of names (RULES 6.3)
+ *
+ * A weekday or a month is read by its full name, by its first three letters, and by four middle forms that old records have: Sept, Tues,
+ * Thur and Thurs; letters may be large or small. The full name is tried first, then the longest of the others: "Tuesd" takes "Tues" and
+ * leaves "d". A finished reading gives the form of its last weekday name, by %a or %A, and of its last month name, by %b, %B or %h; a
+ * refused one gives none. A number, by %u, %w or %m, is no name and leaves the forms as they are. The writer writes full and short names
+ * alone.
+ */
+enum larusqem_form {
+    LARUSQEM_NO_NAME = 0,
+    LARUSQEM_FULL_NAME = 1, /* May too, whose short form is the same */
+    LARUSQEM_MIDDLE_NAME = 2,
+    LARUSQEM_SHORT_NAME = 3
+};
+
 /* ---- What goes in and comes out */
 
 /* how a writing or an opening ended */
@@ -167,6 +183,8 @@ struct larusqem_moment {
  *   other_hour               0                              0                     the second hour         0
  *   examined                 the days examined              the days examined     the days examined       9: the days examined;
  *                                                                                                         11: the budget; else 0
+ *   weekday_form,            the form of the last name      0 0                   0 0                     0 0
+ *     month_form             of each, 0 where none is read
  */
 struct larusqem_reading {
     uint32_t number;
@@ -185,6 +203,8 @@ struct larusqem_reading {
     uint32_t other_day;
     uint32_t other_hour;
     uint32_t examined;
+    uint32_t weekday_form;
+    uint32_t month_form;
 };
 
 /* ---- Engines (RULES 8.4)
@@ -271,6 +291,8 @@ LARUSQEM_WORD(larusqem_reading, 12, other_month);
 LARUSQEM_WORD(larusqem_reading, 13, other_day);
 LARUSQEM_WORD(larusqem_reading, 14, other_hour);
 LARUSQEM_WORD(larusqem_reading, 15, examined);
+LARUSQEM_WORD(larusqem_reading, 16, weekday_form);
+LARUSQEM_WORD(larusqem_reading, 17, month_form);
 LARUSQEM_ASSERT(larusqem_reading_is_its_words, sizeof(struct larusqem_reading) == LARUSQEM_READING_WORDS * sizeof(uint32_t));
 
 #undef LARUSQEM_WORD

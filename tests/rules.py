@@ -1,10 +1,11 @@
 #!/usr/bin/env python3
-"""Runs the readings, counts and writings that docs/RULES.md shows: python3 tests/rules.py PROGRAM PREFIX
+"""Runs the readings, forms, counts and writings that docs/RULES.md shows: python3 tests/rules.py PROGRAM PREFIX
 
 Each row of its tables of texts, formats and answers is run as a list of one text; the number, the place and, with 0, the date must be the
 program's. The input and the report of the section on the program must be what the program makes of it. Each row of its table of moments,
 formats and answers is run by the library that is installed under PREFIX; all of the buffer must be as the row says. Each row of its table
-of days examined is run there too, by both engines, and with the smallest budget that is enough and the largest that is not.
+of days examined is run there too, by both engines, and with the smallest budget that is enough and the largest that is not; and each row of
+its table of the forms of names, by both engines.
 """
 import ctypes
 import itertools
@@ -16,6 +17,8 @@ import sys
 ROOT = os.path.dirname(os.path.dirname(os.path.abspath(__file__)))
 COUNTS = r"(?m)^\| `([^`|]*)` \| `([^`|]*)` \| (\d+) \| (\d+) \|"
 ROW = r"(?m)^\| (`[^|]*`|any text[^|`]*?)(?: \*)? \| (`[^|]*`|empty) \| (\d+), place (\d+)([^|\n]*)"
+NAMED = r"(?m)^\| `([^`|]*)` \| `([^`|]*)` \| [^|]* \| (none|full|middle|short) \| (none|full|middle|short) \|"
+FORMS = ["none", "full", "middle", "short"]
 BLANKS = {"": 0, "a blank and ": 1, "two blanks and ": 2, "three blanks and ": 3, "seven blanks and ": 7}
 
 
@@ -68,23 +71,31 @@ def writings(rules):
         yield from (((form, moment, room), given) for (moment, form), given in zip(asked, answers))
 
 
-def examined(library, form, text, engine, budget):
-    """The number, the place and the days examined."""
-    words = (ctypes.c_uint32 * 16)()
+def words_of(library, form, text, engine, budget):
+    """The words of a reading."""
+    words = (ctypes.c_uint32 * 18)()
     lengths = [ctypes.c_size_t(len(form)), ctypes.c_size_t(len(text))]
     arguments = [form.encode(), lengths[0], text.encode(), lengths[1], ctypes.c_uint32(engine), ctypes.c_uint32(budget), words]
     library.larusqem_strptime_words(*arguments)
-    return words[0], words[1], words[15]
+    return list(words)
 
 
 def counts(library, rules):
     """A text, a format, an engine and a budget, each with what they shall give and what they give: numbers, places, days examined."""
     for text, form, plain, skipping in re.findall(COUNTS, rules):
         asked = [(form, text, *by) for by in [(0, 0), (1, 0), (2, int(plain))] + [(2, int(plain) - 1)] * (plain != "0")]
-        given = [examined(library, *each) for each in asked]
+        given = [tuple(words[i] for i in (0, 1, 15)) for words in (words_of(library, *each) for each in asked)]
         number, place, _ = given[0]
         expected = [(number, place, int(n)) for n in [skipping, plain, plain]] + [(11, int(plain) - 1, int(plain) - 1)]
         yield from zip(asked, expected, given)
+
+
+def forms(library, rules):
+    """A text, a format and an engine, each with the forms that they shall give and that they give, of a weekday and of a month."""
+    for text, form, weekday, month in re.findall(NAMED, rules):
+        for engine in (0, 1):
+            given = words_of(library, form, text, engine, 0)[16:]
+            yield (form, text, engine), [weekday, month], [FORMS[number] for number in given]
 
 
 def main(program, prefix):
@@ -92,16 +103,19 @@ def main(program, prefix):
         rules = file.read()
     library = ctypes.CDLL(os.path.join(os.path.abspath(prefix), "lib", "liblarusqem.so"))
     library.larusqem_strftime_words.restype = ctypes.c_uint64
-    read, wrote, counted = list(readings(rules)), list(writings(rules)), list(counts(library, rules))
+    read, wrote = list(readings(rules)), list(writings(rules))
+    counted, named = list(counts(library, rules)), list(forms(library, rules))
     wrong = [(text, expected, reported(program, text)) for text, expected in read]
-    wrong += [(asked, expected, written(library, *asked)) for asked, expected in wrote] + counted
+    wrong += [(asked, expected, written(library, *asked)) for asked, expected in wrote] + counted + named
     wrong = [case for case in wrong if case[1] != case[2]]
     for asked, expected, got in wrong:
         print(f"docs/RULES.md says of\n{asked}\nthat the answer is\n{expected}\nand it is\n{got}")
-    print(f"{len(read)} readings, {len(counted)} counts and {len(wrote)} writings of docs/RULES.md tried, {len(wrong)} not as it says")
+    tried = f"{len(read)} readings, {len(named)} forms, {len(counted)} counts and {len(wrote)} writings"
+    print(f"{tried} of docs/RULES.md tried, {len(wrong)} not as it says")
     rows_read = len(rows(rules, "| text | format | answer")) == len(read) - 1
     rows_counted = len(rows(rules, "| said | by")) == len(re.findall(COUNTS, rules))
-    if not (rows_read and rows_counted and wrote and counted):
+    rows_named = len(rows(rules, "| text | format | answer | weekday | month")) == len(re.findall(NAMED, rules))
+    if not (rows_read and rows_counted and rows_named and wrote and counted and named):
         print("docs/RULES.md has a row of a text, a format and an answer that was not understood")
         return 1
     return 1 if wrong else 0

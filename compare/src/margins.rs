@@ -1,7 +1,7 @@
 //! Cases worked by hand, on `rules.rs`: what is expected is typed, not computed.
 use crate::c_library::isspace;
 use crate::random::Random;
-use crate::rules::{matched, read, white, write, Calendar, Engine, Facts, Moment, Reading, DAYS};
+use crate::rules::{matched, read, white, write, Calendar, Engine, Facts, Form, Forms, Moment, Reading, DAYS};
 
 const MORNING: Moment = [1934, 3, 5, 7, 8, 9];
 
@@ -34,10 +34,10 @@ fn margins() {
     assert_eq!(write(&cal, b"%A", &midnight(1900, 2, 29), 9), (2, 3, vec![]));
     writes("", MORNING, "");
 
-    // the days examined aside
+    // the days examined and the forms of names aside
     let reads = |format: &str, text: &str, expected: Reading| {
         let found = read(&cal, Engine::Skipping, format.as_bytes(), text.as_bytes());
-        assert_eq!(Reading { examined: 0, ..found }, expected, "{text} by {format}");
+        assert_eq!(Reading { examined: 0, forms: Forms::default(), ..found }, expected, "{text} by {format}");
     };
     let answer = |number, place| Reading { number, place, ..Reading::default() };
     reads("%G %V %u", "2009 53 5", Reading { day: Some((2010, 1, 1)), ..answer(0, 9) });
@@ -164,6 +164,98 @@ fn engines() {
             assert_eq!(matched.reading(Engine::Within(budget)), *expected, "{text} by {format} within {budget}");
         }
     }
+}
+
+/// Names in every form: number, place, and the forms of the last weekday name and of the last month name.
+#[test]
+fn names() {
+    let cal = Calendar::new();
+    let (full, middle, short) = (Some(Form::Full), Some(Form::Middle), Some(Form::Short));
+    for (format, text, number, place, weekday, month) in [
+        // 2000-02-29 is a Tuesday
+        ("%F %a", "2000-02-29 Tuesday", 0, 18, full, None),
+        ("%F %a", "2000-02-29 Tuesd", 0, 15, middle, None),
+        ("%F %a", "2000-02-29 Tuesda", 0, 15, middle, None),
+        ("%F %a", "2000-02-29 Tuesdays", 0, 18, full, None),
+        ("%F %A", "2000-02-29 tUES", 0, 15, middle, None),
+        ("%F %a", "2000-02-29 Tuess", 0, 15, middle, None),
+        ("%F %a", "2000-02-29 Tue", 0, 14, short, None),
+        ("%F %a", "2000-02-29 Tued", 0, 14, short, None),
+        ("%F %a", "2000-02-29 Tu", 6, 11, None, None),
+        ("%F %a", "2000-02-29 Tu.es", 6, 11, None, None),
+        ("%F %ad", "2000-02-29 Tuesd", 0, 16, middle, None),
+        ("%F %as", "2000-02-29 Tues", 6, 15, None, None),
+        ("%F %as", "2000-02-29 Tuess", 0, 16, middle, None),
+        // and 2000-03-02 a Thursday
+        ("%F %a", "2000-03-02 Thursday", 0, 19, full, None),
+        ("%F %a", "2000-03-02 Thursda", 0, 16, middle, None),
+        ("%F %a", "2000-03-02 Thursd", 0, 16, middle, None),
+        ("%F %a", "2000-03-02 THURS", 0, 16, middle, None),
+        ("%F %a", "2000-03-02 Thur", 0, 15, middle, None),
+        ("%F %a", "2000-03-02 Thurd", 0, 15, middle, None),
+        ("%F %a", "2000-03-02 Thu", 0, 14, short, None),
+        ("%F %a", "2000-03-02 Thus", 0, 14, short, None),
+        ("%F %as", "2000-03-02 Thurs", 6, 16, None, None),
+        // no other weekday has a form between
+        ("%F %a", "2000-02-28 Mond", 0, 14, short, None),
+        ("%F %a", "2000-03-01 Weds", 0, 14, short, None),
+        ("%F %a", "2000-03-01 Wednes", 0, 14, short, None),
+        ("%F %a", "2000-03-04 Satur", 0, 14, short, None),
+        // months
+        ("%d %b %Y", "5 September 1934", 0, 16, None, full),
+        ("%d %b %Y", "5 Sept 1934", 0, 11, None, middle),
+        ("%d %B %Y", "5 sEPT1934", 0, 10, None, middle),
+        ("%d %b %Y", "5 Sep 1934", 0, 10, None, short),
+        ("%d %b %Y", "5 Septem 1934", 6, 6, None, None),
+        ("%Y %d %b", "1934 5 Septem", 0, 11, None, middle),
+        ("%Y %d %h", "1934 5 Septembe", 0, 11, None, middle),
+        ("%Y %d %h", "1934 5 Septembers", 0, 16, None, full),
+        ("%Y %d %b", "1934 5 Sepember", 0, 10, None, short),
+        ("%Y %d %b", "1934 5 Octo", 0, 10, None, short),
+        ("%Y %d %b", "1934 5 June", 0, 11, None, full),
+        ("%Y %d %b", "1934 5 Juné", 0, 10, None, short),
+        ("%Y %d %b", "1934 5 May", 0, 10, None, full),
+        ("%Y %d %b", "1934 5 mays", 0, 10, None, full),
+        ("%Y %d %b", "1934 5 Ma", 6, 7, None, None),
+        // both, and the last of each
+        ("%c", "Thurs Sept  6 07:08:09 1934", 0, 27, middle, middle),
+        ("%c", "Thu September  6 07:08:09 1934", 0, 30, short, full),
+        ("%F %b %B %h", "1934-09-06 Sept September Sep", 0, 29, None, short),
+        ("%F %b %b", "1934-09-06 Sep Sept", 0, 19, None, middle),
+        ("%F %a%A%a", "1934-09-06 ThursdayThurThu", 0, 26, short, None),
+        ("%F %a%a", "1934-09-06 ThuThursday", 0, 22, full, None),
+        ("%F %a %b %a", "1934-09-06 Thu September Thurs", 0, 30, middle, full),
+        // a number is no name, nor is a half of the day
+        ("%F", "1934-09-06", 0, 10, None, None),
+        ("%G %V %u", "2009 53 5", 0, 9, None, None),
+        ("%F %a %u %w", "1934-09-06 Thurs 4 4", 0, 20, middle, None),
+        ("%u %w %F %a", "4 4 1934-09-06 Thur", 0, 19, middle, None),
+        ("%b %F %m", "Sept 1934-09-06 9", 0, 17, None, middle),
+        ("%F %I %p", "1934-09-06 7 PM", 0, 15, None, None),
+        ("%p %a %F %I", "pm Thu 1934-09-06 7", 0, 19, short, None),
+        ("", "", 0, 0, None, None),
+        // a refusal of any number
+        ("%a %F %", "Tues 2000-02-29 ", 3, 6, None, None),
+        ("%a %b %Y", "Tues Sept", 6, 9, None, None),
+        ("%a %b %d", "Tues Sept 32", 7, 10, None, None),
+        ("%a %A", "Tues Wed", 8, 5, None, None),
+        ("%b %m", "Sept 8", 8, 5, None, None),
+        ("%F %a", "2000-02-29 Thurs", 9, 1, None, None),
+        ("%a", "Tues", 10, 1, None, None),
+        ("%d %b", "5 Sept", 10, 1, None, None),
+        ("%F %a %H %p", "2000-02-29 Tues 7 PM", 9, 2, None, None),
+        ("%F %a %I", "2000-02-29 Tues 7", 10, 2, None, None),
+    ] {
+        let matched = matched(&cal, format.as_bytes(), text.as_bytes());
+        for engine in [Engine::Skipping, Engine::Plain, Engine::Within(DAYS as u32)] {
+            let found = matched.reading(engine);
+            assert_eq!((found.number, found.place, found.forms), (number, place, Forms { weekday, month }), "{text} by {format}");
+        }
+    }
+    let over = read(&cal, Engine::Within(1), b"%a %F", b"Tues 2000-02-29");
+    assert_eq!(over, Reading { number: 11, place: 1, examined: 1, ..Reading::default() });
+    // what is written is the full name or the short one
+    assert_eq!(write(&cal, b"%a %A %b %B %h", &midnight(1934, 9, 6), 99).2, b"Thu Thursday Sep September Sep");
 }
 
 /// The quick search and the literal one, on sets of facts that agree with a day or quarrel.

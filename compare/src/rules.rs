@@ -12,6 +12,9 @@ pub const MONTHS: [&str; 12] =
     ["January", "February", "March", "April", "May", "June", "July", "August", "September", "October", "November", "December"];
 pub const HALVES: [&str; 2] = ["AM", "PM"];
 
+/// What is read for a weekday or a month beside its full and its short name (RULES 6).
+const MIDDLES: [&str; 4] = ["Tues", "Thur", "Thurs", "Sept"];
+
 /// The letters of the conversions that show a name or a half of the day.
 pub const NAMED: &[u8] = b"aAbBhpP";
 
@@ -516,6 +519,7 @@ pub struct Reading {
     pub two_days: Option<[(u32, u32, u32); 2]>,
     pub two_hours: Option<[u32; 2]>,
     pub examined: u32,
+    pub forms: Forms,
 }
 
 fn refused(number: u32, place: usize) -> Reading {
@@ -527,10 +531,10 @@ pub fn read(cal: &Calendar, engine: Engine, format: &[u8], text: &[u8]) -> Readi
     matched(cal, format, text).reading(engine)
 }
 
-/// What a reading comes to before an engine is named: the facts, the first unread offset and what there is to find by them, if any fact
-/// bears on the day; or a refusal.
+/// What a reading comes to before an engine is named: the facts, the forms of names, the first unread offset and what there is to find by
+/// the facts, if any of them bears on the day; or a refusal.
 pub enum Matched {
-    Facts { facts: Facts, at: usize, search: Option<Search> },
+    Facts { facts: Facts, forms: Forms, at: usize, search: Option<Search> },
     Refused(Reading),
 }
 
@@ -551,9 +555,9 @@ pub fn matched_opened(cal: &Calendar, opened: &Result<Vec<Item>, usize>, text: &
         Err(at) => Matched::Refused(refused(3, *at)),
         Ok(items) => match read_items(items, text) {
             Err(reading) => Matched::Refused(reading),
-            Ok((facts, at)) => {
+            Ok((facts, forms, at)) => {
                 let search = facts[1..=12].iter().any(|f| f.is_some()).then(|| cal.search(&facts));
-                Matched::Facts { facts, at, search }
+                Matched::Facts { facts, forms, at, search }
             }
         },
     }
@@ -588,22 +592,46 @@ fn goes_on(text: &[u8], name: &str) -> bool {
     text.len() >= name.len() && text[..name.len()].eq_ignore_ascii_case(name.as_bytes())
 }
 
-/// The name that the text goes on with, from 0, and its length: a full name first, then a short one.
-fn name_at(text: &[u8], names: &[&str]) -> Option<(u32, usize)> {
-    for short in [false, true] {
-        for (i, name) in names.iter().enumerate() {
-            let name = if short { &name[..3] } else { name };
-            if goes_on(text, name) {
-                return Some((i as u32, name.len()));
+/// How a weekday or a month is named (RULES 6).
+#[derive(Clone, Copy, PartialEq, Eq, Debug)]
+pub enum Form {
+    Full,
+    Middle,
+    Short,
+}
+
+/// The forms of the last weekday name and of the last month name that were read, if any were.
+#[derive(Clone, Copy, Default, PartialEq, Eq, Debug)]
+pub struct Forms {
+    pub weekday: Option<Form>,
+    pub month: Option<Form>,
+}
+
+/// What is read for a weekday or a month by its full name, that first: each with its form.
+pub fn forms_of(name: &str) -> Vec<(&str, Form)> {
+    let mut all = vec![(name, Form::Full), (&name[..3], Form::Short)];
+    all.extend(MIDDLES.iter().filter(|middle| name.starts_with(**middle)).map(|middle| (*middle, Form::Middle)));
+    all
+}
+
+/// The name that the text goes on with, from 0, its length and its form: a full name, else the longest of the others.
+fn name_at(text: &[u8], names: &[&str]) -> Option<(u32, usize, Form)> {
+    let mut found = Vec::new();
+    for (i, name) in names.iter().enumerate() {
+        for (letters, form) in forms_of(name) {
+            if goes_on(text, letters) {
+                found.push((i as u32, letters.len(), form));
             }
         }
     }
-    None
+    let full = found.iter().find(|(_, _, form)| *form == Form::Full);
+    full.or(found.iter().max_by_key(|(_, length, _)| *length)).copied()
 }
 
-/// What the items read (RULES 6): the facts and the first unread offset, or 6, 7 or 8, from left to right.
-fn read_items(items: &[Item], text: &[u8]) -> Result<(Facts, usize), Reading> {
+/// What the items read (RULES 6): the facts, the forms of names and the first unread offset, or 6, 7 or 8, from left to right.
+fn read_items(items: &[Item], text: &[u8]) -> Result<(Facts, Forms, usize), Reading> {
     let mut facts: Facts = [None; 18];
+    let mut forms = Forms::default();
     let mut at = 0;
     let spaces = |at: usize| text[at..].iter().take_while(|b| white(**b)).count();
     for item in items {
@@ -633,18 +661,19 @@ fn read_items(items: &[Item], text: &[u8]) -> Result<(Facts, usize), Reading> {
             }
             (kind, if letter == b'w' && n == 0 { 7 } else { n }, digits)
         } else {
-            let (kind, found, from) = match letter {
-                b'a' | b'A' => (7, name_at(&text[at..], &WEEKDAYS), 1),
-                b'b' | b'B' | b'h' => (4, name_at(&text[at..], &MONTHS), 1),
-                _ => {
-                    let half = HALVES.iter().position(|h| goes_on(&text[at..], h));
-                    (15, half.map(|h| (h as u32, 2)), 0)
-                }
+            let rest = &text[at..];
+            let found = match letter {
+                b'a' | b'A' => name_at(rest, &WEEKDAYS).map(|(i, length, form)| {
+                    forms.weekday = Some(form);
+                    (7, i + 1, length)
+                }),
+                b'b' | b'B' | b'h' => name_at(rest, &MONTHS).map(|(i, length, form)| {
+                    forms.month = Some(form);
+                    (4, i + 1, length)
+                }),
+                _ => HALVES.iter().position(|half| goes_on(rest, half)).map(|half| (15, half as u32, 2)),
             };
-            match found {
-                None => return Err(refused(6, at)),
-                Some((i, length)) => (kind, i + from, length),
-            }
+            found.ok_or_else(|| refused(6, at))?
         };
         if facts[kind].is_some() && facts[kind] != Some(number) {
             return Err(refused(8, at));
@@ -652,15 +681,15 @@ fn read_items(items: &[Item], text: &[u8]) -> Result<(Facts, usize), Reading> {
         facts[kind] = Some(number);
         at += length;
     }
-    Ok((facts, at))
+    Ok((facts, forms, at))
 }
 
 impl Matched {
     /// The day and the hour that the facts leave (RULES 8).
     pub fn reading(&self, engine: Engine) -> Reading {
-        let (facts, at, search) = match self {
+        let (facts, forms, at, search) = match self {
             Matched::Refused(reading) => return reading.clone(),
-            Matched::Facts { facts, at, search } => (facts, *at, search),
+            Matched::Facts { facts, forms, at, search } => (facts, *forms, *at, search),
         };
         let mut day = None;
         let mut examined = 0;
@@ -689,6 +718,6 @@ impl Matched {
                 [first, second, ..] => return Reading { two_hours: Some([first, second]), examined, ..refused(10, 2) },
             }
         }
-        Reading { number: 0, place: at as u32, day, hour, minute: facts[16], second: facts[17], examined, ..Reading::default() }
+        Reading { number: 0, place: at as u32, day, hour, minute: facts[16], second: facts[17], examined, forms, ..Reading::default() }
     }
 }

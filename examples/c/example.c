@@ -30,6 +30,15 @@ static void write_one(const char *format, struct larusqem_moment moment, size_t 
     printf("\n");
 }
 
+/* in which form a name stood: old records have "Sept", "Tues", "Thur" and "Thurs" */
+static void print_form(const char *name, uint32_t form)
+{
+    static const char *const forms[] = {"full", "middle", "short"};
+
+    if (form != LARUSQEM_NO_NAME)
+        printf(", %s %s", name, forms[form - LARUSQEM_FULL_NAME]);
+}
+
 static void print_reading(const char *text, struct larusqem_reading r)
 {
     printf("read \"%s\":", text);
@@ -43,6 +52,8 @@ static void print_reading(const char *text, struct larusqem_reading r)
             printf(" minute %" PRIu32, r.minute);
         if (r.second_said)
             printf(" second %" PRIu32, r.second);
+        print_form("weekday", r.weekday_form);
+        print_form("month", r.month_form);
         if (r.place < strlen(text))
             printf(", and \"%s\" is left over", text + r.place);
         break;
@@ -113,7 +124,8 @@ static void write_labels(const char *format, const struct larusqem_moment *momen
 
 int main(void)
 {
-    static const char *const margins[] = {"5 Mar 1934 07:08", "29 Feb 1900 07:08", "5 mar 34 07:08", "5 Mar 1934 7:8 or later"};
+    static const char *const margins[] = {"5 Mar 1934 07:08", "29 Feb 1900 07:08", "5 mar 34 07:08", "5 Mar 1934 7:8 or later",
+                                          "5 Sept 1934 07:08"};
     struct larusqem_moment spring = {1934, 3, 5, 7, 8, 9};
     struct larusqem_moment new_year = {2017, 1, 1, 0, 0, 0};
     struct larusqem_moment no_day = {1900, 2, 29, 0, 0, 0};

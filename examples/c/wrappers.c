@@ -253,14 +253,14 @@ static void reads(const char *format, const char *text, struct larusqem_reading 
 static void reading(void)
 {
     static const uint32_t all = 3652059;
-    static const struct larusqem_reading whole = {0, 24, 1934, 3, 5, 1, 7, 1, 8, 1, 9, 0, 0, 0, 0, 31};
-    static const struct larusqem_reading minute = {0, 2, 0, 0, 0, 0, 0, 1, 8, 0, 0, 0, 0, 0, 0, 0};
-    static const struct larusqem_reading ten_bytes = {0, 10, 1934, 3, 5, 0, 0, 0, 0, 0, 0, 0, 0, 0, 0, 31};
-    static const struct larusqem_reading twelve_bytes = {0, 12, 1934, 3, 5, 0, 0, 0, 0, 0, 0, 0, 0, 0, 0, 31};
-    static const struct larusqem_reading friday = {0, 9, 2010, 1, 1, 0, 0, 0, 0, 0, 0, 0, 0, 0, 0, 3652059};
-    static const struct larusqem_reading two_days = {10, 1, 1, 3, 5, 0, 0, 0, 0, 0, 0, 2, 3, 5, 0, 36};
-    static const struct larusqem_reading two_hours = {10, 2, 0, 0, 0, 0, 7, 0, 0, 0, 0, 0, 0, 0, 19, 31};
-    static const struct larusqem_reading two_hours_alone = {10, 2, 0, 0, 0, 0, 7, 0, 0, 0, 0, 0, 0, 0, 19, 0};
+    static const struct larusqem_reading whole = {0, 24, 1934, 3, 5, 1, 7, 1, 8, 1, 9, 0, 0, 0, 0, 31, 3, 3};
+    static const struct larusqem_reading minute = {0, 2, 0, 0, 0, 0, 0, 1, 8, 0, 0, 0, 0, 0, 0, 0, 0, 0};
+    static const struct larusqem_reading ten_bytes = {0, 10, 1934, 3, 5, 0, 0, 0, 0, 0, 0, 0, 0, 0, 0, 31, 0, 3};
+    static const struct larusqem_reading twelve_bytes = {0, 12, 1934, 3, 5, 0, 0, 0, 0, 0, 0, 0, 0, 0, 0, 31, 0, 3};
+    static const struct larusqem_reading friday = {0, 9, 2010, 1, 1, 0, 0, 0, 0, 0, 0, 0, 0, 0, 0, 3652059, 0, 0};
+    static const struct larusqem_reading two_days = {10, 1, 1, 3, 5, 0, 0, 0, 0, 0, 0, 2, 3, 5, 0, 36, 0, 0};
+    static const struct larusqem_reading two_hours = {10, 2, 0, 0, 0, 0, 7, 0, 0, 0, 0, 0, 0, 0, 19, 31, 0, 0};
+    static const struct larusqem_reading two_hours_alone = {10, 2, 0, 0, 0, 0, 7, 0, 0, 0, 0, 0, 0, 0, 19, 0, 0, 0};
     struct larusqem_reading r;
 
     reads("%c", "Mon Mar  5 07:08:09 1934", whole, all, __LINE__);
@@ -292,6 +292,36 @@ static void reading(void)
     CHECK(r.number == LARUSQEM_TEXT_TOO_LONG && r.place == 0);
     r = larusqem_read(elements, 1, "5", 1);
     CHECK(r.number == LARUSQEM_BAD_CONVERSION && r.place == 0);
+}
+
+/* a day of 1934 that was read to a place, by the skipping engine, with the forms of a weekday's and a month's name */
+static struct larusqem_reading named(uint32_t place, uint32_t month, uint32_t day, uint32_t weekday_form, uint32_t month_form)
+{
+    struct larusqem_reading r = refusal(LARUSQEM_DONE, place, month == 9 ? 30 : 31);
+
+    r.year = 1934;
+    r.month = month;
+    r.day = day;
+    r.weekday_form = weekday_form;
+    r.month_form = month_form;
+    return r;
+}
+
+static void forms(void)
+{
+    static const uint32_t none = LARUSQEM_NO_NAME, full = LARUSQEM_FULL_NAME, middle = LARUSQEM_MIDDLE_NAME, brief = LARUSQEM_SHORT_NAME;
+    static const struct larusqem_options skipping = {LARUSQEM_SKIPPING, 0};
+
+    reads("%a %d %b %Y", "Tues 4 Sept 1934", named(16, 9, 4, middle, middle), 3652059, __LINE__);
+    reads_by(skipping, "%A %d %h %Y", "tHUR 6 SEP 1934", named(15, 9, 6, middle, brief), __LINE__);
+    reads_by(skipping, "%a %d %B %Y", "Thurs 10 May 1934", named(17, 5, 10, middle, full), __LINE__);
+    reads_by(skipping, "%d %B %Y %A", "6 march 1934 Tuesd", named(17, 3, 6, middle, full), __LINE__);
+    reads_by(skipping, "%d %b %Y %a", "8 Mar 1934 THURSDA", named(16, 3, 8, middle, brief), __LINE__);
+    reads_by(skipping, "%d %m %Y %u", "8 3 1934 4", named(10, 3, 8, none, none), __LINE__);
+    reads_by(skipping, "%a %A %w %d %b %m %Y", "Thurs Thu 4 8 March 3 1934", named(26, 3, 8, brief, full), __LINE__);
+    reads_by(skipping, "%d %b %Y", "5 Septem 1934", refusal(LARUSQEM_NO_MATCH, 6, 0), __LINE__);
+    reads_by(skipping, "%a %a", "Tues Wed", refusal(LARUSQEM_CONTRADICTION, 5, 0), __LINE__);
+    reads("%a %d %b %Y", "Tues 5 Sept 1934", refusal(LARUSQEM_NONE_AGREES, 1, 30), 3652059, __LINE__);
 }
 
 /* NULL with length 0, for every pointer */
@@ -351,6 +381,7 @@ int main(void)
     opening();
     limits();
     reading();
+    forms();
     nulls();
     calendar();
     printf("%u checks, %u failed\n", checks, failures);

@@ -5,8 +5,9 @@ use crate::engine::Engine;
 /// Year, month, day, hour, minute, second.
 pub type MomentWords = [u32; 6];
 
-/// Number, place, the day, said and number of hour, minute and second, the other day, the other hour, the days examined.
-pub type ReadingWords = [u32; 16];
+/// Number, place, the day, said and number of hour, minute and second, the other day, the other hour, the days examined, the forms of the
+/// last weekday name and of the last month name.
+pub type ReadingWords = [u32; 18];
 
 /// What a format is opened for: flags and widths are taken for writing, and refused for reading.
 #[derive(Clone, Copy)]
@@ -81,7 +82,7 @@ pub fn strftime(format: &[u8], moment: &MomentWords, out: &mut [u8]) -> (u32, us
 
 pub fn strptime(format: &[u8], text: &[u8], engine: Engine) -> ReadingWords {
     let (engine, budget) = engine.numbers();
-    let mut reading = [0; 16];
+    let mut reading = [0; 18];
     unsafe {
         c::larusqem_strptime_words(format.as_ptr(), format.len(), text.as_ptr(), text.len(), engine, budget, &mut reading);
     }
@@ -98,7 +99,7 @@ pub fn write(elements: &[u32], moment: &MomentWords, out: &mut [u8]) -> (u32, us
 
 pub fn read(elements: &[u32], text: &[u8], engine: Engine) -> ReadingWords {
     let (engine, budget) = engine.numbers();
-    let mut reading = [0; 16];
+    let mut reading = [0; 18];
     unsafe {
         c::larusqem_read_words(elements.as_ptr(), elements.len(), text.as_ptr(), text.len(), engine, budget, &mut reading);
     }

@@ -52,6 +52,19 @@
 //! assert!(strptime("%d %b %Y%n", line).unwrap().is_whole(line));
 //! ```
 //!
+//! # Names
+//!
+//! A weekday or a month is read by its full name, by its first three letters, or as `Sept`, `Tues`, `Thur` or `Thurs`. A [`Reading`] tells
+//! the [`NameForm`] of the last of each. They are written full or short.
+//!
+//! ```
+//! use larusqem::{strptime, NameForm};
+//!
+//! let reading = strptime("%a %d %b %Y", "tues 4 Sept 1934").unwrap();
+//! assert_eq!(reading.to_string(), "1934-09-04 --:--:--");
+//! assert_eq!((reading.weekday_form, reading.month_form), (Some(NameForm::Middle), Some(NameForm::Middle)));
+//! ```
+//!
 //! # Flags and widths
 //!
 //! A [`WriteFormat`] takes them, and so does [`strftime`]: `%-d` writes no zero in front, `%_3d` fills to three places with blanks, `%^a`
@@ -94,7 +107,7 @@ pub use engine::Engine;
 pub use error::{Field, FieldError, FormatError, ParseError, ReadError, WriteError};
 pub use format::{Format, WriteFormat};
 pub use moment::Moment;
-pub use reading::Reading;
+pub use reading::{NameForm, Reading};
 
 /// The bytes of the longest writing: `%99d`, 256 times. No format writes more, and a buffer of as many bytes is never too small.
 pub const LONGEST_WRITING: usize = 25_344;

@@ -7,6 +7,40 @@ use alloc::format;
 use alloc::string::ToString;
 use core::fmt;
 
+/// The form in which a name was read (RULES 6.3). The full name is tried first, then the longest of the others; letters may be large or
+/// small. The form tells nothing of the day, but something of who wrote it.
+///
+/// ```
+/// use larusqem::{strptime, NameForm};
+///
+/// let month_form = |text| strptime("%d %b %Y", text).unwrap().month_form;
+/// assert_eq!(month_form("5 September 1934"), Some(NameForm::Full));
+/// assert_eq!(month_form("5 Sept 1934"), Some(NameForm::Middle));
+/// assert_eq!(month_form("5 SEP 1934"), Some(NameForm::Short));
+/// assert_eq!(month_form("5 May 1934"), Some(NameForm::Full));
+/// ```
+#[derive(Clone, Copy, PartialEq, Eq, Hash, Debug)]
+pub enum NameForm {
+    /// The full name, as `Tuesday`. `May` is full, though its short form is the same.
+    Full,
+    /// One of `Sept`, `Tues`, `Thur` and `Thurs`, which old records have.
+    Middle,
+    /// The first three letters, as `Tue`.
+    Short,
+}
+
+impl NameForm {
+    /// The form of a number of the library; none of 0.
+    fn from_number(number: u32) -> Option<NameForm> {
+        match number {
+            1 => Some(NameForm::Full),
+            2 => Some(NameForm::Middle),
+            3 => Some(NameForm::Short),
+            _ => None,
+        }
+    }
+}
+
 /// What a text says: the day and the hour are the only ones that all that it says fits. What it does not say is `None`, and never filled
 /// in.
 #[derive(Clone, Copy, PartialEq, Eq, Hash, Debug)]
@@ -24,6 +58,10 @@ pub struct Reading {
     pub second: Option<u32>,
     /// How many days the [`Engine`](crate::Engine) examined for it.
     pub examined: u32,
+    /// The form of the last weekday name, where one was read. A number, as by `%u`, is no name.
+    pub weekday_form: Option<NameForm>,
+    /// The form of the last month name, where one was read. A number, as by `%m`, is no name.
+    pub month_form: Option<NameForm>,
 }
 
 impl Reading {
@@ -58,7 +96,7 @@ impl Reading {
     /// What the words of a reading say.
     pub(crate) fn from_words(words: ffi::ReadingWords) -> Result<Reading, ReadError> {
         let [number, place, year, month, day, hour_said, hour, minute_said, minute, second_said, second, ..] = words;
-        let [.., other_year, other_month, other_day, other_hour, examined] = words;
+        let [.., other_year, other_month, other_day, other_hour, examined, weekday_form, month_form] = words;
         let offset = place as usize;
         let said = |said: u32, number: u32| (said == 1).then_some(number);
         Err(match (number, place) {
@@ -70,6 +108,8 @@ impl Reading {
                     minute: said(minute_said, minute),
                     second: said(second_said, second),
                     examined,
+                    weekday_form: NameForm::from_number(weekday_form),
+                    month_form: NameForm::from_number(month_form),
                 })
             }
             (1, _) => ReadError::Format(FormatError::TooLong),

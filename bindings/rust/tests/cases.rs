@@ -1,6 +1,6 @@
 //! Worked cases through the Rust types, by a format that is opened once and by one that is not; readings by every engine.
-use larusqem::{strftime, strptime, strptime_with, Date, Engine, Field, Format, FormatError, Moment, ParseError, ReadError, Reading};
-use larusqem::{Weekday, WriteError, WriteFormat, LONGEST_WRITING};
+use larusqem::{strftime, strptime, strptime_with, Date, Engine, Field, Format, FormatError, Moment, NameForm, ParseError, ReadError};
+use larusqem::{Reading, Weekday, WriteError, WriteFormat, LONGEST_WRITING};
 
 fn date(year: u32, month: u32, day: u32) -> Date {
     Date::new(year, month, day).unwrap()
@@ -205,6 +205,30 @@ fn reading() {
     assert_eq!(all(read("", "x").unwrap()), (0, None, None, None, None));
     assert_eq!(all(read("%M", "0").unwrap()), (1, None, None, Some(0), None));
     assert_eq!(all(read("%c", "Mon Mar  5 07:08:09 1934").unwrap()), (24, Some(date(1934, 3, 5)), Some(7), Some(8), Some(9)));
+}
+
+#[test]
+fn forms_of_names() {
+    use NameForm::{Full, Middle, Short};
+    for (format, text, unread, weekday, month) in [
+        ("%a %d %b %Y", "Tues 4 Sept 1934", 16, Some(Middle), Some(Middle)),
+        ("%A %d %h %Y", "tHUR 6 SEP 1934", 15, Some(Middle), Some(Short)),
+        ("%a %d %B %Y", "Thurs 10 May 1934", 17, Some(Middle), Some(Full)),
+        ("%A %d %b %Y", "thursday 6 september 1934", 25, Some(Full), Some(Full)),
+        ("%d %B %Y %A", "6 march 1934 Tuesd", 17, Some(Middle), Some(Full)),
+        ("%d %b %Y %a", "8 Mar 1934 Thursda", 16, Some(Middle), Some(Short)),
+        ("%d %b %Y", "5 Mar 1934", 10, None, Some(Short)),
+        ("%d %m %Y %u", "8 3 1934 4", 10, None, None),
+        ("%a %A %w %d %b %m %Y", "Thurs Thu 4 8 March 3 1934", 26, Some(Short), Some(Full)),
+        ("%b %B %d %Y", "March Mar 5 1934", 16, None, Some(Short)),
+        ("%I %p", "7 PM", 4, None, None),
+    ] {
+        let reading = read(format, text).unwrap();
+        assert_eq!((reading.unread, reading.weekday_form, reading.month_form), (unread, weekday, month), "{format} {text}");
+    }
+    assert_eq!(read("%d %b %Y", "5 Septem 1934"), Err(ReadError::NoMatch { offset: 6 }));
+    assert_eq!(read("%a %a", "Tues Wed"), Err(ReadError::Contradiction { offset: 5 }));
+    assert_eq!(read("%a %d %b %Y", "Tues 5 Sept 1934"), Err(ReadError::NoDay { examined: 30 }));
 }
 
 #[test]

@@ -1,4 +1,4 @@
-// Reading the elements from left to right, with the facts so far.
+// Reading the elements from left to right, with the facts and the forms of names so far.
 use crate::Forms;
 use crate::Outcome;
 use crate::State;
@@ -48,16 +48,18 @@ fn later(before: NameForm, form: NameForm) -> NameForm
 fn met(forms: Forms, kind: u32, form: NameForm) -> Forms
     ensures { λ r. ⌜ r ≡ met forms kind form ⌝ }
 {
+    let weekday = forms.weekday;
+    let month = forms.month;
     if kind == kinds::WEEKDAY {
         return Forms {
-            weekday: later(forms.weekday, form),
-            month: forms.month,
+            weekday: later(weekday, form),
+            month,
         };
     }
     if kind == kinds::MONTH {
         return Forms {
-            weekday: forms.weekday,
-            month: later(forms.month, form),
+            weekday,
+            month: later(month, form),
         };
     }
     forms

@@ -1,20 +1,20 @@
 -- A name held in its row; a text copied over a buffer; a name compared with a text.
-use Prim.Native.Nat.{ℕ, suc, _+_, _≤_, _<_}
+use Prim.Native.Nat.{ℕ, zero, suc, _+_, _-_, _≤_, _<_}
 use mathlib.Core.Path.{_≡_, refl, sym}
 use mathlib.Core.Bool.{Bool, true, false, not}
 use mathlib.Core.List.{List, [], _∷_, _++_, map}
-use native.Mathlib.Numerals.{add-one}
+use native.Mathlib.Numerals.{add-one, unary-clauses}
 use native.Mathlib.Omega.{arith}
 use borrow.Author.Tests.{leb-true, not-true, not-false}
 use lib.Dec.{eqb, leb}
 use lib.ListN.{length, getD, take, drop, set, replicate, length-append, length-take, length-map, length-replicate, drop-of-length-le}
-use lib.Seq.{sets, drop-cons, take-take, take-append-seam}
+use lib.Seq.{sets, drop-cons, take-take, take-append-seam, drop-nil, take-nil}
 use Rattle.laws.specs.Lists.{every}
 use Rattle.laws.proofs.Lists.{each}
 use Rattle.laws.proofs.Stores.{sets-past}
 use Rattle.text.specs.Case.{fold, cased}
-use Rattle.text.specs.Names.{namesOf, nameAt, computes}
-use Rattle.text.specs.Rows.{padded, agreeing}
+use Rattle.text.specs.Names.{namesOf, nameAt, goesOn, computes}
+use Rattle.text.specs.Rows.{padded}
 use Rattle.text.specs.declared.names.Case.{Case}
 use Rattle.text.specs.declared.names.Names.{Names}
 use Rattle.text.specs.declared.names.Names.the-variants.{Weekdays, Months, Halves}
@@ -68,6 +68,13 @@ module _ (t : Names) {rows : List (List ℕ)} {lengths : List ℕ} (p : rows ≡
   unfolding nameAt
   tabled i h = held t i (rw e (entry length 0 (namesOf t) i h)) (rw p (entry padded [] (namesOf t) i h))
 
+-- a name after its first letters, in its row
+pub after-first : (k n : ℕ) (row : List ℕ) → take (n - k) (drop k row) ≡ drop k (take n row)
+after-first zero n row = simp unary-clauses refl
+after-first (suc k) zero row = let none : zero - suc k ≡ 0 = omega arith in rw none refl
+after-first (suc k) (suc n) [] = rw (drop-nil (suc k), take-nil (suc n - suc k)) refl
+after-first (suc k) (suc n) (b ∷ row) = simp unary-clauses (after-first k n row)
+
 -- ---- copying
 
 module _ (k : Case) (x buf : List ℕ) (j : ℕ) where
@@ -88,25 +95,21 @@ module _ (k : Case) (x buf : List ℕ) (j : ℕ) where
 
 -- ---- comparing
 
-none-left : (x : List ℕ) → agreeing x [] ≡ 0
-unfolding agreeing
-none-left [] = refl
-none-left (a ∷ x) = refl
-
 module _ (x s : List ℕ) (j k : ℕ) where
-  pub all-agree : length x ≤ j → agreeing (drop j x) (drop k s) ≡ 0
-  unfolding agreeing
-  all-agree h = rw (drop-of-length-le x h)
+  pub all-same : length x ≤ j → goesOn (drop j x) (drop k s) ≡ true
+  unfolding goesOn
+  all-same h = rw (drop-of-length-le x h)
 
-  pub at-end : length s ≤ k → agreeing (drop j x) (drop k s) ≡ 0
-  at-end h = rw (drop-of-length-le s h) (none-left (drop j x))
+  pub at-end : j < length x → length s ≤ k → goesOn (drop j x) (drop k s) ≡ false
+  unfolding goesOn
+  at-end h l = rw (drop-cons x j 0 h, drop-of-length-le s l)
 
   pub differs : {t : Bool} → j < length x → k < length s → t ≡ eqb (fold (getD x j 0)) (fold (getD s k 0)) → not t ≡ true
-      → agreeing (drop j x) (drop k s) ≡ 0
-  unfolding agreeing
+      → goesOn (drop j x) (drop k s) ≡ false
+  unfolding goesOn
   differs {t} h l e f = rw (drop-cons x j 0 h, drop-cons s k 0 l, ← e, not-true t f)
 
   pub agrees : {t : Bool} → j < length x → k < length s → t ≡ eqb (fold (getD x j 0)) (fold (getD s k 0)) → not t ≡ false
-      → agreeing (drop j x) (drop k s) ≡ suc (agreeing (drop (suc j) x) (drop (suc k) s))
-  unfolding agreeing
+      → goesOn (drop j x) (drop k s) ≡ goesOn (drop (suc j) x) (drop (suc k) s)
+  unfolding goesOn
   agrees {t} h l e f = rw (drop-cons x j 0 h, drop-cons s k 0 l, ← e, not-false t f)

@@ -1,4 +1,4 @@
--- The order of a table of forms, and that they are apart. The laws are in proofs/Distinct.antt.
+-- The order of a table of forms, and that they are apart. The laws are in proofs/Forms.antt.
 use Prim.Native.Nat.{ℕ}
 use mathlib.Core.Bool.{Bool, true, false, cond, _&&_}
 use mathlib.Core.List.{List, [], _∷_}

@@ -65,9 +65,12 @@ unfoldable pub eachAs : NameForm → ℕ → List (List ℕ) → List Form
 eachAs f i [] = []
 eachAs f i (n ∷ ns) = record { letters = n; index = i; form = f } ∷ eachAs f (suc i) ns
 
--- all forms of a table in the order in which they are tried: the full names, then the others, the longest first
+-- the forms of a table in the order in which they are tried: the full names, then the others, the longest first
+unfoldable pub othersOf : Names → List Form
+othersOf t = middlesOf t ++ eachAs Short 0 (map short (namesOf t))
+
 unfoldable pub formsOf : Names → List Form
-formsOf t = eachAs Full 0 (namesOf t) ++ (middlesOf t ++ eachAs Short 0 (map short (namesOf t)))
+formsOf t = eachAs Full 0 (namesOf t) ++ othersOf t
 
 -- ---- reading
 
@@ -90,5 +93,5 @@ readName t s = firstForm (formsOf t) s
 
 -- the tables, for a proof that computes
 unfoldable pub computes : Unit {0}
-unfolding bytes weekdayNames monthNames halfNames namesOf nameAt middle middlesOf eachAs formsOf
+unfolding bytes weekdayNames monthNames halfNames namesOf nameAt middle middlesOf eachAs othersOf formsOf
 computes = tt

@@ -1,22 +1,36 @@
 -- How the code holds and compares names: what its private functions answer.
 use Prim.Native.Nat.{ℕ, suc}
-use mathlib.Core.Bool.{Bool, cond, _&&_}
+use mathlib.Core.Bool.{Bool, true, cond, _&&_}
 use mathlib.Core.List.{List, [], _∷_, _++_, map}
 use mathlib.Core.Path.{_≡_}
-use lib.Dec.{eqb}
+use lib.Dec.{eqb, leb}
 use lib.ListN.{length, getD, take, replicate}
 use Rattle.text.specs.Names.{Form, namesOf, short, goesOn}
+use Rattle.text.specs.declared.names.NameForm.the-variants.{Middle}
 use Rattle.text.specs.declared.names.Names.{Names}
 
 -- a name in its row of nine bytes, with blanks after it
 unfoldable pub padded : List ℕ → List ℕ
 padded n = take 9 (n ++ replicate 9 32)
 
--- some forms in three tables: their rows, their lengths and the places of their names
-pub record IsTable (xs : List Form) (rows : List (List ℕ)) (lengths places : List ℕ) : Type 0 where
-  pub rows-are : rows ≡ map (λ (x : Form). padded (x .letters)) xs
-  pub lengths-are : lengths ≡ map (λ (x : Form). length (x .letters)) xs
-  pub places-are : places ≡ map (λ (x : Form). x .index) xs
+-- the middle forms that three tables hold: their rows, their lengths, and the places of their names
+unfoldable pub middlesIn : List (List ℕ) → List ℕ → List ℕ → List Form
+middlesIn [] ls ps = []
+middlesIn (r ∷ rs) [] ps = []
+middlesIn (r ∷ rs) (n ∷ ls) [] = []
+middlesIn (r ∷ rs) (n ∷ ls) (p ∷ ps) = record { letters = take n r; index = p; form = Middle } ∷ middlesIn rs ls ps
+
+-- names of such lengths stand in such rows
+unfoldable pub inRows : List (List ℕ) → List ℕ → Bool
+inRows [] ls = true
+inRows (r ∷ rs) [] = true
+inRows (r ∷ rs) (n ∷ ls) = leb n (length r) && inRows rs ls
+
+-- tables of one length, whose forms stand in their rows
+pub record Aligned (rows : List (List ℕ)) (lengths places : List ℕ) : Type 0 where
+  pub as-many-lengths : length lengths ≡ length rows
+  pub as-many-places : length places ≡ length rows
+  pub in-rows : inRows rows lengths ≡ true
 
 -- three bytes are the same
 unfoldable pub same : List ℕ → List ℕ → Bool

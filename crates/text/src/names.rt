@@ -1,4 +1,5 @@
 ghost use mathlib.Core.Path.{_≡_};
+ghost use mathlib.Core.Bool.{true};
 ghost use Prim.Native.Nat.{_≤_, _<_};
 ghost use mathlib.Core.List.{[], _∷_, map};
 ghost use lib.Dec.{eqb};
@@ -7,7 +8,7 @@ ghost use lib.Seq.{sets};
 ghost use Rattle.text.specs.Case.{fold, capital, cased};
 ghost use Rattle.text.specs.Names.{namesOf, nameAt, short, goesOn, middlesOf, firstForm, readName};
 ghost use Rattle.text.specs.Naming.{firstValue, placeFor, valueAt};
-ghost use Rattle.text.specs.Rows.{padded, same, placeOf, shortPlace, IsTable};
+ghost use Rattle.text.specs.Rows.{padded, middlesIn, Aligned, same, placeOf, shortPlace};
 
 // The tables of names: seven weekdays, twelve months, the two halves of the day.
 pub enum Names {
@@ -338,17 +339,17 @@ fn in_full(t: Names, i: usize, s: &[u8], at: usize) -> bool
     goes_on(&name[3..n], s, at + 3)
 }
 
-// The first of some middle forms that the text goes on with.
+// The first of some middle forms that the text goes on with. The tables are lent, so that they are laid out once and not for each form.
 fn first_middle(
-    t: Names,
     rows: &[[u8; 9]],
     lengths: &[usize],
     places: &[usize],
     s: &[u8],
     at: usize,
 ) -> NameRead
-    requires { ⌜ IsTable (middlesOf t) (now rows) (now lengths) (now places) ⌝ }
-    ensures { λ r. ⌜ r ≡ firstForm (middlesOf t) (drop at (now (s .entry))) ⌝ }
+    requires { ⌜ Aligned (now rows) (now lengths) (now places) ⌝ }
+    ensures { λ r. ⌜ r
+        ≡ firstForm (middlesIn (now (rows .entry)) (now (lengths .entry)) (now (places .entry))) (drop at (now (s .entry))) ⌝ }
 {
     let mut j = 0;
     while j < rows.len() {
@@ -371,7 +372,6 @@ fn read_middle(t: Names, s: &[u8], at: usize) -> NameRead
 {
     match t {
         Names::Weekdays => first_middle(
-            t,
             &WEEKDAY_MIDDLES,
             &WEEKDAY_MIDDLE_LENGTHS,
             &WEEKDAY_MIDDLE_PLACES,
@@ -379,7 +379,6 @@ fn read_middle(t: Names, s: &[u8], at: usize) -> NameRead
             at,
         ),
         Names::Months => first_middle(
-            t,
             &MONTH_MIDDLES,
             &MONTH_MIDDLE_LENGTHS,
             &MONTH_MIDDLE_PLACES,

@@ -1,15 +1,15 @@
 //! Vectors for the reader: the input of the program read_cases, and what it must write.
 //!
 //! The input is pairs of lines: a format, and a text, each its own bytes up to the newline. A line of the output is
-//! `number place date hour minute second | shown | examined`: what is unsaid is -, shown has the first two days or hours of number 10,
-//! and examined is how many days the skipping engine examined.
+//! `number place date hour minute second | shown | examined | weekday month`: what is unsaid is -, shown has the first two days or hours of
+//! number 10, examined is how many days the skipping engine examined, and last come the forms of names: -, full, middle or short.
 //!
 //! Texts that the C library's strftime wrote for a known moment must moreover be read as that moment, where the format names one day and
 //! one hour.
 use crate::{cat, Counts};
 use compare::c_library;
 use compare::random::Random;
-use compare::rules::{self, numeric, write, Calendar, Engine, Moment, Reading, HALVES, MONTHS, WEEKDAYS};
+use compare::rules::{self, forms_of, numeric, write, Calendar, Engine, Form, Moment, Reading, MONTHS, WEEKDAYS};
 use std::fs;
 use std::path::Path;
 
@@ -75,6 +75,43 @@ const SAID_TWICE: &str = "
 %T %R: 07:08:09 7:8 | 07:08:09 7:9
 %D %F: 03/05/34 1934-03-05 | 03/05/34 1934-03-06 | 03/05/34 1934-04-05 | 03/05/35 1934-03-05
 %c %x: Mon Mar  5 07:08:09 1934 03/05/34 | Mon Mar  5 07:08:09 1934 03/06/34
+";
+
+/// Names that follow one another, beside numbers and halves of the day, and before refusals of every number.
+const NAMES: &str = "
+%c: Thurs Sept  6 07:08:09 1934 | tHUR September 6 7:8:9 1934 | Thursday Sep 6 7:8:9 1934 | Thu SEPT 6 7:8:9 1934 | Thursd Sep 6 7:8:9 1934
+%Ec: Tues May  8 07:08:09 1934 | Tue may 8 7:8:9 1934 | Tuesday MAYS 8 7:8:9 1934
+%F %a %A: 2000-02-29 Tue Tues | 2000-02-29 Tues Tue | 2000-02-29 Tuesday Tues | 2000-02-29 Tues Tuesday | 2000-02-29 Tue Tuesday
+%F %a%A%a: 2000-03-02 ThurThursThur | 2000-03-02 ThuThurThursday | 2000-03-02 ThursdayThursThu | 2000-03-02 ThurThursdThu
+%F %b%B%h: 1934-09-06 SeptSeptemberSep | 1934-09-06 SepSeptSept | 1934-09-06 SeptemberSepSept | 1934-09-06 SepSepSeptember
+%F %B %h: 1934-05-08 may MAY | 1934-06-08 Jun June | 1934-06-08 June Jun
+%F %a %b %a: 1934-09-06 Thu September Thurs | 1934-09-06 Thursday Sep Thu
+%b %a %F %B: Sept Thurs 1934-09-06 Sep | Sep Thursday 1934-09-06 Sept
+%F %a %u %w: 2000-02-29 Tues 2 2 | 2000-02-29 Tuesday 2 2 | 2000-02-29 Tues 2 3
+%u %w %F %A: 4 4 2000-03-02 Thur | 4 4 2000-03-02 Thursday
+%b %F %m: Sept 1934-09-06 9 | September 1934-09-06 09 | Sept 1934-09-06 10
+%m %d %Y %h: 9 6 1934 Sept | 9 6 1934 Sep
+%F %u: 2000-02-29 2
+%I %p %a %F: 7 PM Thurs 1934-09-06 | 7 am Thu 1934-09-06
+%a %F %I %p: Thurs 1934-09-06 7 PM | Thu 1934-09-06 12 am
+%I%p: 7AM | 7Am | 7aM | 7pm | 7pM | 7A | 7P | 7AMs | 7PM4 | 7A.M | 7 AM
+%P%I: AM7 | Pm07 | A7 | pms7 |  PM7 | P\0M7
+%ad %F: Tuesd 2000-02-29 | Tuesdayd 2000-02-29 | Tued 2000-02-29 | Tues 2000-02-29
+%as %F: Tues 2000-02-29 | Tuess 2000-02-29 | Tue 2000-02-29 | Thurs 2000-03-02 | Thurss 2000-03-02
+%at %bt: Sat Sept | Satt Septt | Saturdayt Septembert
+%a: Tues | Thur | Thurs | Thursd | Sept
+%b: Sept | septem | May | Thurs
+%d %b: 6 Sept | 31 Sept | 6 Septs
+%a %b %Y: Tues Sept | Tues Sept x
+%a %b %d: Tues Sept 32 | Tues September 0
+%a %A: Tues Wed | Thurs Tues | Thur Thurs
+%b %m: Sept 9 | Sept 8 | May 5
+%F %a: 2000-02-29 Thurs | 2000-03-02 Tues | 2000-02-30 Tues
+%F %b: 1934-09-06 Octo | 1934-09-06 Septum
+%F %a %H %p: 2000-02-29 Tues 7 PM | 2000-02-29 Tues 7 AM
+%F %a %I: 2000-02-29 Tues 7
+%a %b %Q: Tues Sept
+%a %b %: Tues Sept
 ";
 
 /// Facts that agree with one day, with none and with several, and each kind alone.
@@ -153,11 +190,6 @@ fn swapped(text: &str) -> String {
     text.chars().map(|c| if c.is_ascii_lowercase() { c.to_ascii_uppercase() } else { c.to_ascii_lowercase() }).collect()
 }
 
-/// The first so many letters of a name.
-fn cut(name: &str, letters: usize) -> &str {
-    &name[..letters.min(name.len())]
-}
-
 impl Cases<'_> {
     fn add(&mut self, format: impl AsRef<[u8]>, text: impl AsRef<[u8]>) {
         self.all.push((format.as_ref().to_vec(), text.as_ref().to_vec()));
@@ -215,8 +247,7 @@ impl Cases<'_> {
             let text = text.as_bytes();
             for at in 0..text.len() {
                 let (before, after) = (&text[..at], &text[at + 1..]);
-                let drawn = *self.random.pick(b"123456789:/-MaApP");
-                for byte in [0, 13, 32, 48, 57, 120, 255, text[at] ^ 32, drawn] {
+                for byte in [0, 13, 32, 48, 57, 120, 255, text[at] ^ 32] {
                     self.add(format, cat(&[before, &[byte], after]));
                 }
                 self.add(format, cat(&[before, after]));
@@ -247,31 +278,24 @@ impl Cases<'_> {
         }
     }
 
-    /// Weekdays, months and halves of the day, whole, short, cut and in any case.
+    /// Weekdays and months: each beginning of the full name, up to one letter too many; each form in small letters and in capitals, and
+    /// with a letter after it; and damaged. Before it or after it stands what leaves one day for each name.
     fn names(&mut self) {
-        for (letters, table) in [("aA", &WEEKDAYS[..]), ("bBh", &MONTHS), ("pP", &HALVES)] {
-            for (place, name) in table.iter().enumerate() {
+        for (letters, names, beside, said) in [("aA", &WEEKDAYS[..], "%G%V", "200009"), ("bBh", &MONTHS, "%Y%d", "200001")] {
+            for (place, name) in names.iter().enumerate() {
                 let letter = place % letters.len();
                 let format = format!("%{}", &letters[letter..letter + 1]);
-                let short = cut(name, 3);
-                let (two, rest) = name.split_at(2);
-                for text in [
-                    name.to_string(),
-                    name.to_lowercase(),
-                    name.to_uppercase(),
-                    swapped(name),
-                    short.to_string(),
-                    short.to_lowercase(),
-                    cut(name, 4).to_string(),
-                    cut(name, name.len() - 1).to_string(),
-                    two.to_string(),
-                    format!("{name}s"),
-                    format!(" {name}"),
-                    format!("{short}.{}", &name[short.len()..]),
-                    format!("{two}\0{rest}"),
-                ] {
-                    self.add(&format, &text);
-                    self.add(format!("{format}%Y"), format!("{text}2020"));
+                let mut texts: Vec<String> = (1..=name.len()).map(|n| name[..n].to_string()).collect();
+                for (form, _) in forms_of(name) {
+                    texts.extend([form.to_lowercase(), form.to_uppercase(), format!("{form}s")]);
+                }
+                let (short, rest) = name.split_at(3);
+                texts.extend([swapped(name), format!("{short}.{rest}"), format!(" {short}"), format!("{}\0{}", &name[..2], &name[2..])]);
+                texts.sort();
+                texts.dedup();
+                for text in texts {
+                    self.add(format!("{beside}{format}"), format!("{said}{text}"));
+                    self.add(format!("{format}{beside}"), format!("{text}{said}"));
                 }
             }
         }
@@ -487,7 +511,18 @@ fn line_of(r: &Reading) -> String {
         (_, Some([a, b])) => format!("{a} {b}"),
         _ => String::new(),
     };
-    format!("{} {} {day} {} {} {} | {shown} | {}\n", r.number, r.place, said(r.hour), said(r.minute), said(r.second), r.examined)
+    let time = format!("{} {} {}", said(r.hour), said(r.minute), said(r.second));
+    let (weekday, month) = (form_name(r.forms.weekday), form_name(r.forms.month));
+    format!("{} {} {day} {time} | {shown} | {} | {weekday} {month}\n", r.number, r.place, r.examined)
+}
+
+fn form_name(form: Option<Form>) -> &'static str {
+    match form {
+        None => "-",
+        Some(Form::Full) => "full",
+        Some(Form::Middle) => "middle",
+        Some(Form::Short) => "short",
+    }
 }
 
 pub fn make(cal: &Calendar, input_path: &Path, output_path: &Path) -> std::io::Result<()> {
@@ -498,12 +533,13 @@ pub fn make(cal: &Calendar, input_path: &Path, output_path: &Path) -> std::io::R
     cases.damaged();
     cases.numbers();
     cases.names();
+    cases.table(NAMES);
     cases.table(SAID_TWICE);
     cases.table(DAYS);
     cases.hours();
     cases.white_space();
     cases.limits();
-    cases.drawn(600);
+    cases.drawn(360);
     let (mut input, mut output) = (Vec::new(), String::new());
     let mut counts = Counts::default();
     for (format, text) in &cases.all {
@@ -513,6 +549,8 @@ pub fn make(cal: &Calendar, input_path: &Path, output_path: &Path) -> std::io::R
             9 | 10 => format!("number {:>2}, place {}", reading.number, reading.place),
             number => format!("number {number:>2}"),
         });
+        counts.count(format!("weekday {}", form_name(reading.forms.weekday)));
+        counts.count(format!("month {}", form_name(reading.forms.month)));
         input.extend(cat(&[format, b"\n", text, b"\n"]));
         output += &line_of(&reading);
     }

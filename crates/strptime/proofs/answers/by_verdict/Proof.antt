@@ -2,7 +2,7 @@
 use borrow.Author.Needs.{needs}
 use mathlib.Core.Path.{sym, _∙_}
 use Rattle.judge.proofs.Demand.{day-judged}
-use Rattle.strptime.specs.Answers.{readingOf, withDay}
+use Rattle.strptime.specs.Answers.{showing, refused, naming, examining, readingOf, withDay}
 use Rattle.strptime.specs.Private.{withDated}
 use Rattle.strptime.proofs.answers.by_verdict.Statement.{statement}
 use Rattle.strptime.proofs.answers.by_verdict.Tie as tie
@@ -37,19 +37,19 @@ said-date-requires c κs =
 
 returns : tie.Need-returns
 unfolding withDay withDated
-returns c = rw (c .enum-told .given .1)
+returns c fs = rw (c .enum-told .given .1)
 
 returns-2 : tie.Need-returns-2
-unfolding readingOf withDay withDated
-returns-2 c = rw (c .enum-told2 .given .1)
+unfolding readingOf naming examining refused showing withDay withDated
+returns-2 c fs = rw (c .enum-told2 .given .1)
 
 returns-3 : tie.Need-returns-3
-unfolding readingOf withDay withDated
-returns-3 c = rw (c .before .before .before .verdict .given .1, c .before .date-at .ensures, c .date-at2 .ensures)
+unfolding readingOf naming examining showing withDay withDated
+returns-3 c fs = rw (c .before .before .before .verdict .given .1, c .before .date-at .ensures, c .date-at2 .ensures)
 
 returns-4 : tie.Need-returns-4
 unfolding withDay withDated
-returns-4 c = rw (c .before .before .verdict2 .given .1, c .said-date .ensures)
+returns-4 c fs = rw (c .before .before .verdict2 .given .1, c .said-date .ensures)
 
 pub by-verdict-spec : {M : Type 1} → statement M
 by-verdict-spec =

@@ -2,7 +2,7 @@
 use borrow.Author.Needs.{needs}
 use mathlib.Core.Path.{sym, _∙_}
 use Rattle.judge.proofs.Engines.{searched-verdict}
-use Rattle.strptime.specs.Answers.{readingOf, withSearched, judged}
+use Rattle.strptime.specs.Answers.{showing, refused, naming, examining, overBudget, readingOf, withSearched, judged}
 use Rattle.strptime.specs.Private.{withDated}
 use Rattle.strptime.proofs.answers.date_by.Statement.{statement}
 use Rattle.strptime.proofs.answers.date_by.Tie as tie
@@ -23,11 +23,12 @@ enum-known-budget c = search needs
 
 returns : tie.Need-returns
 unfolding withSearched judged
-returns c = rw (← c .before .before .before .before .judge-day .ensures, c .before .before .verdict .given .1) (c .by-verdict .ensures)
+returns c fs =
+    rw (← c .before .before .before .before .judge-day .ensures, c .before .before .verdict .given .1) (c .by-verdict .ensures fs)
 
 returns-2 : tie.Need-returns-2
-unfolding readingOf withSearched judged withDated
-returns-2 c = rw (← c .before .before .before .judge-day .ensures, c .before .budget .given .1)
+unfolding readingOf naming overBudget examining refused showing withSearched judged withDated
+returns-2 c fs = rw (← c .before .before .before .judge-day .ensures, c .before .budget .given .1)
 
 pub date-by-spec : {M : Type 1} → statement M
 date-by-spec =

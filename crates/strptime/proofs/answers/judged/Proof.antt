@@ -22,13 +22,15 @@ unfolding withDated
 returns c =
     let d = c .before .before in
     let e = d .before .before in
-    c .with-hour .ensures ∙ ap (withDated (e .before .args .state)) (sym (d .day .given .1)) ∙ e .date-by .ensures
+    let a = e .before .args in
+    c .with-hour .ensures ∙ ap (withDated (a .state) (a .forms)) (sym (d .day .given .1)) ∙ e .date-by .ensures (a .forms)
 
 returns-2 : tie.Need-returns-2
 unfolding withDated
 returns-2 c =
     let e = c .before .before .before in
-    ap (withDated (e .before .args .state)) (sym (c .before .answer .given .1)) ∙ e .date-by .ensures
+    let a = e .before .args in
+    ap (withDated (a .state) (a .forms)) (sym (c .before .answer .given .1)) ∙ e .date-by .ensures (a .forms)
 
 pub judged-spec : {M : Type 1} → statement M
 judged-spec =

@@ -1,6 +1,6 @@
 -- `strptime::answers::reading_of` meets its contract. Assumes nothing.
 use borrow.Author.Needs.{needs}
-use Rattle.strptime.specs.Answers.{showing, refused, finished, examining, overBudget, readingOf}
+use Rattle.strptime.specs.Answers.{showing, refused, finished, naming, examining, overBudget, readingOf}
 use Rattle.strptime.proofs.answers.reading_of.Statement.{statement}
 use Rattle.strptime.proofs.answers.reading_of.Tie as tie
 
@@ -77,7 +77,7 @@ showing-requires-2 : tie.Need-showing-requires-2
 showing-requires-2 c κs = search needs
 
 returns : tie.Need-returns
-unfolding readingOf examining finished
+unfolding readingOf naming examining finished
 returns c = rw (c .before .answer .given .1)
 
 returns-2 : tie.Need-returns-2

@@ -1,6 +1,6 @@
 -- `strptime::answers::with_hour` meets its contract. Assumes nothing.
 use borrow.Author.Needs.{needs}
-use Rattle.strptime.specs.Answers.{readingOf, withHour}
+use Rattle.strptime.specs.Answers.{showing, refused, naming, examining, readingOf, withHour}
 use Rattle.strptime.proofs.answers.with_hour.Statement.{statement}
 use Rattle.strptime.proofs.answers.with_hour.Tie as tie
 
@@ -30,11 +30,11 @@ unfolding withHour
 returns c = rw (← c .before .before .before .judge-hour .ensures, c .before .enum-told .given .1) (c .done .ensures)
 
 returns-2 : tie.Need-returns-2
-unfolding readingOf withHour
+unfolding readingOf naming examining refused showing withHour
 returns-2 c = rw (← c .before .before .judge-hour .ensures, c .enum-told2 .given .1)
 
 returns-3 : tie.Need-returns-3
-unfolding readingOf withHour
+unfolding readingOf naming examining showing withHour
 returns-3 c = rw (← c .before .before .before .judge-hour .ensures, c .before .first .given .1)
 
 returns-4 : tie.Need-returns-4

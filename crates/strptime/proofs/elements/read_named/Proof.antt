@@ -22,20 +22,20 @@ cast-value-at c =
     omega (
       arith,
       few-names (a .names),
-      name-named (a .names) _ _ _ (sym (d .read-name .ensures) ∙ c .before .index .given .1) .place,
+      name-named (a .names) _ (sym (d .read-name .ensures) ∙ c .before .index .given .1) .place,
     )
 
 value-at-requires : tie.Need-value-at-requires
 value-at-requires c κs = search needs
 
-add-t11 : tie.Need-add-t11
-add-t11 c =
+add-t12 : tie.Need-add-t12
+add-t12 c =
     let d = c .before .before .before .before in
     let a = d .before .before .args in
     omega (
       arith,
       length-drop (a .at) (now (a .s)),
-      name-named (a .names) _ _ _ (sym (d .read-name .ensures) ∙ c .before .before .index .given .1) .long,
+      name-named (a .names) _ (sym (d .read-name .ensures) ∙ c .before .before .index .given .1) .long,
     )
 
 enum-told : tie.Need-enum-told
@@ -43,7 +43,7 @@ enum-told c = search needs
 
 returns : tie.Need-returns
 returns c =
-    name-found _ _ _ _ (c .before .before .before .before .read-name .ensures) _ _ (c .before .before .index .given .1)
+    name-found _ _ _ _ (c .before .before .before .before .read-name .ensures) _ _ _ (c .before .before .index .given .1)
     (c .value-at .ensures)
 
 returns-2 : tie.Need-returns-2
@@ -57,7 +57,7 @@ read-named-spec =
     enum-known-index
     cast-value-at
     value-at-requires
-    add-t11
+    add-t12
     enum-told
     returns
     returns-2)

@@ -29,8 +29,8 @@ returns-3 c =
     let d = f .before .before in
     number-high _ _ _ (omega arith) (d .before .skip-space .ensures) (d .read-digits .ensures) (f .if1 .left) (omega arith) (omega arith)
 
-add-t7 : tie.Need-add-t7
-add-t7 c =
+add-t8 : tie.Need-add-t8
+add-t8 c =
     let d = c .before .before .before .before .before .before .before .before .before in
     let a = d .before .before .before .args in
     omega (
@@ -53,5 +53,5 @@ read-number-spec =
     returns
     returns-2
     returns-3
-    add-t7
+    add-t8
     returns-4)

@@ -5,20 +5,21 @@ use native.Mathlib.Omega.{arith}
 use borrow.Author.Needs.{needs}
 use lib.ListN.{length, drop}
 use denote.Ref.{now}
-use Rattle.strptime.specs.Reading.{here, unsaid, start, readAll}
+use Rattle.strptime.specs.Reading.{here, unsaid, start, noForms, readAll}
 use Rattle.strptime.proofs.Walk.{step-within, all-end, all-more, all-stop}
 use Rattle.strptime.proofs.steps.read_all.Statement.{statement}
 use Rattle.strptime.proofs.steps.read_all.Tie as tie
 
 abbrev Inv-loop : tie.InvT-loop
-Inv-loop elements s said₀ at₀ i₀ said at i =
-    (i ≤ length elements) × (at ≤ length s) × (readAll (drop i elements) s (here said at) ≡ readAll elements s start)
+Inv-loop elements s said₀ at₀ forms₀ i₀ said at forms i =
+    (i ≤ length elements) × (at ≤ length s)
+    × (readAll (drop i elements) s (here said at) forms ≡ readAll elements s start noForms)
 
 abbrev μ-loop : tie.MeasureT-loop
-μ-loop elements s said₀ at₀ i₀ said at i = length elements - i
+μ-loop elements s said₀ at₀ forms₀ i₀ said at forms i = length elements - i
 
 loop-holds : tie.Need-loop-holds Inv-loop μ-loop
-unfolding start unsaid
+unfolding start unsaid noForms
 loop-holds c = (omega arith, omega arith, refl)
 
 mul-step-on : tie.Need-mul-step-on Inv-loop μ-loop
@@ -38,11 +39,11 @@ stopped-requires c κs = tt
 
 returns : tie.Need-returns Inv-loop μ-loop
 returns c =
-    let d = c .before .before in
+    let d = c .before .before .before in
     let a = d .before .before .before .before .before .before .before .args in
     let l = d .before .before .before .before .loop in
     c .stopped .ensures
-    ∙ sym (all-stop (now (a .elements)) (now (a .s)) _ (l .i) (omega arith) _ _ (d .step-on .ensures) (c .before .match .keys2))
+    ∙ sym (all-stop (now (a .elements)) (now (a .s)) _ _ (l .i) (omega arith) _ _ _ (d .step-on .ensures) (c .before .match .keys2))
     ∙ l .inv .2
 
 add-i : tie.Need-add-i Inv-loop μ-loop
@@ -53,13 +54,13 @@ loop-less c = omega arith
 
 loop-again : tie.Need-loop-again Inv-loop μ-loop
 loop-again c =
-    let d = c .before .before in
+    let d = c .before .before .before in
     let a = d .before .before .before .before .before .before .before .args in
     let l = d .before .before .before .before .loop in
     let e = d .step-on .ensures in (
       omega arith,
-      step-within _ (now (a .s)) _ _ _ (l .inv .1) e,
-      sym (all-more (now (a .elements)) (now (a .s)) _ (l .i) (omega arith) _ _ e (c .enum-told .given .1)) ∙ l .inv .2,
+      step-within _ (now (a .s)) _ _ _ _ _ (l .inv .1) e,
+      sym (all-more (now (a .elements)) (now (a .s)) _ _ (l .i) (omega arith) _ _ _ e (c .enum-told .given .1)) ∙ l .inv .2,
     )
 
 stopped-requires-2 : tie.Need-stopped-requires-2 Inv-loop μ-loop
@@ -69,7 +70,7 @@ returns-2 : tie.Need-returns-2 Inv-loop μ-loop
 returns-2 c =
     let a = c .before .before .before .before .before .args in
     let l = c .before .before .loop in
-    c .stopped2 .ensures ∙ sym (all-end (now (a .elements)) (now (a .s)) _ (l .i) (omega arith)) ∙ l .inv .2
+    c .stopped2 .ensures ∙ sym (all-end (now (a .elements)) (now (a .s)) _ _ (l .i) (omega arith)) ∙ l .inv .2
 
 pub read-all-spec : {M : Type 1} → statement M
 read-all-spec =

@@ -39,7 +39,7 @@ conflicts-requires c κs = told-small _ _ (said (c .before))
 returns : tie.Need-returns
 returns c =
     let d = c .before .before .before .before in
-    on-conflict _ _ _ (d .before .before .read-element .ensures) (d .kind .given .1) (c .before .conflicts .ensures) (c .if1 .taken)
+    on-conflict _ _ _ _ (d .before .before .read-element .ensures) (d .kind .given .1) (c .before .conflicts .ensures) (c .if1 .taken)
 
 add-said : tie.Need-add-said
 add-said c = omega (arith, told-small _ _ (said (c .before .before .before)))
@@ -53,6 +53,9 @@ mul-said c = search needs
 element-write-said : tie.Need-element-write-said
 element-write-said c = omega (arith, said (c .before .before .before))
 
+met-requires : tie.Need-met-requires
+met-requires c κs = search needs
+
 enum-known-p : tie.Need-enum-known-p
 enum-known-p c = search needs
 
@@ -60,18 +63,20 @@ enum-known-p-2 : tie.Need-enum-known-p-2
 enum-known-p-2 c = search needs
 
 returns-2 : tie.Need-returns-2
-returns-2 c = on-skip _ _ _ (c .before .before .before .read-element .ensures) (c .before .next .given .1)
+returns-2 c = on-skip _ _ _ _ (c .before .before .before .read-element .ensures) (c .before .next .given .1)
 
 returns-3 : tie.Need-returns-3
 returns-3 c =
-    let d = c .before .before .before .before in
-    on-fact _ _ _ (d .before .before .read-element .ensures) (d .kind .given .1) (c .before .conflicts .ensures) (c .if1 .left)
+    let f = c .before .before in
+    let d = f .before .before .before in
+    on-fact _ _ _ _ (d .before .before .read-element .ensures) (d .kind .given .1) (f .conflicts .ensures) (c .before .if1 .left)
+    (c .met .ensures)
 
 returns-4 : tie.Need-returns-4
-returns-4 c = on-mismatch _ _ _ (c .before .before .before .read-element .ensures) (c .before .p .given .1)
+returns-4 c = on-mismatch _ _ _ _ (c .before .before .before .read-element .ensures) (c .before .p .given .1)
 
 returns-5 : tie.Need-returns-5
-returns-5 c = on-range _ _ _ (c .before .before .before .read-element .ensures) (c .before .p2 .given .1)
+returns-5 c = on-range _ _ _ _ (c .before .before .before .read-element .ensures) (c .before .p2 .given .1)
 
 pub step-on-spec : {M : Type 1} → statement M
 step-on-spec =
@@ -89,6 +94,7 @@ step-on-spec =
     cast-said
     mul-said
     element-write-said
+    met-requires
     enum-known-p
     enum-known-p-2
     returns-2

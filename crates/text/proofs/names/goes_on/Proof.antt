@@ -1,31 +1,30 @@
--- `text::names::matching` meets its contract. The invariant: the letters passed and those that agree from here on come to what
--- is to be shown.
-use Prim.Native.Nat.{_+_, _-_, _≤_}
-use mathlib.Core.Path.{_≡_}
-use native.Mathlib.Nat.{zero-add}
+-- `text::names::goes_on` meets its contract. The invariant: what is left of the text goes on with what is left of the name exactly if the
+-- whole does.
+use Prim.Native.Nat.{_-_}
+use mathlib.Core.Path.{_≡_, refl, sym, _∙_}
 use native.Mathlib.Numerals.{add-one}
 use native.Mathlib.Omega.{arith}
 use lib.ListN.{length, drop}
-use Rattle.text.specs.Rows.{agreeing}
-use Rattle.text.proofs.Rows.{all-agree, at-end, differs, agrees}
-use Rattle.text.proofs.names.matching.Statement.{statement}
-use Rattle.text.proofs.names.matching.Tie as tie
+use Rattle.text.specs.Names.{goesOn}
+use Rattle.text.proofs.Rows.{all-same, at-end, differs, agrees}
+use Rattle.text.proofs.names.goes_on.Statement.{statement}
+use Rattle.text.proofs.names.goes_on.Tie as tie
 
 abbrev Inv-loop : tie.InvT-loop
 Inv-loop name s at j₀ k₀ j k =
-    (j ≤ length name) × (j + agreeing (drop j name) (drop k s) ≡ agreeing name (drop at s))
+    goesOn (drop j name) (drop k s) ≡ goesOn name (drop at s)
 
 abbrev μ-loop : tie.MeasureT-loop
 μ-loop name s at j₀ k₀ j k = length name - j
 
 loop-holds : tie.Need-loop-holds Inv-loop μ-loop
-loop-holds c = (omega arith, zero-add _)
+loop-holds c = refl
 
 returns : tie.Need-returns Inv-loop μ-loop
 returns c =
     let l = c .before .before in
     let a = l .before .before .before .args in
-    omega (arith, at-end (a .name .now) (a .s .now) (l .loop .j) (l .loop .k) (omega arith))
+    sym (at-end (a .name .now) (a .s .now) (l .loop .j) (l .loop .k) (omega arith) (omega arith)) ∙ l .loop .inv
 
 shared-slice-read-same-letter : tie.Need-shared-slice-read-same-letter Inv-loop μ-loop
 shared-slice-read-same-letter c = omega arith
@@ -41,7 +40,8 @@ returns-2 c =
     let l = c .before .before .before .before .before .before in
     let a = l .before .before .before .args in
     let e = c .before .same-letter .ensures in
-    omega (arith, differs (a .name .now) (a .s .now) (l .loop .j) (l .loop .k) (omega arith) (omega arith) e (c .if2 .taken))
+    sym (differs (a .name .now) (a .s .now) (l .loop .j) (l .loop .k) (omega arith) (omega arith) e (c .if2 .taken))
+    ∙ l .loop .inv
 
 add-j : tie.Need-add-j Inv-loop μ-loop
 add-j c = omega arith
@@ -56,21 +56,19 @@ loop-again : tie.Need-loop-again Inv-loop μ-loop
 loop-again c =
     let l = c .before .before .before .before .before .before in
     let a = l .before .before .before .args in
-    let e = c .before .same-letter .ensures in (
-      omega arith,
-      rw (add-one (l .loop .j), add-one (l .loop .k))
-          (omega
-          (arith, agrees (a .name .now) (a .s .now) (l .loop .j) (l .loop .k) (omega arith) (omega arith) e (c .if2 .left))),
-    )
+    let e = c .before .same-letter .ensures in
+    rw (add-one (l .loop .j), add-one (l .loop .k))
+    (sym (agrees (a .name .now) (a .s .now) (l .loop .j) (l .loop .k) (omega arith) (omega arith) e (c .if2 .left))
+    ∙ l .loop .inv)
 
 returns-3 : tie.Need-returns-3 Inv-loop μ-loop
 returns-3 c =
     let l = c .before in
     let a = l .before .before .before .args in
-    omega (arith, all-agree (a .name .now) (a .s .now) (l .loop .j) (l .loop .k) (omega arith))
+    sym (all-same (a .name .now) (a .s .now) (l .loop .j) (l .loop .k) (omega arith)) ∙ l .loop .inv
 
-pub matching-spec : {M : Type 1} → statement M
-matching-spec =
+pub goes-on-spec : {M : Type 1} → statement M
+goes-on-spec =
     tie.close
     (tie.spec
     Inv-loop
