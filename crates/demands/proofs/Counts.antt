@@ -13,7 +13,7 @@ use Rattle.judge.specs.Demand.{IsDay, AllAgree}
 use Rattle.judge.specs.Engines.{monthKinds, monthAgrees, monthDays}
 use Rattle.judge.specs.declared.Engine.the-variants.{Skipping, Plain}
 use Rattle.judge.proofs.Engines.{by-plain, plain-two, plain-all, plain-most, skipping-count, month-agrees}
-use Rattle.strptime.specs.Answers.{examining, readingBy}
+use Rattle.strptime.specs.Answers.{naming, examining, readingBy}
 use Rattle.strptime.specs.declared.Reading.{Reading}
 use Rattle.values.specs.Values.{dateValue}
 use Rattle.demands.specs.Counts.{passing, oneToFour, MonthAgrees, Counts}
@@ -63,7 +63,7 @@ module _ (f s : List ℕ) (m : Matched f s) where
     month-count n l = passing-same (monthAgrees (kept f s m)) p n (λ k a b. same-month k (a, omega arith))
 
     skipping-days : readingBy Skipping f s .examined ≡ passing p (plainDays f s)
-    unfolding examining
+    unfolding naming examining
     skipping-days =
         let q = by-plain (kept f s m) .1 in
         ap (λ (r : Reading). r .examined) (read-is f s m Skipping (skipping-count (kept f s m) q))
@@ -71,7 +71,7 @@ module _ (f s : List ℕ) (m : Matched f s) where
         ∙ ap (passing p) (sym (plain-days f s m))
 
   pub counts : Counts f s
-  unfolding examining
+  unfolding naming examining
   counts =
       record {
         two = λ a b some first.

@@ -7,7 +7,7 @@ use mathlib.Core.Logic.{_⊎_, _↔_, inl, inr, ⊎-elim}
 use mathlib.Core.Path.{_≡_, refl, sym, ap, _∙_}
 use native.Mathlib.Decide.{ℕ-discrete}
 use native.Mathlib.Omega.{arith}
-use borrow.Author.Tests.{ne-eqb, leb-true}
+use borrow.Author.Tests.{eq-eqb, ne-eqb, leb-true}
 use lib.Dec.{leb}
 use Rattle.laws.proofs.Cases.{clash}
 use Rattle.kinds.specs.Kinds.{dayKinds, hourKinds, minute, second, computes}
@@ -25,14 +25,14 @@ use Rattle.judge.specs.declared.Verdict.the-variants.{Unsaid as NotSaid, Imposs
 use Rattle.judge.proofs.Demand.{day-judged, hour-judged}
 use Rattle.judge.proofs.Engines.{by-skipping}
 use Rattle.judge.proofs.Every.{every-member}
-use Rattle.strptime.specs.Answers.{examining, saidOf, withDay, withSearched, judged, reading}
+use Rattle.strptime.specs.Answers.{naming, examining, saidOf, withDay, withSearched, judged, reading}
 use Rattle.strptime.specs.declared.Day.{Day}
 use Rattle.strptime.specs.declared.Day.the-variants.{NoDate, On}
 use Rattle.strptime.specs.declared.Said.{Said}
 use Rattle.strptime.specs.declared.Said.the-variants.{Unsaid, Is}
 use Rattle.demands.specs.Facts.{Fact, Says, facts, Matched}
 use Rattle.demands.specs.Demand.{SomeSaid, NoneSaid, DayAgrees, HourAgrees, DayIs, HourIs, NumberIs, DayStands, Answered}
-use Rattle.demands.proofs.Matched.{read, matched-is, handed, ends-at}
+use Rattle.demands.proofs.Matched.{read, matched-is, handed, ends-at, forms-are}
 use Rattle.demands.proofs.Verdicts.{Leaves, LeavesHour, day-none, day-two, then-none, then-two, then-done, done-place}
 use Rattle.demands.proofs.Written.{day-would, hour-would}
 
@@ -205,7 +205,8 @@ module _ (f s : List ℕ) (m : Matched f s) where
 
   -- the answer, by the two verdicts, whatever was examined
   module _ (u : ℕ) (v w : Verdict) (j : Judged (NoneSaid f s dayKinds) IsDay (DayAgrees f s) v)
-      (i : Judged (NoneSaid f s hourKinds) IsHour (HourAgrees f s) w) (e : reading f s ≡ examining u (withDay (read f s .state) v w)) where
+      (i : Judged (NoneSaid f s hourKinds) IsHour (HourAgrees f s) w)
+      (e : reading f s ≡ naming (read f s .forms) (examining u (withDay (read f s .state) v w))) where
     -- where none agrees a fact bears: of itself every day agrees with no fact
     day-borne : ((d : ℕ) → IsDay d → DayAgrees f s d → ⊥) → NoneSaid f s dayKinds → ⊥
     day-borne g z = clash (cc (j .impossible .1 g, j .unsaid .1 z))
@@ -217,7 +218,7 @@ module _ (f s : List ℕ) (m : Matched f s) where
     stands = (λ r. (r .0, day-left v j (r .0) .0 (r .1)), λ r. (r .0, day-left v j (r .0) .1 (r .1)))
 
     answered-by : Answered f s
-    unfolding examining
+    unfolding naming examining
     answered-by =
         let t = read f s .state in
         record {
@@ -260,6 +261,7 @@ module _ (f s : List ℕ) (m : Matched f s) where
                 (day-left v j x .1 (r .0), hour-left w i h .1 (r .1), number-left minute n .1 (r .2), number-left second c .1 (r .3))),
           );
           unread = λ q. rw e (done-place t v w (rw e at q) ∙ ends-at f s m);
+          forms = λ q. rw (e, eq-eqb (withDay t v w .number) 0 (rw e at q)) (forms-are f s m);
         }
 
   pub answered : Answered f s

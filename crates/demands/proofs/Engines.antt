@@ -19,7 +19,7 @@ use Rattle.judge.specs.declared.Searched.the-variants.{Judged, OverBudget}
 use Rattle.judge.specs.declared.Verdict.{Verdict}
 use Rattle.judge.proofs.Engines as judge
 use Rattle.judge.proofs.Engines.{searched-verdict, by-skipping, by-plain}
-use Rattle.strptime.specs.Answers.{showing, refused, examining, overBudget, withDay, withSearched, judged, readingBy, reading}
+use Rattle.strptime.specs.Answers.{showing, refused, naming, examining, overBudget, withDay, withSearched, judged, readingBy, reading}
 use Rattle.strptime.specs.declared.Reading.{Reading}
 use Rattle.strptime.specs.declared.State.{State}
 use Rattle.demands.specs.Demand.{NoneSaid}
@@ -72,25 +72,34 @@ module _ (f s : List ℕ) (m : Matched f s) where
 
   -- by an engine that gives a verdict
   pub read-is : (e : Engine) {v : Verdict} {n : ℕ} → searched e kept ≡ Judged v n
-      → readingBy e f s ≡ examining n (verdicts (read f s .state))
-  read-is e q = matched-is f s e m ∙ judged-is (read f s .state) e q
+      → readingBy e f s ≡ naming (read f s .forms) (examining n (verdicts (read f s .state)))
+  read-is e q = matched-is f s e m ∙ ap (naming (read f s .forms)) (judged-is (read f s .state) e q)
 
   pub plain-days : plainDays f s ≡ by-plain kept .0
-  unfolding examining
+  unfolding naming examining
   plain-days = ap (λ (r : Reading). r .examined) (read-is Plain (by-plain kept .1))
 
   matched-same : (e : Engine) → (readingBy e f s .number ≡ 11 → ⊥) → SameBut (readingBy e f s) (reading f s)
-  unfolding examining
+  unfolding naming examining
   matched-same e free =
       ⊎-elim
       (λ r.
       rw (matched-is f s e m, r .1, read-is Skipping (by-skipping kept .1))
-      (record { number = refl; place = refl; day = refl; hour = refl; minute = refl; second = refl; shown = refl }))
+      (record {
+        number = refl;
+        place = refl;
+        day = refl;
+        hour = refl;
+        minute = refl;
+        second = refl;
+        forms = refl;
+        shown = refl;
+      }))
       (λ q. absurd (free (rw (matched-is f s e m) q)))
       (judged-or (read f s .state) e)
 
   matched-unborne : (e : Engine) → NoneSaid f s dayKinds → readingBy e f s .examined ≡ 0
-  unfolding examining
+  unfolding naming examining
   matched-unborne e z = rw (read-is e (judge.none-examined e kept (none-kept f s m dayKinds z)))
 
   matched-enough : (b : ℕ) → plainDays f s ≤ b → readingBy (Within b) f s ≡ readingBy Plain f s
@@ -99,10 +108,11 @@ module _ (f s : List ℕ) (m : Matched f s) where
       read-is (Within b) (judge.enough kept b p (omega (arith, plain-days, h))) ∙ sym (read-is Plain p)
 
   matched-too-small : (b : ℕ) → b < plainDays f s → readingBy (Within b) f s ≡ refusedAt b
-  unfolding overBudget examining refused showing
+  unfolding naming overBudget examining refused showing
   matched-too-small b h =
       matched-is f s (Within b) m
-      ∙ over-is (read f s .state) (Within b) (judge.too-small kept b (by-plain kept .1) (omega (arith, plain-days, h)))
+      ∙ ap (naming (read f s .forms))
+      (over-is (read f s .state) (Within b) (judge.too-small kept b (by-plain kept .1) (omega (arith, plain-days, h))))
 
 -- ---- every text
 module _ (f s : List ℕ) where
@@ -156,4 +166,13 @@ module _ (f s : List ℕ) where
       same-before : (e : Engine) → Before f s → SameBut (readingBy e f s) (reading f s)
       same-before e w =
           rw (before-same f s w e Skipping)
-          (record { number = refl; place = refl; day = refl; hour = refl; minute = refl; second = refl; shown = refl })
+          (record {
+            number = refl;
+            place = refl;
+            day = refl;
+            hour = refl;
+            minute = refl;
+            second = refl;
+            forms = refl;
+            shown = refl;
+          })

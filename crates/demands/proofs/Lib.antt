@@ -5,6 +5,8 @@ pub mod Demand
 pub mod Engines
 pub mod Examined
 pub mod Matched
+pub mod NameCases
+pub mod Names
 pub mod Rows
 pub mod Starred
 pub mod Verdicts

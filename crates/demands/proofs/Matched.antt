@@ -9,6 +9,7 @@ use native.Mathlib.Omega.{arith}
 use borrow.Author.Tests.{le-leb, leb-true}
 use lib.Dec.{leb}
 use lib.ListN.{length, getD, replicate}
+use Rattle.kinds.specs.Kinds.{month, weekday}
 use Rattle.format.specs.Conversions.{among}
 use Rattle.format.specs.Opening.{Ended, Whole, BadAt, opening, longest}
 use Rattle.format.specs.declared.opening.Side.the-variants.{Reader}
@@ -19,18 +20,18 @@ use Rattle.judge.specs.declared.Searched.{Searched}
 use Rattle.judge.specs.declared.Searched.the-variants.{Judged, OverBudget}
 use Rattle.judge.specs.declared.Verdict.{Verdict}
 use Rattle.judge.specs.declared.Verdict.the-variants.{Unsaid, Impossible, Open, Agreed}
-use Rattle.strptime.specs.Answers.{showing, refused, finished, examining, overBudget, done, withHour, withDay, withSearched}
+use Rattle.strptime.specs.Answers.{showing, refused, finished, naming, examining, overBudget, done, withHour, withDay, withSearched}
 use Rattle.strptime.specs.Answers.{judged, concluded, readBy, byFormat, unlessLong, readingBy}
-use Rattle.strptime.specs.Reading.{unsaid, start, isRead, readAll}
+use Rattle.strptime.specs.Reading.{unsaid, start, noForms, isRead, readAll}
 use Rattle.strptime.specs.declared.Day.{Day}
 use Rattle.strptime.specs.declared.Outcome.{Outcome}
 use Rattle.strptime.specs.declared.Outcome.the-variants.{Read, Mismatch, Range, Conflict}
 use Rattle.strptime.specs.declared.Reading.{Reading}
 use Rattle.strptime.specs.declared.State.{State}
 use Rattle.strptime.specs.declared.Stepped.{Stepped}
-use Rattle.demands.specs.Facts.{Says, facts, endFrom, Consistent, Matched}
+use Rattle.demands.specs.Facts.{Says, lastForm, facts, endFrom, Consistent, Matched}
 use Rattle.demands.specs.Demand.{beforeNine}
-use Rattle.demands.proofs.Walk.{Kept, Went, went, goes-through}
+use Rattle.demands.proofs.Walk.{Kept, last-first, Went, went, goes-through}
 
 -- ---- numbers of a judging
 
@@ -65,7 +66,7 @@ module _ (t : State) where
 
 -- the reading of a text by a format's elements
 abbrev pub read : List ℕ → List ℕ → Stepped
-read f s = readAll (opening Reader f .elements) s start
+read f s = readAll (opening Reader f .elements) s start noForms
 
 none-kept : (k n : ℕ) → Kept (start .facts) k n → ⊥
 unfolding start unsaid
@@ -77,9 +78,9 @@ none-kept k n e = omega (arith, zeros 18 k)
     zeros (suc m) (suc k) = zeros m k
 
 module _ (f s : List ℕ) where
-  read-went : isRead (read f s .outcome) ≡ true → Went (opening Reader f .elements) s start
+  read-went : isRead (read f s .outcome) ≡ true → Went (opening Reader f .elements) s start noForms
   unfolding start unsaid
-  read-went = went (opening Reader f .elements) s start refl (omega arith)
+  read-went = went (opening Reader f .elements) s start noForms refl (omega arith)
 
   -- exactly the facts that the text says
   kept-said : isRead (read f s .outcome) ≡ true → (k n : ℕ) → Kept (read f s .state .facts) k n ↔ Says (facts f s) k n
@@ -97,20 +98,21 @@ module _ (f s : List ℕ) where
   matched-read : Matched f s → isRead (read f s .outcome) ≡ true
   unfolding facts start
   matched-read m =
-      goes-through (opening Reader f .elements) s start (unfold start unsaid in refl) (omega arith) (m .all-read)
+      goes-through (opening Reader f .elements) s start noForms (unfold start unsaid in refl) (omega arith) (m .all-read)
       (λ k a b x y. m .consistent k a b (not-kept k a x) (not-kept k b y))
     where
       not-kept : (k n : ℕ) → Kept (start .facts) k n ⊎ Says (facts f s) k n → Says (facts f s) k n
       not-kept k n x = ⊎-elim (λ y. absurd (none-kept k n y)) (λ y. y) x
 
-  -- the answer to a matched text is its judging, by every engine
-  pub matched-is : (e : Engine) → Matched f s → readingBy e f s ≡ judged e (read f s .state)
+  -- the answer to a matched text is its judging, by every engine, with the forms that were kept
+  pub matched-is : (e : Engine) → Matched f s → readingBy e f s ≡ naming (read f s .forms) (judged e (read f s .state))
   unfolding readingBy unlessLong byFormat readBy concluded isRead
   matched-is e m =
       rw (le-leb (length f) longest (m .format-short), le-leb (length s) longest (m .text-short), m .format-whole)
       (concluding (read f s .outcome) (matched-read m))
     where
-      concluding : (o : Outcome) → isRead o ≡ true → concluded e (read f s .state) o ≡ judged e (read f s .state)
+      concluding : (o : Outcome) → isRead o ≡ true
+          → concluded e (read f s .state) (read f s .forms) o ≡ naming (read f s .forms) (judged e (read f s .state))
       concluding Read q = refl
       concluding (Mismatch p) q = absurd (false≢true q)
       concluding (Range p) q = absurd (false≢true q)
@@ -148,7 +150,7 @@ module _ (f s : List ℕ) where
   matched-or-before = way-out _ refl _ refl (opening Reader f .ended) refl (read f s .outcome) refl
 
   pub matched : (e : Engine) → Matched f s ↔ (among (readingBy e f s .number) beforeNine ≡ false)
-  unfolding refused showing
+  unfolding naming refused showing
   matched e = (
     λ m. rw (matched-is e m) (judged-numbers (read f s .state) e),
     λ j. ⊎-elim (λ m. m) (λ b. absurd (true≢false (sym (b .early) ∙ rw (b .refuses e) at j))) matched-or-before,
@@ -162,3 +164,9 @@ module _ (f s : List ℕ) where
   pub ends-at : Matched f s → read f s .state .at ≡ endFrom (opening Reader f .elements) s 0
   unfolding start
   ends-at m = read-went (matched-read m) .ends
+
+  -- and the forms of the last names
+  pub forms-are : Matched f s
+      → read f s .forms ≡ record { weekday = lastForm weekday (facts f s); month = lastForm month (facts f s) }
+  unfolding facts start
+  forms-are m = read-went (matched-read m) .forms ∙ last-first (facts f s)

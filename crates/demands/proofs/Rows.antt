@@ -6,7 +6,7 @@ use mathlib.Core.List.{List, [], _∷_, _++_}
 use mathlib.Core.Path.{_≡_, refl, sym, _∙_}
 use native.Mathlib.Nat.{zero-add}
 use native.Mathlib.Omega.{arith}
-use borrow.Author.Tests.{leb-true, leb-false}
+use borrow.Author.Tests.{ne-eqb, leb-true, leb-false}
 use lib.Dec.{eqb, leb}
 use lib.ListN.{length, drop}
 use lib.Seq.{sets, sets-eq, length-sets, drop-append-seam}
@@ -30,12 +30,14 @@ use Rattle.judge.specs.declared.Verdict.{Verdict}
 use Rattle.judge.specs.declared.Verdict.the-variants.{Unsaid as NotSaid, Impossible, Open, Agreed}
 use Rattle.judge.proofs.Engines.{searched-over}
 use Rattle.strptime.specs.Answers as reader
-use Rattle.strptime.specs.Answers.{showing, finished, examining, overBudget, done, withHour, withDay, withSearched}
+use Rattle.strptime.specs.Answers.{showing, finished, naming, examining, overBudget, done, withHour, withDay, withSearched}
 use Rattle.strptime.specs.Answers.{judged, concluded, readBy, readingBy}
-use Rattle.strptime.specs.Reading.{start, readAll}
+use Rattle.strptime.specs.Reading.{start, noForms, readAll}
 use Rattle.strptime.specs.declared.Day.{Day}
+use Rattle.strptime.specs.declared.Forms.{Forms}
 use Rattle.strptime.specs.declared.Outcome.{Outcome}
 use Rattle.strptime.specs.declared.Outcome.the-variants.{Read as AllRead, Mismatch, Range, Conflict}
+use Rattle.strptime.specs.declared.Reading.{Reading}
 use Rattle.strptime.specs.declared.Said.{Said}
 use Rattle.strptime.specs.declared.Shown.{Shown}
 use Rattle.strptime.specs.declared.Shown.the-variants.{Nothing, Hours}
@@ -143,6 +145,7 @@ module _ (e : Engine) (f s : List ℕ) where
         no-hour = λ z. refl;
         no-minute = λ z. refl;
         no-second = λ z. refl;
+        no-forms = λ z. refl;
         unshown = none;
         place-1-5 = one;
         place-3 = three;
@@ -186,6 +189,7 @@ module _ (e : Engine) (f s : List ℕ) where
           no-hour = λ z. absurd (z refl);
           no-minute = λ z. absurd (z refl);
           no-second = λ z. absurd (z refl);
+          no-forms = λ z. absurd (z refl);
           unshown = λ z. refl;
           place-1-5 = λ z. absurd (false≢true z);
           place-3 = λ z. absurd (omega (arith, z));
@@ -230,12 +234,34 @@ module _ (e : Engine) (f s : List ℕ) where
     searched-read (Judged v k) w q = day-read k t h v w
     searched-read (OverBudget b) w q = budget-read b (q b refl)
 
-  concluded-read : (t : State) (o : Outcome) → t .at ≤ length s → Placed s o → ReadingRow e f s (concluded e t o)
+  -- with the forms of names, which only a finished one has
+  named-read : (fs : Forms) (r : Reading) → ReadingRow e f s r → ReadingRow e f s (naming fs r)
+  unfolding naming
+  named-read fs r w =
+      record {
+        listed = w .listed;
+        no-day = w .no-day;
+        no-hour = w .no-hour;
+        no-minute = w .no-minute;
+        no-second = w .no-second;
+        no-forms = λ z. rw (ne-eqb (r .number) 0 z);
+        unshown = w .unshown;
+        place-1-5 = w .place-1-5;
+        place-3 = w .place-3;
+        place-0-6-7-8 = w .place-0-6-7-8;
+        place-9-10 = w .place-9-10;
+        place-11 = w .place-11;
+        none-examined = w .none-examined;
+        examined-11 = w .examined-11;
+      }
+
+  concluded-read : (t : State) (fs : Forms) (o : Outcome) → t .at ≤ length s → Placed s o → ReadingRow e f s (concluded e t fs o)
   unfolding concluded judged Placed among
-  concluded-read t AllRead h p = searched-read t h (searched e (t .facts)) _ (λ b q. searched-over e (t .facts) q)
-  concluded-read t (Mismatch q) h p = text-read 6 q refl refl (λ z. omega (arith, z)) refl (λ z. omega (arith, z)) p
-  concluded-read t (Range q) h p = text-read 7 q refl refl (λ z. omega (arith, z)) refl (λ z. omega (arith, z)) p
-  concluded-read t (Conflict q) h p = text-read 8 q refl refl (λ z. omega (arith, z)) refl (λ z. omega (arith, z)) p
+  concluded-read t fs AllRead h p =
+      named-read fs (judged e t) (searched-read t h (searched e (t .facts)) _ (λ b q. searched-over e (t .facts) q))
+  concluded-read t fs (Mismatch q) h p = text-read 6 q refl refl (λ z. omega (arith, z)) refl (λ z. omega (arith, z)) p
+  concluded-read t fs (Range q) h p = text-read 7 q refl refl (λ z. omega (arith, z)) refl (λ z. omega (arith, z)) p
+  concluded-read t fs (Conflict q) h p = text-read 8 q refl refl (λ z. omega (arith, z)) refl (λ z. omega (arith, z)) p
 
   format-read : ReadingRow e f s (reader.byFormat e f s)
   unfolding reader.byFormat readBy among start
@@ -243,9 +269,9 @@ module _ (e : Engine) (f s : List ℕ) where
     where
       go : (d : Ended) → opening Reader f .ended ≡ d → ReadingRow e f s (reader.byFormat e f s)
       go Whole q =
-          let r = readAll (opening Reader f .elements) s start in
-          let w = all-within (opening Reader f .elements) s start (omega arith) in
-          rw q (concluded-read (r .state) (r .outcome) (w .0) (w .1))
+          let r = readAll (opening Reader f .elements) s start noForms in
+          let w = all-within (opening Reader f .elements) s start noForms (omega arith) in
+          rw q (concluded-read (r .state) (r .forms) (r .outcome) (w .0) (w .1))
       go (BadAt p) q =
           rw q
           (early-read 3 p refl (λ z. absurd (false≢true z)) (λ z. bad-within Reader f q) (λ z. absurd (false≢true z)) refl

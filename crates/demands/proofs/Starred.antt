@@ -9,7 +9,7 @@ use Rattle.text.specs.Case.{fold, cased}
 use Rattle.text.specs.Digits.{digits, plain, isDigit, digitRun, decimal}
 use Rattle.text.specs.Fill.{fill}
 use Rattle.text.specs.Names as names
-use Rattle.text.specs.Names.{goesOn, firstName, orElse, readName}
+use Rattle.text.specs.Names.{goesOn, firstForm, readName}
 use Rattle.text.specs.Naming as naming
 use Rattle.text.specs.Space.{isSpace, spaces}
 use Rattle.format.specs.Conversions as conversions
@@ -26,7 +26,7 @@ use Rattle.demands.specs.Starred as cases
 use Rattle.demands.specs.Starred.{Case, starred}
 
 pub all-hold : map (λ (c : Case). c .0) starred ≡ map (λ (c : Case). c .1) starred
-unfolding cases.computes fold cased digits plain fill isDigit digitRun decimal goesOn firstName orElse readName isSpace spaces
+unfolding cases.computes fold cased digits plain fill isDigit digitRun decimal goesOn firstForm readName isSpace spaces
     calendar.computes moments.computes values.computes names.computes naming.computes conversions.computes opening.computes
     writer.computes agreement.computes search.computes verdicts.computes engines.computes elements.computes reading.computes
     answers.computes

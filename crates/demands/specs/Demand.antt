@@ -4,7 +4,7 @@ use Prim.Native.Nat.{ℕ}
 use mathlib.Core.List.{List, [], _∷_, List·Memᴰ as Member}
 use mathlib.Core.Logic.{_↔_}
 use mathlib.Core.Path.{_≡_}
-use Rattle.kinds.specs.Kinds.{dayKinds, hourKinds, minute, second}
+use Rattle.kinds.specs.Kinds.{dayKinds, hourKinds, month, weekday, minute, second}
 use Rattle.calendar.specs.Calendar.{dateOf}
 use Rattle.format.specs.Opening.{opening}
 use Rattle.format.specs.declared.opening.Side.the-variants.{Reader}
@@ -15,7 +15,7 @@ use Rattle.strptime.specs.declared.Day.the-variants.{NoDate, On}
 use Rattle.strptime.specs.declared.Said.{Said}
 use Rattle.strptime.specs.declared.Said.the-variants.{Unsaid, Is}
 use Rattle.strptime.specs.declared.Shown.the-variants.{Days, Hours}
-use Rattle.demands.specs.Facts.{Says, facts, endFrom}
+use Rattle.demands.specs.Facts.{Says, lastForm, facts, endFrom}
 use Rattle.demands.specs.Writes.{WouldWrite, onDay, atHour}
 
 -- the numbers that the reader looks for before 9, in order
@@ -78,3 +78,6 @@ module _ (f s : List ℕ) where
         ↔ (DayIs x × HourIs h × NumberIs minute m × NumberIs second c)
     -- its place is where the last element stopped
     pub unread : reading f s .number ≡ 0 → reading f s .place ≡ endFrom (opening Reader f .elements) s 0
+    -- and its forms are those of the last weekday name and of the last month name
+    pub forms : reading f s .number ≡ 0
+        → reading f s .forms ≡ record { weekday = lastForm weekday (facts f s); month = lastForm month (facts f s) }

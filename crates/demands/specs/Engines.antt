@@ -12,6 +12,7 @@ use Rattle.judge.specs.declared.Facts.{Facts}
 use Rattle.judge.specs.declared.Searched.the-variants.{Judged}
 use Rattle.judge.specs.declared.Verdict.{Verdict}
 use Rattle.strptime.specs.Answers.{readingBy, reading}
+use Rattle.strptime.specs.Reading.{noForms}
 use Rattle.strptime.specs.declared.Day.the-variants.{NoDate}
 use Rattle.strptime.specs.declared.Reading.{Reading}
 use Rattle.strptime.specs.declared.Said.the-variants.{Unsaid}
@@ -31,6 +32,7 @@ pub record SameBut (r q : Reading) : Type 0 where
   pub hour : r .hour ≡ q .hour
   pub minute : r .minute ≡ q .minute
   pub second : r .second ≡ q .second
+  pub forms : r .forms ≡ q .forms
   pub shown : r .shown ≡ q .shown
 
 -- a reading that is refused by 11 at a budget: nothing is handed out or shown, and the budget is what was examined
@@ -43,6 +45,7 @@ refusedAt b =
       hour = Unsaid;
       minute = Unsaid;
       second = Unsaid;
+      forms = noForms;
       shown = Nothing;
       examined = b;
     }

@@ -9,6 +9,7 @@ use Rattle.format.specs.Conversions.{among}
 use Rattle.judge.specs.declared.Engine.{Engine}
 use Rattle.judge.specs.declared.Engine.the-variants.{Within}
 use Rattle.strftime.specs.Writing.{Result}
+use Rattle.strptime.specs.Reading.{noForms}
 use Rattle.strptime.specs.declared.Day.the-variants.{NoDate}
 use Rattle.strptime.specs.declared.Reading.{Reading}
 use Rattle.strptime.specs.declared.Said.the-variants.{Unsaid}
@@ -46,6 +47,7 @@ pub record ReadingRow (e : Engine) (f s : List ℕ) (r : Reading) : Type 0 where
   pub no-hour : (r .number ≡ 0 → ⊥) → r .hour ≡ Unsaid
   pub no-minute : (r .number ≡ 0 → ⊥) → r .minute ≡ Unsaid
   pub no-second : (r .number ≡ 0 → ⊥) → r .second ≡ Unsaid
+  pub no-forms : (r .number ≡ 0 → ⊥) → r .forms ≡ noForms
   pub unshown : (r .number ≡ 10 → ⊥) → r .shown ≡ Nothing
   -- places: 0; an offset of the format; an offset of the text, or its end; the day or the hour; the budget
   pub place-1-5 : OneOf (1 ∷ 5 ∷ []) (r .number) → r .place ≡ 0

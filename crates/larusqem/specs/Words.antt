@@ -45,7 +45,7 @@ numberOr0 Unsaid = 0
 numberOr0 (Is n) = n
 
 -- the form of a name: none, full, middle, short
-unfoldable pub formNumber : NameForm → ℕ
+abbrev pub formNumber : NameForm → ℕ
 formNumber NoName = 0
 formNumber Full = 1
 formNumber Middle = 2

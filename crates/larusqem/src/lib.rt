@@ -261,6 +261,8 @@ fn finish(
     ensures { λ _. ⌜ now (words .exit) ≡ wordsOf (naming forms (examining examined (finished place day hour minute second))) ⌝ }
 {
     let date = day_or_zero(day);
+    let weekday = forms.weekday;
+    let month = forms.month;
     *words = [
         0,
         place as u32,
@@ -278,8 +280,8 @@ fn finish(
         0,
         0,
         examined,
-        form_number(forms.weekday),
-        form_number(forms.month),
+        form_number(weekday),
+        form_number(month),
     ];
     packed(0, place)
 }

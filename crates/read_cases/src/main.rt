@@ -88,6 +88,8 @@ fn print_reading(reading: Reading) {
     let minute = reading.minute;
     let second = reading.second;
     let forms = reading.forms;
+    let weekday = forms.weekday;
+    let month = forms.month;
     let shown = reading.shown;
     print_number(reading.number);
     print(b" ");
@@ -102,8 +104,8 @@ fn print_reading(reading: Reading) {
     print(b" | ");
     print_number(reading.examined);
     print(b" |");
-    print_form(forms.weekday);
-    print_form(forms.month);
+    print_form(weekday);
+    print_form(month);
     print(b"\n");
 }
 

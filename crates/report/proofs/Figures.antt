@@ -18,10 +18,11 @@ use Rattle.judge.specs.declared.Searched.the-variants.{Judged, OverBudget}
 use Rattle.judge.specs.declared.Verdict.{Verdict}
 use Rattle.judge.specs.declared.Verdict.the-variants.{Unsaid, Impossible, Open, Agreed}
 use Rattle.report.specs.Parts.{readingBy}
-use Rattle.strptime.specs.Answers.{showing, refused, finished, examining, overBudget, done, withHour, withDay, withSearched}
+use Rattle.strptime.specs.Answers.{showing, refused, finished, naming, examining, overBudget, done, withHour, withDay, withSearched}
 use Rattle.strptime.specs.Answers.{judged, concluded, readBy, byElements, unlessLong, elementsReadingBy, elementsReading}
-use Rattle.strptime.specs.Reading.{start, readAll}
+use Rattle.strptime.specs.Reading.{start, noForms, readAll}
 use Rattle.strptime.specs.declared.Day.{Day}
+use Rattle.strptime.specs.declared.Forms.{Forms}
 use Rattle.strptime.specs.declared.Outcome.{Outcome}
 use Rattle.strptime.specs.declared.Outcome.the-variants.{Read, Mismatch, Range, Conflict}
 use Rattle.strptime.specs.declared.Reading.{Reading}
@@ -49,19 +50,19 @@ module _ (t : State) where
   searched-number (Judged v n) w = day-number v w
   searched-number (OverBudget b) w = lit≤ tt
 
-  concluded-number : (o : Outcome) → concluded Skipping t o .number ≤ 11
-  unfolding concluded judged showing refused
-  concluded-number Read = searched-number (searched Skipping (t .facts)) (hourVerdict (t .facts))
-  concluded-number (Mismatch p) = lit≤ tt
-  concluded-number (Range p) = lit≤ tt
-  concluded-number (Conflict p) = lit≤ tt
+  concluded-number : (fs : Forms) (o : Outcome) → concluded Skipping t fs o .number ≤ 11
+  unfolding concluded naming judged showing refused
+  concluded-number fs Read = searched-number (searched Skipping (t .facts)) (hourVerdict (t .facts))
+  concluded-number fs (Mismatch p) = lit≤ tt
+  concluded-number fs (Range p) = lit≤ tt
+  concluded-number fs (Conflict p) = lit≤ tt
 
 by-number : (es s : List ℕ) → byElements Skipping es s .number ≤ 11
 unfolding byElements readBy showing refused
 by-number es s =
-    let r = readAll es s start in
+    let r = readAll es s start noForms in
     picked (λ (x : Reading). x .number ≤ 11) (eqb (elementsIn Reader mostElements es) (length es))
-    (concluded-number (r .state) (r .outcome)) (lit≤ tt)
+    (concluded-number (r .state) (r .forms) (r .outcome)) (lit≤ tt)
 
 elements-number : (es s : List ℕ) → elementsReading es s .number ≤ 11
 unfolding elementsReadingBy unlessLong showing refused

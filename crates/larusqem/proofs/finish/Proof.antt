@@ -1,5 +1,5 @@
 -- `larusqem::finish` meets its contract, word by word.
-use Rattle.strptime.specs.Answers.{finished, examining}
+use Rattle.strptime.specs.Answers.{finished, naming, examining}
 use Rattle.larusqem.specs.Words.{more, wordsOf}
 use borrow.Author.Needs.{needs}
 use Rattle.larusqem.proofs.finish.Statement.{statement}
@@ -8,17 +8,17 @@ use Rattle.larusqem.proofs.finish.Tie as tie
 day-or-zero-requires : tie.Need-day-or-zero-requires
 day-or-zero-requires c κs = search needs
 
-cast-t9 : tie.Need-cast-t9
-cast-t9 c = search needs
-
-cast-t10 : tie.Need-cast-t10
-cast-t10 c = search needs
-
-cast-t11 : tie.Need-cast-t11
-cast-t11 c = search needs
-
 cast-t12 : tie.Need-cast-t12
 cast-t12 c = search needs
+
+cast-t13 : tie.Need-cast-t13
+cast-t13 c = search needs
+
+cast-t14 : tie.Need-cast-t14
+cast-t14 c = search needs
+
+cast-t15 : tie.Need-cast-t15
+cast-t15 c = search needs
 
 flag-requires : tie.Need-flag-requires
 flag-requires c κs = search needs
@@ -38,13 +38,20 @@ flag-requires-3 c κs = search needs
 number-or-0-requires-3 : tie.Need-number-or-0-requires-3
 number-or-0-requires-3 c κs = search needs
 
+form-number-requires : tie.Need-form-number-requires
+form-number-requires c κs = search needs
+
+form-number-requires-2 : tie.Need-form-number-requires-2
+form-number-requires-2 c κs = search needs
+
 packed-requires : tie.Need-packed-requires
 packed-requires c κs = search needs
 
 returns : tie.Need-returns
-unfolding wordsOf more examining finished
+unfolding wordsOf more naming examining finished
 returns c =
-    let w = c .before .before in (
+    let f = c .before .before in
+    let w = f .before .before in (
       c .packed .ensures,
       rw (
         w .before .before .before .before .before .before .before .before .before .day-or-zero .ensures,
@@ -54,6 +61,8 @@ returns c =
         w .before .before .number-or-02 .ensures,
         w .before .flag3 .ensures,
         w .number-or-03 .ensures,
+        f .before .form-number .ensures,
+        f .form-number2 .ensures,
       ),
     )
 
@@ -62,15 +71,17 @@ finish-spec =
     tie.close
     (tie.spec
     day-or-zero-requires
-    cast-t9
-    cast-t10
-    cast-t11
     cast-t12
+    cast-t13
+    cast-t14
+    cast-t15
     flag-requires
     number-or-0-requires
     flag-requires-2
     number-or-0-requires-2
     flag-requires-3
     number-or-0-requires-3
+    form-number-requires
+    form-number-requires-2
     packed-requires
     returns)

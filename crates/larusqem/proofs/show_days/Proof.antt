@@ -1,5 +1,6 @@
 -- `larusqem::show_days` meets its contract, word by word.
 use Rattle.strptime.specs.Answers.{showing, examining}
+use Rattle.strptime.specs.Reading.{noForms}
 use Rattle.larusqem.specs.Words.{more, wordsOf}
 use borrow.Author.Needs.{needs}
 use Rattle.larusqem.proofs.show_days.Statement.{statement}
@@ -27,7 +28,7 @@ packed-requires : tie.Need-packed-requires
 packed-requires c κs = search needs
 
 returns : tie.Need-returns
-unfolding wordsOf more examining showing
+unfolding wordsOf more examining showing noForms
 returns c = (c .packed .ensures, search needs)
 
 pub show-days-spec : {M : Type 1} → statement M

@@ -1,5 +1,6 @@
 -- `larusqem::show_hours` meets its contract, word by word.
 use Rattle.strptime.specs.Answers.{showing, examining}
+use Rattle.strptime.specs.Reading.{noForms}
 use Rattle.larusqem.specs.Words.{more, wordsOf}
 use borrow.Author.Needs.{needs}
 use Rattle.larusqem.proofs.show_hours.Statement.{statement}
@@ -9,7 +10,7 @@ packed-requires : tie.Need-packed-requires
 packed-requires c κs = search needs
 
 returns : tie.Need-returns
-unfolding wordsOf more examining showing
+unfolding wordsOf more examining showing noForms
 returns c = (c .packed .ensures, search needs)
 
 pub show-hours-spec : {M : Type 1} → statement M

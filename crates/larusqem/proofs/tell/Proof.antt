@@ -1,5 +1,5 @@
 -- `larusqem::tell` meets its contract, by cases of the answer.
-use Rattle.strptime.specs.Answers.{showing, refused, finished, examining, overBudget, readingOf}
+use Rattle.strptime.specs.Answers.{showing, refused, finished, naming, examining, overBudget, readingOf}
 use borrow.Author.Needs.{needs}
 use Rattle.larusqem.proofs.tell.Statement.{statement}
 use Rattle.larusqem.proofs.tell.Tie as tie
@@ -8,7 +8,7 @@ enum-known-answer : tie.Need-enum-known-answer
 enum-known-answer c = search needs
 
 finish-requires : tie.Need-finish-requires
-unfolding readingOf examining finished
+unfolding readingOf naming examining finished
 finish-requires c κs = rw (c .before .before .answer .given .1) at (c .before .before .before .before .pre)
 
 enum-told : tie.Need-enum-told
@@ -85,7 +85,7 @@ show-hours-requires : tie.Need-show-hours-requires
 show-hours-requires c κs = search needs
 
 returns : tie.Need-returns
-unfolding readingOf examining finished
+unfolding readingOf naming examining finished
 returns c = rw (c .before .before .before .answer .given .1) (c .finish .ensures)
 
 returns-2 : tie.Need-returns-2

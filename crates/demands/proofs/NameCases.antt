@@ -1,0 +1,36 @@
+-- Every case of NameCases gives what it must: one statement, by computing.
+-- Assumes nothing.
+use mathlib.Core.List.{map}
+use mathlib.Core.Path.{_≡_, refl}
+use Rattle.calendar.specs.Calendar as calendar
+use Rattle.values.specs.Moments as moments
+use Rattle.values.specs.Values as values
+use Rattle.text.specs.Case.{fold, cased}
+use Rattle.text.specs.Digits.{digits, plain, isDigit, digitRun, decimal}
+use Rattle.text.specs.Fill.{fill}
+use Rattle.text.specs.Names as names
+use Rattle.text.specs.Names.{goesOn, firstForm, readName}
+use Rattle.text.specs.Naming as naming
+use Rattle.text.specs.Space.{isSpace, spaces}
+use Rattle.format.specs.Conversions as conversions
+use Rattle.format.specs.Opening as opening
+use Rattle.strftime.specs.Writing as writer
+use Rattle.judge.specs.Agreement as agreement
+use Rattle.judge.specs.Engines as engines
+use Rattle.judge.specs.Search as search
+use Rattle.judge.specs.Verdicts as verdicts
+use Rattle.strptime.specs.Elements as elements
+use Rattle.strptime.specs.Reading as reading
+use Rattle.strptime.specs.Answers as answers
+use Rattle.demands.specs.Starred as cases
+use Rattle.demands.specs.Facts as facts
+use Rattle.demands.specs.NameCases as forms
+use Rattle.demands.specs.NameCases.{nameCases}
+use Rattle.demands.specs.Starred.{Case}
+
+pub all-named : map (λ (c : Case). c .0) nameCases ≡ map (λ (c : Case). c .1) nameCases
+unfolding cases.computes facts.computes forms.computes fold cased digits plain fill isDigit digitRun decimal goesOn firstForm readName
+    isSpace spaces calendar.computes moments.computes values.computes names.computes naming.computes conversions.computes opening.computes
+    writer.computes agreement.computes search.computes verdicts.computes engines.computes elements.computes reading.computes
+    answers.computes
+all-named = refl

@@ -1,0 +1,33 @@
+-- How a name is read (RULES 6), of any table and at the start of any text: the full name is tried first, then the longest of the others.
+use Prim.Native.Nat.{ℕ, _≤_, _<_}
+use mathlib.Core.Bool.{true}
+use mathlib.Core.List.{List, List·Memᴰ as Member}
+use mathlib.Core.Path.{_≡_}
+use lib.ListN.{length}
+use Rattle.text.specs.Names.{Form, namesOf, nameAt, othersOf, formsOf, goesOn, readName}
+use Rattle.text.specs.declared.names.NameForm.the-variants.{Full}
+use Rattle.text.specs.declared.names.NameRead.the-variants.{Found, Nothing}
+use Rattle.text.specs.declared.names.Names.{Names}
+
+module _ (t : Names) (s : List ℕ) where
+  -- the text goes on with the full name at a place of the table, and with one of some forms
+  abbrev pub StandsFull : ℕ → Type 0
+  StandsFull i = (i < length (namesOf t)) × (goesOn (nameAt t i) s ≡ true)
+
+  abbrev pub StandsAmong : List Form → Form → Type 0
+  StandsAmong xs x = Member x xs × (goesOn (x .letters) s ≡ true)
+
+  -- what is read is this form: its name, its length, and which form it is
+  abbrev pub IsRead : Form → Type 0
+  IsRead x = readName t s ≡ Found (x .index) (length (x .letters)) (x .form)
+
+  pub record NameRule : Type 0 where
+    -- the full name, where the text goes on with one
+    pub full : (i : ℕ) → StandsFull i → readName t s ≡ Found i (length (nameAt t i)) Full
+    -- otherwise, where it goes on with other forms, one that is not full and as long as any of them
+    pub longest : ((i : ℕ) → StandsFull i → ⊥) → (x : Form) → StandsAmong (othersOf t) x
+        → (y : Form) × StandsAmong (othersOf t) y × IsRead y × (y .form ≡ Full → ⊥) × (length (x .letters) ≤ length (y .letters))
+    -- none, where it goes on with none
+    pub none : ((x : Form) → StandsAmong (formsOf t) x → ⊥) → readName t s ≡ Nothing
+    -- all forms that it goes on with are of one name
+    pub one-name : (x y : Form) → StandsAmong (formsOf t) x → StandsAmong (formsOf t) y → x .index ≡ y .index
