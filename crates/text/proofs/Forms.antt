@@ -2,15 +2,14 @@
 -- are apart. So no form is taken where a longer one fits, and no text goes on with forms of two names. By that the reader may look for a
 -- name by its short form first.
 use Prim.Native.Nat.{ℕ, zero, suc, _+_, _≤_, _<_}
-use mathlib.Core.Path.{_≡_, refl, sym, _∙_, ap}
+use mathlib.Core.Path.{_≡_, refl, sym, _∙_}
 use mathlib.Core.Bool.{Bool, true, false, cond, _&&_, and-eq-true-iff, false≢true}
 use mathlib.Core.List.{List, [], _∷_, _++_, map, List·Memᴰ as Member, List·Memᴰ·head as here, List·Memᴰ·tail as there}
 use native.Mathlib.Nat.{add-zero, zero-add, add-suc, suc-add, le-of-suc-le-suc, not-suc-le-zero}
 use native.Mathlib.Omega.{arith}
 use borrow.Author.Tests.{eqb-true, leb-true}
 use lib.Dec.{eqb, leb}
-use lib.ListN.{length, getD, length-map, length-take}
-use lib.Seq.{take-length}
+use lib.ListN.{length, getD, length-map}
 use Rattle.laws.specs.Lists.{every}
 use Rattle.text.specs.Case.{fold}
 use Rattle.text.specs.Names.{Form, namesOf, nameAt, short, middlesOf, eachAs, othersOf, formsOf, goesOn, firstForm, readName}
@@ -114,7 +113,8 @@ module _ (f : NameForm) where
   unfolding eachAs
   each-in k [] i h = absurd (not-suc-le-zero h)
   each-in k (n ∷ ns) zero h = here {x = formed f k n} (rw (add-zero k) refl)
-  each-in k (n ∷ ns) (suc i) h = there {xs = eachAs f (suc k) ns} (rw (add-suc k i, ← suc-add k i) (each-in (suc k) ns i (le-of-suc-le-suc h)))
+  each-in k (n ∷ ns) (suc i) h =
+      there {xs = eachAs f (suc k) ns} (rw (add-suc k i, ← suc-add k i) (each-in (suc k) ns i (le-of-suc-le-suc h)))
 
   module _ (s : List ℕ) where
     -- none is read where the text goes on with none
@@ -313,7 +313,8 @@ module _ (t : Names) (s : List ℕ) where
           rw (
             in-order,
             each-none Full s 0 (namesOf t) (λ j l. fails (goesOn (nameAt t j) s) (λ f.
-                let q = one-value (formed Full j (nameAt t j)) (formed Short i (short (nameAt t i))) (full-in j l) (short-in i h) f short-on in
+                let q = one-value (formed Full j (nameAt t j)) (formed Short i (short (nameAt t i))) (full-in j l) (short-in i h) f
+                short-on in
                 false≢true (sym g ∙ (rw q at f)))),
             each-first Short s 0 (map short (namesOf t)) i (counted h) (rw (short-at i h) short-on)
                 (λ j l. rw (short-at j (omega arith)) (earlier j l (omega arith))),

@@ -1,5 +1,5 @@
--- The short forms as the code looks for them: the first letters of the text, folded, are those of a row exactly if the text goes on with the
--- short form that the row holds.
+-- The short forms as the code looks for them: the first letters of the text, folded, are those of a row exactly if the text goes on with
+-- the short form that the row holds.
 use Prim.Native.Nat.{ℕ, suc, _≤_, _<_}
 use mathlib.Core.Path.{_≡_, refl, sym}
 use mathlib.Core.Bool.{Bool, true, false, cond, not, _&&_, and-eq-true-iff, false≢true}

@@ -1,5 +1,5 @@
--- `text::names::find` meets its contract. The invariant: the rows passed and the place among those from here on come to the place of the row.
-use Prim.Native.Nat.{_+_, _-_, _≤_}
+-- `text::names::find` meets its contract. The invariant: the rows passed and the place among those from here on come to the place of all.
+use Prim.Native.Nat.{_+_, _-_}
 use mathlib.Core.Path.{_≡_, sym, _∙_}
 use mathlib.Core.List.{[], _∷_}
 use native.Mathlib.Nat.{zero-add}

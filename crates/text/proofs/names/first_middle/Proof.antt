@@ -76,7 +76,8 @@ loop-again c =
       l .loop .inv .0,
       rw (add-one (l .loop .j))
           (sym
-          (a-later-form (a .rows .now) (a .lengths .now) (a .places .now) (l .loop .inv .0) (drop (a .at) (a .s .now)) (l .loop .j) (omega arith)
+          (a-later-form (a .rows .now) (a .lengths .now) (a .places .now) (l .loop .inv .0) (drop (a .at) (a .s .now)) (l .loop .j)
+          (omega arith)
           (sym (c .before .goes-on .ensures) ∙ c .if1 .left))
           ∙ l .loop .inv .1),
     )

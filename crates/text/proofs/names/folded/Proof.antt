@@ -1,8 +1,8 @@
 -- `text::names::folded` meets its contract.
-use mathlib.Core.Path.{_≡_, refl, sym, ap}
+use mathlib.Core.Path.{refl}
 use borrow.Author.Needs.{needs}
 use native.Mathlib.Omega.{arith}
-use lib.ListN.{length, getD, drop, length-drop, List·getD-eq-default}
+use lib.ListN.{drop, length-drop, List·getD-eq-default}
 use lib.Seq.{getD-drop}
 use Rattle.text.specs.Case.{fold}
 use Rattle.text.proofs.names.folded.Statement.{statement}

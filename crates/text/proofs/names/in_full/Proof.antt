@@ -1,9 +1,9 @@
 -- `text::names::in_full` meets its contract: the letters after the short form are those that are left.
-use mathlib.Core.Path.{_≡_, refl, sym, _∙_}
+use mathlib.Core.Path.{sym, _∙_}
 use native.Mathlib.Omega.{arith}
-use lib.ListN.{length, take, drop}
+use lib.ListN.{drop}
 use lib.Seq.{drop-drop}
-use Rattle.text.specs.Names.{nameAt, short, goesOn}
+use Rattle.text.specs.Names.{nameAt}
 use Rattle.text.proofs.Goes.{is-short, room, parted}
 use Rattle.text.proofs.Rows.{held, after-first}
 use borrow.Author.Needs.{needs}
@@ -37,7 +37,8 @@ add-goes-on : tie.Need-add-goes-on
 add-goes-on c =
     let b = c .before .before .before .before .before .before in
     let a = b .args in
-    omega (arith, room (nameAt (a .t) (a .i)) (a .s .now) (a .at) (omega (arith, c .before .before .before .before .name-length .ensures)) (b .pre))
+    let long = c .before .before .before .before .name-length .ensures in
+    omega (arith, room (nameAt (a .t) (a .i)) (a .s .now) (a .at) (omega (arith, long)) (b .pre))
 
 goes-on-requires : tie.Need-goes-on-requires
 goes-on-requires c κs = search needs

@@ -1,5 +1,5 @@
 -- `text::names::is_short` meets its contract.
-use mathlib.Core.Path.{_≡_, refl, sym}
+use mathlib.Core.Path.{refl}
 use borrow.Author.Tests.{ne-eqb, eq-eqb}
 use Rattle.text.specs.Rows.{same}
 use borrow.Author.Needs.{needs}

@@ -1,5 +1,5 @@
 -- `text::names::read_middle` meets its contract: the tables that it hands over hold the middle forms.
-use mathlib.Core.Path.{_≡_, refl, sym, _∙_}
+use mathlib.Core.Path.{refl}
 use Rattle.text.specs.Names.{firstForm, computes}
 use Rattle.text.specs.Rows.{middlesIn, inRows}
 use borrow.Author.Needs.{needs}

@@ -1,8 +1,8 @@
 -- `text::names::read_name` meets its contract: the place of the short form tells the name, and the forms of that name are tried in order.
-use mathlib.Core.Path.{_≡_, refl, sym, _∙_}
+use mathlib.Core.Path.{_≡_, sym, _∙_}
 use native.Mathlib.Omega.{arith}
-use lib.ListN.{length, drop}
-use Rattle.text.specs.Names.{namesOf, nameAt, readName, firstForm, middlesOf}
+use lib.ListN.{drop}
+use Rattle.text.specs.Names.{readName}
 use Rattle.text.specs.declared.names.NameForm.the-variants.{Short}
 use Rattle.text.specs.declared.names.NameRead.the-variants.{Found}
 use Rattle.text.proofs.Forms.{orElse, past, short-on, reads-full, by-others}
@@ -20,13 +20,16 @@ returns : tie.Need-returns
 returns c =
     let p = c .before .before in
     let a = p .before .before .args in
-    sym (past (a .t) (drop (a .at) (a .s .now)) (p .short-place .result) (p .short-place .ensures) (omega (arith, c .before .name-count .ensures)))
+    sym
+    (past (a .t) (drop (a .at) (a .s .now)) (p .short-place .result) (p .short-place .ensures)
+    (omega (arith, c .before .name-count .ensures)))
 
 in-full-requires : tie.Need-in-full-requires
 in-full-requires c κs =
     let p = c .before .before in
     let a = p .before .before .args in
-    short-on (a .t) (drop (a .at) (a .s .now)) (p .short-place .result) (p .short-place .ensures) (omega (arith, c .before .name-count .ensures))
+    short-on (a .t) (drop (a .at) (a .s .now)) (p .short-place .result) (p .short-place .ensures)
+    (omega (arith, c .before .name-count .ensures))
 
 name-length-requires : tie.Need-name-length-requires
 name-length-requires c κs = search needs

@@ -1,5 +1,5 @@
 -- `text::names::short_place` meets its contract: the rows that it hands over hold the short forms of the table.
-use mathlib.Core.Path.{_≡_, refl, sym, _∙_}
+use mathlib.Core.Path.{refl, _∙_}
 use borrow.Author.Needs.{needs}
 use lib.ListN.{drop}
 use Rattle.text.specs.Case.{fold}
