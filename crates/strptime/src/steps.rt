@@ -32,7 +32,7 @@ fn conflicts(said: u32, number: u32) -> bool
     said != number + 1
 }
 
-// The form of the later of two names of a kind, if the second is one.
+// The form of the last name of a kind: this one, or the one before where this is no name.
 fn later(before: NameForm, form: NameForm) -> NameForm
     ensures { λ r. ⌜ r ≡ later before form ⌝ }
 {

@@ -285,6 +285,7 @@ fn folded(s: &[u8], at: usize, j: usize) -> u8
     fold(s[at + j])
 }
 
+// Whether a short form has these three bytes.
 fn is_short(short: [u8; 3], a: u8, b: u8, c: u8) -> bool
     ensures { λ r. ⌜ r ≡ same short (a ∷ b ∷ c ∷ []) ⌝ }
 {
@@ -297,7 +298,7 @@ fn is_short(short: [u8; 3], a: u8, b: u8, c: u8) -> bool
     short[2] == c
 }
 
-// The place of the short form that has these three bytes; how many there are if none has.
+// The place of the first short form that has them; how many there are if none has.
 fn find(shorts: &[[u8; 3]], a: u8, b: u8, c: u8) -> usize
     ensures { λ r. ⌜ r ≡ placeOf (now (shorts .entry)) (a ∷ b ∷ c ∷ []) ⌝ }
 {
@@ -367,6 +368,7 @@ fn first_middle(
     NameRead::Nothing
 }
 
+// The middle form that the text goes on with, the longest first.
 fn read_middle(t: Names, s: &[u8], at: usize) -> NameRead
     ensures { λ r. ⌜ r ≡ firstForm (middlesOf t) (drop at (now (s .entry))) ⌝ }
 {
