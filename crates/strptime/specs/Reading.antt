@@ -30,6 +30,13 @@ start = record { facts = unsaid; at = 0 }
 abbrev pub here : List ℕ → ℕ → State
 here said at = record { facts = record { said = said }; at = at }
 
+-- the forms of the last weekday name and of the last month name; none of either
+abbrev pub both : NameForm → NameForm → Forms
+both w m = record { weekday = w; month = m }
+
+unfoldable pub noForms : Forms
+noForms = both NoName NoName
+
 -- a reading that goes on, and one that is refused and stays where it was
 unfoldable pub goes : Facts → Forms → ℕ → Stepped
 goes f fs at = record { state = record { facts = f; at = at }; forms = fs; outcome = Read }
@@ -39,15 +46,11 @@ stays t fs o = record { state = t; forms = fs; outcome = o }
 
 -- what one step answers, with what was said after it
 abbrev pub stepped : List ℕ → Step → Stepped
-stepped said r = stays (here said (r .at)) (r .forms) (r .outcome)
+stepped said r = stays (here said (r .at)) (both (r .weekday) (r .month)) (r .outcome)
 
 -- the facts with one more
 unfoldable pub noted : Facts → ℕ → ℕ → Facts
 noted f k n = record { said = set (f .said) k (suc n) }
-
--- no name read yet
-unfoldable pub noForms : Forms
-noForms = record { weekday = NoName; month = NoName }
 
 -- the form of a later name takes the place of the one before; where no name stands, that one stays
 unfoldable pub later : NameForm → NameForm → NameForm
@@ -56,13 +59,13 @@ later before Full = Full
 later before Middle = Middle
 later before Short = Short
 
--- the forms with that of a fact of a kind
+-- the form of the last name of the kind `own`, after a fact of kind k
+unfoldable pub latest : ℕ → NameForm → ℕ → NameForm → NameForm
+latest own before k f = cond (eqb k own) (later before f) before
+
+-- both forms after a fact
 unfoldable pub met : Forms → ℕ → NameForm → Forms
-met fs k f =
-    record {
-      weekday = cond (eqb k weekday) (later (fs .weekday) f) (fs .weekday);
-      month = cond (eqb k month) (later (fs .month) f) (fs .month);
-    }
+met fs k f = both (latest weekday (fs .weekday) k f) (latest month (fs .month) k f)
 
 -- a kind may be said again with the same number; with another, that is 8 (RULES 7)
 unfoldable pub tell : State → Forms → ℕ → ℕ → NameForm → ℕ → ℕ → Stepped
@@ -96,5 +99,5 @@ readAll (e ∷ es) s t fs =
 
 -- everything here, for proofs that compute
 unfoldable pub computes : Unit {0}
-unfolding unsaid start goes stays noted noForms later met tell taken stepOn isRead readAll
+unfolding unsaid start goes stays noted noForms later latest met tell taken stepOn isRead readAll
 computes = tt

@@ -12,12 +12,14 @@ ghost use mathlib.Core.Path.{_≡_};
 ghost use Prim.Native.Nat.{suc, _≤_};
 ghost use lib.Dec.{eqb};
 ghost use lib.ListN.{length};
-ghost use Rattle.strptime.specs.Reading.{noForms, later, met, start, here, stays, stepped, stepOn, readAll};
+ghost use Rattle.strptime.specs.Reading.{both, noForms, later, latest, start, here, stays, stepped, stepOn, readAll};
 
-// Where an element leads: the first unread offset, the forms of names so far, and how its reading went.
+// Where an element leads: the first unread offset, the forms of names so far, and how its reading went. The two forms are apart here: as a
+// struct they are copied as one after each was stored alone, which costs a nanosecond or two an element.
 pub struct Step {
     pub at: usize,
-    pub forms: Forms,
+    pub weekday: NameForm,
+    pub month: NameForm,
     pub outcome: Outcome,
 }
 
@@ -44,36 +46,34 @@ fn later(before: NameForm, form: NameForm) -> NameForm
     }
 }
 
-// The forms with that of one more fact.
-fn met(forms: Forms, kind: u32, form: NameForm) -> Forms
-    ensures { λ r. ⌜ r ≡ met forms kind form ⌝ }
+// The form of the last name of the kind `own`, after one more fact.
+fn latest(own: u32, before: NameForm, kind: u32, form: NameForm) -> NameForm
+    ensures { λ r. ⌜ r ≡ latest own before kind form ⌝ }
 {
-    let weekday = forms.weekday;
-    let month = forms.month;
-    if kind == kinds::WEEKDAY {
-        return Forms {
-            weekday: later(weekday, form),
-            month,
-        };
+    if kind == own {
+        return later(before, form);
     }
-    if kind == kinds::MONTH {
-        return Forms {
-            weekday,
-            month: later(month, form),
-        };
-    }
-    forms
+    before
 }
 
 // One element, read at an offset of the text; what it says is noted among the facts.
-fn step_on(element: u32, s: &[u8], at: usize, forms: Forms, said: &mut [u32; kinds::KINDS]) -> Step
+fn step_on(
+    element: u32,
+    s: &[u8],
+    at: usize,
+    weekday: NameForm,
+    month: NameForm,
+    said: &mut [u32; kinds::KINDS],
+) -> Step
     requires { ⌜ at ≤ length (now s) ⌝ }
-    ensures { λ r. ⌜ stepped (now (said .exit)) r ≡ stepOn element (now (s .entry)) (here (now (said .entry)) at) forms ⌝ }
+    ensures { λ r. ⌜ stepped (now (said .exit)) r
+        ≡ stepOn element (now (s .entry)) (here (now (said .entry)) at) (both weekday month) ⌝ }
 {
     match read_element(element, s, at) {
         Item::Skip { next } => Step {
             at: next,
-            forms,
+            weekday,
+            month,
             outcome: Outcome::Read,
         },
         Item::Fact {
@@ -86,40 +86,50 @@ fn step_on(element: u32, s: &[u8], at: usize, forms: Forms, said: &mut [u32; kin
             if conflicts(said[kind as usize], number) {
                 return Step {
                     at,
-                    forms,
+                    weekday,
+                    month,
                     outcome: Outcome::Conflict { at: from },
                 };
             }
             said[kind as usize] = number + 1;
             Step {
                 at: next,
-                forms: met(forms, kind, form),
+                weekday: latest(kinds::WEEKDAY, weekday, kind, form),
+                month: latest(kinds::MONTH, month, kind, form),
                 outcome: Outcome::Read,
             }
         }
         Item::NoMatch { at: p } => Step {
             at,
-            forms,
+            weekday,
+            month,
             outcome: Outcome::Mismatch { at: p },
         },
         Item::OutOfRange { at: p } => Step {
             at,
-            forms,
+            weekday,
+            month,
             outcome: Outcome::Range { at: p },
         },
     }
 }
 
 // A reading that ends here.
-fn stopped(said: [u32; kinds::KINDS], at: usize, forms: Forms, outcome: Outcome) -> Stepped
-    ensures { λ r. ⌜ r ≡ stays (here said at) forms outcome ⌝ }
+fn stopped(
+    said: [u32; kinds::KINDS],
+    at: usize,
+    weekday: NameForm,
+    month: NameForm,
+    outcome: Outcome,
+) -> Stepped
+    ensures { λ r. ⌜ r ≡ stays (here said at) (both weekday month) outcome ⌝ }
 {
     Stepped {
         state: State {
             facts: Facts { said },
             at,
         },
-        forms,
+        forms: Forms { weekday, month },
         outcome,
     }
 }
@@ -130,20 +140,19 @@ pub(crate) fn read_all(elements: &[u32], s: &[u8]) -> Stepped
 {
     let mut said = [0; kinds::KINDS];
     let mut at = 0;
-    let mut forms = Forms {
-        weekday: NameForm::NoName,
-        month: NameForm::NoName,
-    };
+    let mut weekday = NameForm::NoName;
+    let mut month = NameForm::NoName;
     let mut i = 0;
     while i < elements.len() {
-        let step = step_on(elements[i], s, at, forms, &mut said);
+        let step = step_on(elements[i], s, at, weekday, month, &mut said);
         at = step.at;
-        forms = step.forms;
+        weekday = step.weekday;
+        month = step.month;
         let outcome = step.outcome;
         let Outcome::Read = outcome else {
-            return stopped(said, at, forms, outcome);
+            return stopped(said, at, weekday, month, outcome);
         };
         i += 1;
     }
-    stopped(said, at, forms, Outcome::Read)
+    stopped(said, at, weekday, month, Outcome::Read)
 }

@@ -5,18 +5,18 @@ use native.Mathlib.Omega.{arith}
 use borrow.Author.Needs.{needs}
 use lib.ListN.{length, drop}
 use denote.Ref.{now}
-use Rattle.strptime.specs.Reading.{here, unsaid, start, noForms, readAll}
+use Rattle.strptime.specs.Reading.{here, both, unsaid, start, noForms, readAll}
 use Rattle.strptime.proofs.Walk.{step-within, all-end, all-more, all-stop}
 use Rattle.strptime.proofs.steps.read_all.Statement.{statement}
 use Rattle.strptime.proofs.steps.read_all.Tie as tie
 
 abbrev Inv-loop : tie.InvT-loop
-Inv-loop elements s said₀ at₀ forms₀ i₀ said at forms i =
+Inv-loop elements s said₀ at₀ weekday₀ month₀ i₀ said at weekday month i =
     (i ≤ length elements) × (at ≤ length s)
-    × (readAll (drop i elements) s (here said at) forms ≡ readAll elements s start noForms)
+    × (readAll (drop i elements) s (here said at) (both weekday month) ≡ readAll elements s start noForms)
 
 abbrev μ-loop : tie.MeasureT-loop
-μ-loop elements s said₀ at₀ forms₀ i₀ said at forms i = length elements - i
+μ-loop elements s said₀ at₀ weekday₀ month₀ i₀ said at weekday month i = length elements - i
 
 loop-holds : tie.Need-loop-holds Inv-loop μ-loop
 unfolding start unsaid noForms
@@ -39,7 +39,7 @@ stopped-requires c κs = tt
 
 returns : tie.Need-returns Inv-loop μ-loop
 returns c =
-    let d = c .before .before .before in
+    let d = c .before .before in
     let a = d .before .before .before .before .before .before .before .args in
     let l = d .before .before .before .before .loop in
     c .stopped .ensures
@@ -54,7 +54,7 @@ loop-less c = omega arith
 
 loop-again : tie.Need-loop-again Inv-loop μ-loop
 loop-again c =
-    let d = c .before .before .before in
+    let d = c .before .before in
     let a = d .before .before .before .before .before .before .before .args in
     let l = d .before .before .before .before .loop in
     let e = d .step-on .ensures in (

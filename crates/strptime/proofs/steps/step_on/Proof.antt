@@ -1,7 +1,9 @@
 -- `strptime::steps::step_on` meets its contract. Assumes nothing.
+use mathlib.Core.Path.{refl}
 use native.Mathlib.Omega.{arith}
 use borrow.Author.Needs.{needs}
 use denote.Ref.{now}
+use Rattle.strptime.specs.Reading.{met}
 use Rattle.strptime.proofs.Sound.{fact-told}
 use Rattle.strptime.proofs.Told.{Told, told-small}
 use Rattle.strptime.proofs.Walk.{on-skip, on-mismatch, on-range, on-conflict, on-fact}
@@ -53,8 +55,11 @@ mul-said c = search needs
 element-write-said : tie.Need-element-write-said
 element-write-said c = omega (arith, said (c .before .before .before))
 
-met-requires : tie.Need-met-requires
-met-requires c κs = search needs
+latest-requires : tie.Need-latest-requires
+latest-requires c κs = search needs
+
+latest-requires-2 : tie.Need-latest-requires-2
+latest-requires-2 c κs = search needs
 
 enum-known-p : tie.Need-enum-known-p
 enum-known-p c = search needs
@@ -66,11 +71,12 @@ returns-2 : tie.Need-returns-2
 returns-2 c = on-skip _ _ _ _ (c .before .before .before .read-element .ensures) (c .before .next .given .1)
 
 returns-3 : tie.Need-returns-3
+unfolding met
 returns-3 c =
-    let f = c .before .before in
+    let f = c .before .before .before in
     let d = f .before .before .before in
-    on-fact _ _ _ _ (d .before .before .read-element .ensures) (d .kind .given .1) (f .conflicts .ensures) (c .before .if1 .left)
-    (c .met .ensures)
+    on-fact _ _ _ _ (d .before .before .read-element .ensures) (d .kind .given .1) (f .conflicts .ensures) (c .before .before .if1 .left)
+    (rw (c .before .latest .ensures, c .latest2 .ensures) refl)
 
 returns-4 : tie.Need-returns-4
 returns-4 c = on-mismatch _ _ _ _ (c .before .before .before .read-element .ensures) (c .before .p .given .1)
@@ -94,7 +100,8 @@ step-on-spec =
     cast-said
     mul-said
     element-write-said
-    met-requires
+    latest-requires
+    latest-requires-2
     enum-known-p
     enum-known-p-2
     returns-2
