@@ -10,6 +10,7 @@ use native.Mathlib.Omega.{arith}
 use borrow.Author.Tests.{eq-eqb, ne-eqb, leb-true}
 use lib.Dec.{leb}
 use Rattle.laws.proofs.Cases.{clash}
+use Rattle.laws.proofs.Lists.{every-member}
 use Rattle.kinds.specs.Kinds.{dayKinds, hourKinds, minute, second, computes}
 use Rattle.laws.specs.Lists.{every}
 use Rattle.calendar.specs.Calendar.{dateOf, dayNumber}
@@ -24,7 +25,6 @@ use Rattle.judge.specs.declared.Verdict.{Verdict}
 use Rattle.judge.specs.declared.Verdict.the-variants.{Unsaid as NotSaid, Impossible, Open, Agreed}
 use Rattle.judge.proofs.Demand.{day-judged, hour-judged}
 use Rattle.judge.proofs.Engines.{by-skipping}
-use Rattle.judge.proofs.Every.{every-member}
 use Rattle.strptime.specs.Answers.{naming, examining, saidOf, withDay, withSearched, judged, reading}
 use Rattle.strptime.specs.declared.Day.{Day}
 use Rattle.strptime.specs.declared.Day.the-variants.{NoDate, On}

@@ -1,6 +1,6 @@
--- Every case of NameCases gives what it must: one statement, by computing.
+-- Every case of NameCases gives what it must, and every table has its forms: one statement each, by computing.
 -- Assumes nothing.
-use mathlib.Core.List.{map}
+use mathlib.Core.List.{map, flatMap}
 use mathlib.Core.Path.{_≡_, refl}
 use Rattle.calendar.specs.Calendar as calendar
 use Rattle.values.specs.Moments as moments
@@ -25,7 +25,7 @@ use Rattle.strptime.specs.Answers as answers
 use Rattle.demands.specs.Starred as cases
 use Rattle.demands.specs.Facts as facts
 use Rattle.demands.specs.NameCases as forms
-use Rattle.demands.specs.NameCases.{nameCases}
+use Rattle.demands.specs.NameCases.{nameCases, formCases}
 use Rattle.demands.specs.Starred.{Case}
 
 pub all-named : map (λ (c : Case). c .0) nameCases ≡ map (λ (c : Case). c .1) nameCases
@@ -34,3 +34,7 @@ unfolding cases.computes facts.computes forms.computes fold cased digits plain f
     writer.computes agreement.computes search.computes verdicts.computes engines.computes elements.computes reading.computes
     answers.computes
 all-named = refl
+
+pub all-forms : map (λ (c : Case). c .0) formCases ≡ map (λ (c : Case). c .1) formCases
+unfolding forms.computes fold goesOn firstForm readName names.computes flatMap
+all-forms = refl

@@ -1,17 +1,22 @@
 -- How a name is read: the rule of Names holds, of every table and every text.
 -- Assumes nothing.
-use Prim.Native.Nat.{ℕ}
-use mathlib.Core.Bool.{Bool, true, false, and-eq-true-iff, false≢true}
-use mathlib.Core.List.{List, _∷_, List·Memᴰ as Member, List·Memᴰ·head as here, List·Memᴰ·tail as there}
-use mathlib.Core.Path.{_≡_, refl, sym, ap, _∙_}
+use Prim.Native.Nat.{ℕ, _<_}
+use mathlib.Core.Bool.{Bool, true, false, _&&_, and-eq-true-iff, false≢true}
+use mathlib.Core.List.{List}
+use mathlib.Core.Path.{_≡_, refl, _∙_}
+use borrow.Author.Tests.{ltb-true}
+use lib.Dec.{ltb}
+use lib.ListN.{length}
 use Rattle.laws.specs.Lists.{every}
+use Rattle.laws.proofs.Lists.{every-member}
+use Rattle.text.specs.Case.{fold}
 use Rattle.text.specs.Names as names
-use Rattle.text.specs.Names.{Form, othersOf}
+use Rattle.text.specs.Names.{Form, namesOf, nameAt, othersOf, formsOf, goesOn, readName}
 use Rattle.text.specs.declared.names.NameForm.{NameForm}
 use Rattle.text.specs.declared.names.NameForm.the-variants.{NoName, Full, Middle, Short}
 use Rattle.text.specs.declared.names.Names.{Names}
 use Rattle.text.specs.declared.names.Names.the-variants.{Weekdays, Months, Halves}
-use Rattle.text.proofs.Forms.{one-value, longest-other, reads-full, no-full, reads-none}
+use Rattle.text.proofs.Forms.{one-value, longest, longest-other, reads-full, no-full, reads-none}
 use Rattle.text.proofs.Goes.{fails}
 use Rattle.demands.specs.Names.{NameRule}
 
@@ -31,21 +36,40 @@ all-other Weekdays = refl
 all-other Months = refl
 all-other Halves = refl
 
-not-full : (xs : List Form) → every other xs ≡ true → {x : Form} → Member x xs → x .form ≡ Full → ⊥
-unfolding every other
-not-full (y ∷ ys) e {x} (here q) f =
-    let g : y .form ≡ Full = ap (λ (z : Form). z .form) (sym q) ∙ f in
-    false≢true (rw g at (and-eq-true-iff (other y) (every other ys) .0 e .0))
-not-full (y ∷ ys) e (there m) f = not-full ys (and-eq-true-iff (other y) (every other ys) .0 e .1) m f
+not-full : (x : Form) → other x ≡ true → x .form ≡ Full → ⊥
+unfolding other
+not-full x e f = false≢true (rw f at e)
+
+-- each form is how its name begins: one computed test of each table
+begun : Names → Form → Bool
+begun t x = ltb (x .index) (length (namesOf t)) && goesOn (x .letters) (nameAt t (x .index))
+
+all-begun : (t : Names) → every (begun t) (formsOf t) ≡ true
+unfolding names.computes every begun goesOn fold
+all-begun Weekdays = refl
+all-begun Months = refl
+all-begun Halves = refl
+
+is-begun : (t : Names) (x : Form) → begun t x ≡ true
+    → (x .index < length (namesOf t)) × (goesOn (x .letters) (nameAt t (x .index)) ≡ true)
+unfolding begun
+is-begun t x e =
+    let b = and-eq-true-iff (ltb (x .index) (length (namesOf t))) (goesOn (x .letters) (nameAt t (x .index))) .0 e in
+    (ltb-true (x .index) (length (namesOf t)) (b .0), b .1)
 
 pub name-rule : (t : Names) (s : List ℕ) → NameRule t s
+unfolding readName
 name-rule t s =
     record {
       full = λ i x. reads-full t s i (x .0) (x .1);
-      longest = λ none x w.
+      other = λ none x w.
           let r = longest-other t s x (w .0) (w .1) in
           let read = no-full t s (λ i h. fails _ (λ g. none i (h, g))) ∙ r .found in
-          (r .read, (r .listed, r .fits), read, not-full (othersOf t) (all-other t) (r .listed), r .longer);
+          (r .read, (r .listed, r .fits), read, not-full (r .read) (every-member other (othersOf t) (all-other t) (r .read) (r .listed)));
+      longest = λ x w.
+          let r = longest t s x (w .0) (w .1) in
+          (r .read, (r .listed, r .fits), r .found, r .same-name, r .longer);
       none = λ none. reads-none t s (λ x m. fails _ (λ g. none x (m, g)));
       one-name = λ x y p q. one-value t s x y (p .0) (q .0) (p .1) (q .1);
+      begins = λ x m. is-begun t x (every-member (begun t) (formsOf t) (all-begun t) x m);
     }

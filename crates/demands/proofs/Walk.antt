@@ -16,7 +16,7 @@ use Rattle.kinds.specs.Kinds.{kinds, month, weekday}
 use Rattle.judge.specs.Agreement.{said}
 use Rattle.judge.specs.declared.Facts.{Facts}
 use Rattle.strptime.specs.Elements.{readElement}
-use Rattle.strptime.specs.Reading.{goes, stays, noted, noForms, later, met, tell, taken, stepOn, isRead, readAll}
+use Rattle.strptime.specs.Reading.{goes, stays, noted, noForms, later, latest, met, tell, taken, stepOn, isRead, readAll}
 use Rattle.strptime.specs.declared.Forms.{Forms}
 use Rattle.strptime.specs.declared.State.{State}
 use Rattle.strptime.specs.declared.Stepped.{Stepped}
@@ -82,7 +82,7 @@ module _ (k : ℕ) (a : NameForm) (x : Fact) (xs : List Fact) where
       go Short b = refl
 
 last-met : (fs : Forms) (x : Fact) (xs : List Fact) → lastAfter fs (x ∷ xs) ≡ lastAfter (met fs (x .kind) (x .form)) xs
-unfolding met
+unfolding met latest
 last-met fs x xs =
     ap₂ (λ (a b : NameForm). record { weekday = a; month = b })
     (last-later weekday (fs .weekday) x xs)

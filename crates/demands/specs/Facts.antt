@@ -45,13 +45,14 @@ unfoldable pub Says : List Fact → ℕ → ℕ → Type 0
 Says [] k n = ⊥
 Says (x ∷ xs) k n = ((x .kind ≡ k) × (x .number ≡ n)) ⊎ Says xs k n
 
--- the form of the last name of kind k among some facts, or none; a number is no name
+-- a number is no name
 unfoldable pub isName : NameForm → Bool
 isName NoName = false
 isName Full = true
 isName Middle = true
 isName Short = true
 
+-- the form of the last name of kind k among some facts, or none
 unfoldable pub lastForm : ℕ → List Fact → NameForm
 lastForm k [] = NoName
 lastForm k (x ∷ xs) = let after = lastForm k xs in cond (isName after) after (cond (eqb (x .kind) k) (x .form) NoName)

@@ -1,17 +1,26 @@
 -- Cases of RULES 6 on the forms of names, each beside what it must give. A finished reading has the place and the forms that its text says
 -- (`unread` and `forms` of Demand); its search goes through the whole calendar and is not computed here.
-use Prim.Native.Nat.{ℕ}
+use Prim.Native.Nat.{ℕ, suc}
 use Prim.Native.String.{String}
-use mathlib.Core.List.{List, [], _∷_}
+use mathlib.Core.Bool.{cond, _&&_}
+use mathlib.Core.List.{List, [], _∷_, _++_, flatMap}
+use lib.Dec.{eqb}
+use lib.ListN.{length, take}
 use Rattle.laws.specs.Bytes.{bytes}
+use Rattle.laws.specs.Lists.{range}
 use Rattle.kinds.specs.Kinds.{month, weekday}
 use Rattle.format.specs.Opening.{opening}
 use Rattle.format.specs.declared.opening.Side.the-variants.{Reader}
 use Rattle.judge.specs.declared.Engine.{Engine}
 use Rattle.judge.specs.declared.Engine.the-variants.{Skipping, Within}
 use Rattle.strptime.specs.Answers.{readingBy}
+use Rattle.text.specs.Names.{namesOf, readName}
 use Rattle.text.specs.declared.names.NameForm.{NameForm}
 use Rattle.text.specs.declared.names.NameForm.the-variants.{NoName, Full, Middle, Short}
+use Rattle.text.specs.declared.names.NameRead.{NameRead}
+use Rattle.text.specs.declared.names.NameRead.the-variants.{Found, Nothing}
+use Rattle.text.specs.declared.names.Names.{Names}
+use Rattle.text.specs.declared.names.Names.the-variants.{Weekdays, Months, Halves}
 use Rattle.demands.specs.Facts.{lastForm, facts, endFrom}
 use Rattle.demands.specs.Starred.{Case}
 
@@ -61,6 +70,7 @@ nameCases =
     -- numbers leave the forms as they are
     ∷ (says "Mon 1 March 3 5 1934" "%a %u %b %m %d %Y", 20 ∷ 3 ∷ 1 ∷ [])
     ∷ (says "1 Mon 3 March 5 1934" "%w %a %m %b %d %Y", 20 ∷ 3 ∷ 1 ∷ [])
+    ∷ (says "0 7 3" "%w %u %m", 5 ∷ 0 ∷ 0 ∷ [])
     -- a half of the day is the name of no weekday and no month
     ∷ (says "7 PM" "%I %p", 4 ∷ 0 ∷ 0 ∷ [])
     -- a refused reading gives none: 6, 8, 10 and 11
@@ -70,7 +80,30 @@ nameCases =
     ∷ (names (Within 0) "Tues" "%a", 11 ∷ 0 ∷ 0 ∷ 0 ∷ [])
     ∷ []
 
+-- a text that is read whole as a name, in the form of this number: its letters and a blank
+unfoldable pub whole : ℕ → List ℕ → NameRead → List ℕ
+whole g s (Found i n f) = cond (eqb n (length s) && eqb (form f) g) (s ++ (32 ∷ [])) []
+whole g s Nothing = []
+
+-- of all beginnings of the names of a table, from no letter to all, those that are read whole in a form
+unfoldable pub inForm : NameForm → Names → List ℕ
+inForm f t =
+    flatMap (λ n. flatMap (λ k. whole (form f) (take k n) (readName t (take k n))) (range 0 (suc (length n)))) (namesOf t)
+
+unfoldable pub formCases : List Case
+formCases =
+    (inForm Full Weekdays, bytes "Monday Tuesday Wednesday Thursday Friday Saturday Sunday ")
+    ∷ (inForm Middle Weekdays, bytes "Tues Thur Thurs ")
+    ∷ (inForm Short Weekdays, bytes "Mon Tue Wed Thu Fri Sat Sun ")
+    ∷ (inForm Full Months, bytes "January February March April May June July August September October November December ")
+    ∷ (inForm Middle Months, bytes "Sept ")
+    ∷ (inForm Short Months, bytes "Jan Feb Mar Apr Jun Jul Aug Sep Oct Nov Dec ")
+    ∷ (inForm Full Halves, bytes "AM PM ")
+    ∷ (inForm Middle Halves, [])
+    ∷ (inForm Short Halves, [])
+    ∷ []
+
 -- everything here, for the proof that computes
 unfoldable pub computes : Unit {0}
-unfolding form says names nameCases
+unfolding range form says names nameCases whole inForm formCases
 computes = tt

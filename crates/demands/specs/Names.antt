@@ -24,10 +24,16 @@ module _ (t : Names) (s : List ℕ) where
   pub record NameRule : Type 0 where
     -- the full name, where the text goes on with one
     pub full : (i : ℕ) → StandsFull i → readName t s ≡ Found i (length (nameAt t i)) Full
-    -- otherwise, where it goes on with other forms, one that is not full and as long as any of them
-    pub longest : ((i : ℕ) → StandsFull i → ⊥) → (x : Form) → StandsAmong (othersOf t) x
-        → (y : Form) × StandsAmong (othersOf t) y × IsRead y × (y .form ≡ Full → ⊥) × (length (x .letters) ≤ length (y .letters))
+    -- otherwise one of the others, where it goes on with any
+    pub other : ((i : ℕ) → StandsFull i → ⊥) → (x : Form) → StandsAmong (othersOf t) x
+        → (y : Form) × StandsAmong (othersOf t) y × IsRead y × (y .form ≡ Full → ⊥)
+    -- of whatever forms it goes on with, one of the same name that is at least as long as each of them
+    pub longest : (x : Form) → StandsAmong (formsOf t) x
+        → (y : Form) × StandsAmong (formsOf t) y × IsRead y × (y .index ≡ x .index) × (length (x .letters) ≤ length (y .letters))
     -- none, where it goes on with none
     pub none : ((x : Form) → StandsAmong (formsOf t) x → ⊥) → readName t s ≡ Nothing
     -- all forms that it goes on with are of one name
     pub one-name : (x y : Form) → StandsAmong (formsOf t) x → StandsAmong (formsOf t) y → x .index ≡ y .index
+    -- each form is how its name begins
+    pub begins : (x : Form) → Member x (formsOf t)
+        → (x .index < length (namesOf t)) × (goesOn (x .letters) (nameAt t (x .index)) ≡ true)

@@ -23,9 +23,10 @@ use Rattle.judge.specs.declared.Found.the-variants.{Nothing, One, Two}
 use Rattle.kinds.specs.Kinds as kinds
 use Rattle.kinds.specs.Kinds.{dayKinds}
 use Rattle.laws.specs.Lists.{every}
+use Rattle.laws.proofs.Lists.{every-member}
 use Rattle.values.specs.Values.{dateValue, dateValues}
 use Rattle.judge.proofs.DayValues.{unsaid-agree}
-use Rattle.judge.proofs.Every.{every-member, every-alike, map-member}
+use Rattle.judge.proofs.Every.{every-alike, map-member}
 use Rattle.judge.proofs.Tells.{Tells, none, single, double, tells, tells-same}
 
 -- ---- the values of a day

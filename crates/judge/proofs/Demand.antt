@@ -10,6 +10,7 @@ use native.Mathlib.Omega.{arith}
 use borrow.Author.Tests.{eq-eqb, ne-eqb, eqb-true, not-false}
 use lib.Dec.{eqb, lit≤}
 use Rattle.laws.proofs.Cases.{clash}
+use Rattle.laws.proofs.Lists.{every-member}
 use Rattle.calendar.specs.Calendar.{days, dateOf}
 use Rattle.judge.specs.Agreement.{said, noneSaid, agrees, allAgree, dateAgrees, dayAgrees, hourAgrees, dayBorne, hourBorne}
 use Rattle.judge.specs.Demand.{NoneSaid, NoDayFact, NoHourFact, IsDay, IsHour, AllAgree, DayAgrees, HourAgrees}
@@ -23,7 +24,7 @@ use Rattle.judge.specs.declared.Verdict.the-variants.{Unsaid, Agreed}
 use Rattle.kinds.specs.Kinds.{dayKinds, hourKinds}
 use Rattle.values.specs.Values.{dateValue, hourValue}
 use Rattle.calendar.proofs.Years.{days-is}
-use Rattle.judge.proofs.Every.{every-member, member-every}
+use Rattle.judge.proofs.Every.{member-every}
 use Rattle.judge.proofs.Tells.{Tells, none, single, double, tells}
 
 -- The words over any test p of the n numbers from `from` on that says just what agreement is, where nothing said leaves the

@@ -1,7 +1,7 @@
 -- A test of every kind of a list: at each member, over two lists, and over numbers in a row, one at a time.
 -- Assumes nothing.
 use Prim.Native.Nat.{ℕ, suc, _+_, _-_, _≤_, _<_}
-use mathlib.Core.Bool.{Bool, true, false, _&&_, and-assoc, and-eq-true-iff}
+use mathlib.Core.Bool.{Bool, true, false, _&&_, and-assoc}
 use mathlib.Core.List.{List, [], _∷_, _++_, map}
 use mathlib.Core.List.{List·Memᴰ as Member, List·Memᴰ·head, List·Memᴰ·tail, List·Memᴰ·not-nil, List·Memᴰ·cases-cons}
 use mathlib.Core.Logic.{⊎-elim}
@@ -11,13 +11,6 @@ use native.Mathlib.Omega.{arith}
 use Rattle.laws.specs.Lists.{every, range}
 
 module _ (p : ℕ → Bool) where
-  pub every-member : (ks : List ℕ) → every p ks ≡ true → (k : ℕ) → Member k ks → p k ≡ true
-  unfolding every
-  every-member [] e k m = absurd (List·Memᴰ·not-nil m)
-  every-member (x ∷ ks) e k m =
-      let t = and-eq-true-iff (p x) (every p ks) .0 e in
-      ⊎-elim (λ s. ap p s ∙ t .0) (λ n. every-member ks (t .1) k n) (List·Memᴰ·cases-cons m)
-
   pub member-every : (ks : List ℕ) → ((k : ℕ) → Member k ks → p k ≡ true) → every p ks ≡ true
   unfolding every
   member-every [] f = refl

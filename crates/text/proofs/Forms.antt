@@ -11,6 +11,7 @@ use borrow.Author.Tests.{eqb-true, leb-true}
 use lib.Dec.{eqb, leb}
 use lib.ListN.{length, getD, length-map}
 use Rattle.laws.specs.Lists.{every}
+use Rattle.laws.proofs.Lists.{every-member}
 use Rattle.text.specs.Case.{fold}
 use Rattle.text.specs.Names.{Form, namesOf, nameAt, short, middlesOf, eachAs, othersOf, formsOf, goesOn, firstForm, readName}
 use Rattle.text.specs.Names.{computes}
@@ -26,12 +27,6 @@ use Rattle.text.proofs.Goes.{fails, goes-length, goes-trans, goes-short
 use Rattle.text.proofs.Table.{entry}
 
 -- ---- any table
-
--- a test at each entry, at one of them
-at-member : (p : Form → Bool) (xs : List Form) {x : Form} → every p xs ≡ true → Member x xs → p x ≡ true
-unfolding every
-at-member p (y ∷ ys) e (here q) = rw q (and-eq-true-iff (p y) (every p ys) .0 e .0)
-at-member p (y ∷ ys) e (there m) = at-member p ys (and-eq-true-iff (p y) (every p ys) .0 e .1) m
 
 -- two forms, of which one may stand after the other, in one text
 module _ (x y : Form) (s : List ℕ) (a : after x y ≡ true) (p : goesOn (x .letters) s ≡ true) (q : goesOn (y .letters) s ≡ true) where
@@ -50,7 +45,7 @@ module _ (x : Form) (xs : List Form) (r : ranked (x ∷ xs) ≡ true) where
 
   each-after : {y : Form} → Member y xs → after x y ≡ true
   unfolding ranked
-  each-after m = at-member (after x) xs (and-eq-true-iff (every (after x) xs) (ranked xs) .0 r .0) m
+  each-after {y} m = every-member (after x) xs (and-eq-true-iff (every (after x) xs) (ranked xs) .0 r .0) y m
 
 -- forms of a ranked table that one text goes on with are of one name
 one-value-in : (xs : List Form) (s : List ℕ) → ranked xs ≡ true → {x y : Form} → Member x xs → Member y xs
@@ -294,7 +289,7 @@ module _ (t : Names) (s : List ℕ) where
               false≢true (sym (none j l) ∙ goes-short (nameAt t j) s g))),
           none-first (middlesOf t) s (λ y m. fails (goesOn (y .letters) s) (λ g.
               let b = and-eq-true-iff (leb (suc (y .index)) (length (namesOf t))) (goesOn (short (nameAt t (y .index))) (y .letters)) .0
-              (at-member (middle-of t) (middlesOf t) (middles-of t) m) in
+              (every-member (middle-of t) (middlesOf t) (middles-of t) y m) in
               let l = leb-true (suc (y .index)) (length (namesOf t)) (b .0) in
               false≢true (sym (none (y .index) l) ∙ goes-trans (short (nameAt t (y .index))) (y .letters) s (b .1) g))),
           each-none Short s 0 (map short (namesOf t)) (λ j l.

@@ -51,10 +51,11 @@ pub record Form : Type 0 where
   pub index : ℕ
   pub form : NameForm
 
--- the middle forms, which old records have; the longest stands first
+-- a middle form, of the name at place i
 unfoldable pub middle : String → ℕ → Form
 middle x i = record { letters = bytes x; index = i; form = Middle }
 
+-- the middle forms, which old records have; the longest stands first
 unfoldable pub middlesOf : Names → List Form
 middlesOf Weekdays = middle "Thurs" 3 ∷ middle "Tues" 1 ∷ middle "Thur" 3 ∷ []
 middlesOf Months = middle "Sept" 8 ∷ []
@@ -65,10 +66,11 @@ unfoldable pub eachAs : NameForm → ℕ → List (List ℕ) → List Form
 eachAs f i [] = []
 eachAs f i (n ∷ ns) = record { letters = n; index = i; form = f } ∷ eachAs f (suc i) ns
 
--- the forms of a table in the order in which they are tried: the full names, then the others, the longest first
+-- the forms that are not full, the longest first
 unfoldable pub othersOf : Names → List Form
 othersOf t = middlesOf t ++ eachAs Short 0 (map short (namesOf t))
 
+-- all forms of a table in the order in which they are tried: the full names, then the others
 unfoldable pub formsOf : Names → List Form
 formsOf t = eachAs Full 0 (namesOf t) ++ othersOf t
 
