@@ -131,10 +131,10 @@ static inline const char *larusqem_sentence(uint32_t number)
 /* ---- Forms of names (RULES 6.3)
  *
  * A weekday or a month is read by its full name, by its short form, the first three letters, and by four middle forms that old records
- * have: Sept, Tues, Thur and Thurs; letters may be large or small. The full name is tried first, then the longest of the others: "Tuesd" takes "Tues" and
- * leaves "d". A finished reading gives the form of its last weekday name, by %a or %A, and of its last month name, by %b, %B or %h; a
- * refused one gives none. A number, by %u, %w or %m, is no name and leaves the forms as they are. The writer writes full and short names
- * alone.
+ * have: Sept, Tues, Thur and Thurs; letters may be large or small. The full name is tried first, then the longest of the others: "Tuesd"
+ * takes "Tues" and leaves "d". A finished reading gives the form of its last weekday name, by %a or %A, and of its last month name, by
+ * %b, %B or %h; a refused one gives none. A number, by %u, %w or %m, is no name and leaves the forms as they are. The writer writes full
+ * and short names alone.
  */
 enum larusqem_form {
     LARUSQEM_NO_NAME = 0,
