@@ -3,8 +3,8 @@
 --   2  writing and reading as RULES 5 and RULES 6 fix them: the promises of `strftime` and `strptime` are `writing` and `reading`; the
 --      starred cases are in one table, Starred (`all-hold` in proofs/Starred); which bytes are white space, and where, is in WhiteSpace
 --      (`white-space` in proofs/WhiteSpace); what flags and widths do, and who takes them, is in Columns (`columns` in proofs/Columns); how
---      a name is read, and in which form, is in Names (`name-rule` in proofs/Names), with cases in one table, NameCases (`all-named` in
---      proofs/NameCases)
+--      a name is read, and in which form, is in Names (`name-rule` in proofs/Names), with cases and all forms of all tables in NameCases
+--      (`all-named`, `all-forms` in proofs/NameCases)
 --   3  the conclusions of RULES 8: the facts that a text says, and when it is matched, in Facts (`matched`, `handed` in proofs/Matched);
 --      what the writer would write, in Writes (`day-would`, `hour-would` in proofs/Written);
 --      how a matched text is answered, `Answered` of Demand (`answered` in proofs/Demand);

@@ -22,13 +22,13 @@ unfoldable pub wordCases : List Case
 wordCases =
     -- 6 Mar 1934 07:08 Tues: a middle weekday, a short month; no second
     (
-      words (Done 21 (On (date 1934 3 6)) (Is 7) (Is 8) Unsaid (both Middle Short) 1),
-      0 ∷ 21 ∷ 1934 ∷ 3 ∷ 6 ∷ 1 ∷ 7 ∷ 1 ∷ 8 ∷ 0 ∷ 0 ∷ 0 ∷ 0 ∷ 0 ∷ 0 ∷ 1 ∷ 2 ∷ 3 ∷ [],
+      words (Done 21 (On (date 1934 3 6)) (Is 7) (Is 8) Unsaid (both Middle Short) 31),
+      0 ∷ 21 ∷ 1934 ∷ 3 ∷ 6 ∷ 1 ∷ 7 ∷ 1 ∷ 8 ∷ 0 ∷ 0 ∷ 0 ∷ 0 ∷ 0 ∷ 0 ∷ 31 ∷ 2 ∷ 3 ∷ [],
     )
-    -- a full month, no weekday
+    -- 5 September 1934 0, the last a second: a full month, no weekday
     ∷ (
-      words (Done 15 (On (date 1934 9 5)) Unsaid Unsaid (Is 0) (both NoName Full) 1),
-      0 ∷ 15 ∷ 1934 ∷ 9 ∷ 5 ∷ 0 ∷ 0 ∷ 0 ∷ 0 ∷ 1 ∷ 0 ∷ 0 ∷ 0 ∷ 0 ∷ 0 ∷ 1 ∷ 0 ∷ 1 ∷ [],
+      words (Done 18 (On (date 1934 9 5)) Unsaid Unsaid (Is 0) (both NoName Full) 30),
+      0 ∷ 18 ∷ 1934 ∷ 9 ∷ 5 ∷ 0 ∷ 0 ∷ 0 ∷ 0 ∷ 1 ∷ 0 ∷ 0 ∷ 0 ∷ 0 ∷ 0 ∷ 30 ∷ 0 ∷ 1 ∷ [],
     )
     -- nothing said, a refusal, two days, two hours
     ∷ (

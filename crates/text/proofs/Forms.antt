@@ -7,10 +7,11 @@ use mathlib.Core.Bool.{Bool, true, false, cond, _&&_, and-eq-true-iff, false≢t
 use mathlib.Core.List.{List, [], _∷_, _++_, map, List·Memᴰ as Member, List·Memᴰ·head as here, List·Memᴰ·tail as there}
 use native.Mathlib.Nat.{add-zero, zero-add, add-suc, suc-add, le-of-suc-le-suc, not-suc-le-zero}
 use native.Mathlib.Omega.{arith}
-use borrow.Author.Tests.{eqb-true, leb-true}
-use lib.Dec.{eqb, leb}
+use borrow.Author.Tests.{eqb-true, leb-true, ltb-true}
+use lib.Dec.{eqb, leb, ltb}
 use lib.ListN.{length, getD, length-map}
 use Rattle.laws.specs.Lists.{every}
+use Rattle.laws.proofs.Cases.{clash}
 use Rattle.laws.proofs.Lists.{every-member}
 use Rattle.text.specs.Case.{fold}
 use Rattle.text.specs.Names.{Form, namesOf, nameAt, short, middlesOf, eachAs, othersOf, formsOf, goesOn, firstForm, readName}
@@ -23,7 +24,7 @@ use Rattle.text.specs.declared.names.Names.{Names}
 use Rattle.text.specs.declared.names.Names.the-variants.{Weekdays, Months, Halves}
 use Rattle.text.specs.declared.names.NameRead.{NameRead}
 use Rattle.text.specs.declared.names.NameRead.the-variants.{Found, Nothing}
-use Rattle.text.proofs.Goes.{fails, goes-length, goes-trans, goes-short, shorter, never-both}
+use Rattle.text.proofs.Goes.{fails, goes-length, goes-trans, shorter, never-both}
 use Rattle.text.proofs.Table.{entry}
 
 -- ---- any table
@@ -97,6 +98,38 @@ unfolding ranked every after apart goesOn fold computes
 ranked-forms Weekdays = refl
 ranked-forms Months = refl
 ranked-forms Halves = refl
+
+-- each form is of a name of its table: it begins with the name's short form, and begins the name
+ofName : Names → Form → Bool
+ofName t x =
+    let n = nameAt t (x .index) in
+    ltb (x .index) (length (namesOf t)) && (goesOn (short n) (x .letters) && (goesOn (x .letters) n && leb 1 (length (x .letters))))
+
+all-of-names : (t : Names) → every (ofName t) (formsOf t) ≡ true
+unfolding ofName every goesOn fold computes
+all-of-names Weekdays = refl
+all-of-names Months = refl
+all-of-names Halves = refl
+
+pub record OfName (t : Names) (x : Form) : Type 0 where
+  pub place : x .index < length (namesOf t)
+  pub from-short : goesOn (short (nameAt t (x .index))) (x .letters) ≡ true
+  pub begins : goesOn (x .letters) (nameAt t (x .index)) ≡ true
+  pub some : 1 ≤ length (x .letters)
+
+pub of-name : (t : Names) (x : Form) → Member x (formsOf t) → OfName t x
+unfolding ofName
+of-name t x m =
+    let n = nameAt t (x .index) in
+    let a = and-eq-true-iff (ltb (x .index) (length (namesOf t))) _ .0 (every-member (ofName t) (formsOf t) (all-of-names t) x m) in
+    let b = and-eq-true-iff (goesOn (short n) (x .letters)) _ .0 (a .1) in
+    let c = and-eq-true-iff (goesOn (x .letters) n) (leb 1 (length (x .letters))) .0 (b .1) in
+    record {
+      place = ltb-true (x .index) (length (namesOf t)) (a .0);
+      from-short = b .0;
+      begins = c .0;
+      some = leb-true 1 (length (x .letters)) (c .1);
+    }
 
 -- ---- a form of each name
 
@@ -184,21 +217,32 @@ unfolding firstForm
 none-first [] s h = refl
 none-first (x ∷ xs) s h = rw (h x (here refl)) (none-first xs s (λ y m. h y (there m)))
 
+-- a form that was read is one of them, and the text goes on with it
+pub record Read (xs : List Form) (s : List ℕ) (j n : ℕ) : Type 0 where
+  pub form : Form
+  pub listed : Member form xs
+  pub fits : goesOn (form .letters) s ≡ true
+  pub place : form .index ≡ j
+  pub long : length (form .letters) ≡ n
+
+pub is-read : (xs : List Form) (s : List ℕ) {j n : ℕ} {f : NameForm} → firstForm xs s ≡ Found j n f → Read xs s j n
+unfolding firstForm
+is-read [] s e = clash (cc)
+is-read (x ∷ xs) s {j} {n} {f} e = go (goesOn (x .letters) s) refl e (is-read xs s)
+  where
+    go : (b : Bool) → goesOn (x .letters) s ≡ b
+        → cond b (Found (x .index) (length (x .letters)) (x .form)) (firstForm xs s) ≡ Found j n f
+        → (firstForm xs s ≡ Found j n f → Read xs s j n) → Read (x ∷ xs) s j n
+    go true g e more = record { form = x; listed = here refl; fits = g; place = cc; long = cc }
+    go false g e more =
+        let r = more e in
+        record { form = r .form; listed = there (r .listed); fits = r .fits; place = r .place; long = r .long }
+
 ranked-right : (xs ys : List Form) → ranked (xs ++ ys) ≡ true → ranked ys ≡ true
 ranked-right [] ys r = r
 ranked-right (x ∷ xs) ys r = ranked-right xs ys (tail-ranked x (xs ++ ys) r)
 
 -- ---- reading
-
--- each middle form is of a name of the table, with whose short form it begins
-middle-of : Names → Form → Bool
-middle-of t y = leb (suc (y .index)) (length (namesOf t)) && goesOn (short (nameAt t (y .index))) (y .letters)
-
-middles-of : (t : Names) → every (middle-of t) (middlesOf t) ≡ true
-unfolding middle-of every goesOn fold computes
-middles-of Weekdays = refl
-middles-of Months = refl
-middles-of Halves = refl
 
 module _ (t : Names) (s : List ℕ) where
   -- no text goes on with forms of two names
@@ -278,23 +322,15 @@ module _ (t : Names) (s : List ℕ) where
     unfolding shortPlace
     earlier j l h = rw (short-at j h) at (not-before s (map short (namesOf t)) j (omega arith))
 
-    -- no name begins as the text goes on
+    -- the text goes on with no short form, and so with none that begins with one
     pub past : length (namesOf t) ≤ i → readName t s ≡ Nothing
-    unfolding orElse nameAt middle-of
     past h =
-        let none : (j : ℕ) → j < length (namesOf t) → goesOn (short (nameAt t j)) s ≡ false = λ j l. earlier j (omega arith) l in
-        rw (
-          in-order,
-          each-none Full s 0 (namesOf t) (λ j l. fails (goesOn (nameAt t j) s) (λ g.
-              false≢true (sym (none j l) ∙ goes-short (nameAt t j) s g))),
-          none-first (middlesOf t) s (λ y m. fails (goesOn (y .letters) s) (λ g.
-              let b = and-eq-true-iff (leb (suc (y .index)) (length (namesOf t))) (goesOn (short (nameAt t (y .index))) (y .letters)) .0
-              (every-member (middle-of t) (middlesOf t) (middles-of t) y m) in
-              let l = leb-true (suc (y .index)) (length (namesOf t)) (b .0) in
-              false≢true (sym (none (y .index) l) ∙ goes-trans (short (nameAt t (y .index))) (y .letters) s (b .1) g))),
-          each-none Short s 0 (map short (namesOf t)) (λ j l.
-              let k : j < length (namesOf t) = rw length-map at l in rw (short-at j k) (none j k)),
-        ) refl
+        reads-none
+        (λ x m. fails (goesOn (x .letters) s) (λ g.
+        let o = of-name t x m in
+        false≢true
+        (sym (earlier (x .index) (omega (arith, o .place)) (o .place))
+        ∙ goes-trans (short (nameAt t (x .index))) (x .letters) s (o .from-short) g)))
 
     module _ (h : i < length (namesOf t)) where
       pub short-on : goesOn (short (nameAt t i)) s ≡ true

@@ -69,21 +69,6 @@ module _ (x s : List ℕ) where
   pub room : (at : ℕ) → 3 < length x → goesOn (short x) (drop at s) ≡ true → at + 3 ≤ length s
   room at h g = let l = rw (length-take, length-drop) at (goes-length (short x) (drop at s) g) in omega arith
 
-carried : (t : Bool) {x y : Bool} → (x ≡ true → y ≡ true) → cond t x false ≡ true → cond t y false ≡ true
-carried true h e = h e
-carried false h e = e
-
-goes-take : (k : ℕ) (x s : List ℕ) → goesOn x s ≡ true → goesOn (take k x) s ≡ true
-unfolding goesOn
-goes-take zero x s g = refl
-goes-take (suc k) [] s g = refl
-goes-take (suc k) (a ∷ x) [] g = g
-goes-take (suc k) (a ∷ x) (b ∷ s) g = carried (eqb (fold a) (fold b)) (goes-take k x s) g
-
--- a text that goes on with a name goes on with its short form
-pub goes-short : (x s : List ℕ) → goesOn x s ≡ true → goesOn (short x) s ≡ true
-goes-short x s g = goes-take 3 x s g
-
 -- one letter of two names and of a text: t says that the names have the same letter, u that the text has the first name's,
 -- w that it has the second's
 letter : (t u w : Bool) {x y z : Bool} → (u ≡ true → t ≡ false → w ≡ false) → (x ≡ true → z ≡ true → y ≡ false)

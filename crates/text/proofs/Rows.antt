@@ -2,12 +2,12 @@
 use Prim.Native.Nat.{ℕ, zero, suc, _+_, _-_, _≤_, _<_}
 use mathlib.Core.Path.{_≡_, refl, sym}
 use mathlib.Core.Bool.{Bool, true, false, not}
-use mathlib.Core.List.{List, [], _∷_, _++_, map}
+use mathlib.Core.List.{List, [], _∷_, _++_}
 use native.Mathlib.Numerals.{add-one, unary-clauses}
 use native.Mathlib.Omega.{arith}
 use borrow.Author.Tests.{leb-true, not-true, not-false}
 use lib.Dec.{eqb, leb}
-use lib.ListN.{length, getD, take, drop, set, replicate, length-append, length-take, length-map, length-replicate, drop-of-length-le}
+use lib.ListN.{length, getD, take, drop, set, replicate, length-append, length-take, length-replicate, drop-of-length-le}
 use lib.Seq.{sets, drop-cons, take-take, take-append-seam, drop-nil, take-nil}
 use Rattle.laws.specs.Lists.{every}
 use Rattle.laws.proofs.Lists.{each}
@@ -19,7 +19,6 @@ use Rattle.text.specs.declared.names.Case.{Case}
 use Rattle.text.specs.declared.names.Names.{Names}
 use Rattle.text.specs.declared.names.Names.the-variants.{Weekdays, Months, Halves}
 use Rattle.text.proofs.Case.{cased-length, cased-at}
-use Rattle.text.proofs.Table.{entry}
 
 -- ---- a name in its row
 
@@ -57,16 +56,6 @@ held t i e p =
       fits = rw (padded-length (nameAt t i)) (at-most-nine t i);
       name = unpadded (nameAt t i) (at-most-nine t i);
     }
-
--- the same at a place of a whole table
-module _ (t : Names) {rows : List (List ℕ)} {lengths : List ℕ} (p : rows ≡ map padded (namesOf t))
-    (e : lengths ≡ map length (namesOf t)) where
-  pub counts : (length rows ≡ length (namesOf t)) × (length lengths ≡ length (namesOf t))
-  counts = rw (p, e) (length-map (namesOf t) padded, length-map (namesOf t) length)
-
-  pub tabled : (i : ℕ) → i < length (namesOf t) → Held t i (getD lengths i 0) (getD rows i [])
-  unfolding nameAt
-  tabled i h = held t i (rw e (entry length 0 (namesOf t) i h)) (rw p (entry padded [] (namesOf t) i h))
 
 -- a name after its first letters, in its row
 pub after-first : (k n : ℕ) (row : List ℕ) → take (n - k) (drop k row) ≡ drop k (take n row)
