@@ -9,7 +9,7 @@ version := $(shell sed -nE 's/^pub const (MAJOR|MINOR|PATCH): u32 = ([0-9]+);$$/
 # a 0.x may change its structs with each x
 soname := liblarusqem.so.$(basename $(version))
 
-static = target/staticlib/liblarusqem.a
+static = target/lib/liblarusqem.a
 shared = target/sharedlib/liblarusqem.so.$(version)
 program = target/bin/date_lines
 

@@ -1,5 +1,5 @@
-/* Ratios of the library's time to the C library's, to chrono's, or to the same loop in C. What a row compares is measured in this run, in
-   turns: each round runs every one of them once, and the best round of each counts. */
+/* Ratios of the library's time to the C library's, to chrono's, to the same loop in C, or to its own without a reason. What a row compares
+   is measured in this run, in turns: each round runs every one of them once, and the best round of each counts. */
 #define _GNU_SOURCE
 #include <stdio.h>
 #include <stdlib.h>
@@ -255,15 +255,60 @@ static void reading_forms(void) {
     printf("| `%s` | %.0f ns | %.0f ns | %.2f | %.0f ns | %.2f |\n\n", format, s, m, m / s, f, f / s);
 }
 
-/* ---- the slowest readings: of every set of kinds 1 to 12 a set of facts that agrees with a day, three of which one fact is another
-   day's, and two of which each is another day's; ten times as many where the kinds are three or fewer */
+/* what a reason costs where it is asked for, and where it is not */
+static struct larusqem_options options;
+static struct larusqem_reason reason;
+
+static void read_by_options(struct larusqem_reason *asked_for) {
+    options.reason = asked_for;
+    for (int i = 0; i < DATES; i++) sink += larusqem_read_with(elements, element_count, texts[i], text_lengths[i], options).place;
+}
+
+static void read_unasked(void) { read_by_options(NULL); }
+static void read_explained(void) { read_by_options(&reason); }
+
+static void read_anew_explained(void) {
+    options.reason = &reason;
+    for (int i = 0; i < DATES; i++) sink += larusqem_strptime_with(format, format_length, texts[i], text_lengths[i], options).place;
+}
+
+static void reading_reasons(void) {
+    static const struct { const char *format, *text; uint32_t number; } cases[] = {
+        {"%d %b %Y %H:%M", "5 Mar 1934 07:08", LARUSQEM_DONE},
+        {"%d %b %Y", "29 Feb 1900", LARUSQEM_NONE_AGREES},
+        {"%a %d %b %Y", "Tue 5 Mar 1934", LARUSQEM_NONE_AGREES},
+        {"%d %b", "5 Mar", LARUSQEM_TWO_AGREE}};
+    printf("| read, and why it is refused | number | opened once | with options, no reason asked for | ratio | with its reason | ratio | "
+           "opened each time | with its reason | ratio |\n|---|---|---|---|---|---|---|---|---|---|\n");
+    for (size_t k = 0; k < COUNT(cases); k++) {
+        struct racer r[] = {{read_opened, 0}, {read_unasked, 0}, {read_explained, 0}, {read_anew, 0}, {read_anew_explained, 0}};
+        open_format(cases[k].format, LARUSQEM_FOR_READING);
+        for (int i = 0; i < DATES; i++) text_lengths[i] = strlen(strcpy(texts[i], cases[k].text));
+        if (larusqem_read(elements, element_count, texts[0], text_lengths[0]).number != cases[k].number)
+            fail("another number", format, texts[0]);
+        race(r, COUNT(r), ROUNDS);
+        double once = r[0].best / DATES, unasked = r[1].best / DATES, why = r[2].best / DATES, anew = r[3].best / DATES;
+        double anew_why = r[4].best / DATES;
+        printf("| `%s` (`%s`) | %u | %.0f ns | %.0f ns | %.2f | %.0f ns | %.2f | %.0f ns | %.0f ns | %.2f |\n", texts[0], format,
+               cases[k].number, once, unasked, unasked / once, why, why / once, anew, anew_why, anew_why / anew);
+    }
+    printf("\n");
+}
+
+/* ---- the slowest readings, without and with their reasons: of every set of kinds 1 to 12 a set of facts that agrees with a day, three of
+   which one fact is another day's, and two of which each is another day's; ten times as many where the kinds are three or fewer */
 
 #define SETS 4095
 #define KEPT 40
+/* the longest that a reason should take, in ns */
+#define AIM 5e6
+
+static const char letters[] = "YCymdjuUWGgV";
 
 struct timed {
     char format[64], text[64];
-    uint32_t number, examined;
+    struct larusqem_reading reading;
+    struct larusqem_reason reason;
     double best;
 };
 
@@ -272,20 +317,23 @@ static int by_time(const void *a, const void *b) {
     return (x < y) - (x > y);
 }
 
-/* the best of some readings, in ns */
-static void time_reading(struct timed *t, int rounds) {
-    size_t length = strlen(t->text);
-    open_format(t->format, LARUSQEM_FOR_READING);
-    t->best = 1e18;
+/* the best of some readings by a format, in ns, with the reason where there is a place for it */
+static double best_reading(const char *f, const char *text, struct larusqem_reading *reading, struct larusqem_reason *why, int rounds) {
+    double best = 1e18;
+    size_t length = strlen(text);
+    open_format(f, LARUSQEM_FOR_READING);
+    options.reason = why;
     for (int round = 0; round < rounds; round++) {
         double start = now();
-        struct larusqem_reading r = larusqem_read(elements, element_count, t->text, length);
+        *reading = larusqem_read_with(elements, element_count, text, length, options);
         double took = now() - start;
-        if (took < t->best) t->best = took;
-        t->number = r.number;
-        t->examined = r.examined;
+        if (took < best) best = took;
     }
+    return best;
 }
+
+static void time_reading(struct timed *t, int rounds) { t->best = best_reading(t->format, t->text, &t->reading, NULL, rounds); }
+static void time_reason(struct timed *t, int rounds) { t->best = best_reading(t->format, t->text, &t->reading, &t->reason, rounds); }
 
 /* a day of any year, or about the end of one of those at a century's or the calendar's ends */
 static struct larusqem_date any_day(void) {
@@ -296,44 +344,115 @@ static struct larusqem_date any_day(void) {
     return larusqem_date_of(last - below(4));
 }
 
-/* what a conversion shows for a day, and a blank */
-static void say(char *text, char letter, struct larusqem_date d) {
-    char conversion[] = {'%', letter, ' '};
-    size_t length = strlen(text);
+/* says what a conversion shows for a day, and a blank */
+static void say(struct timed *t, char letter, struct larusqem_date d) {
+    char conversion[] = {'%', letter, ' ', 0};
+    size_t length = strlen(t->text);
     struct larusqem_moment m = {d.year, d.month, d.day, 0, 0, 0};
-    text[length + larusqem_strftime(conversion, 3, m, text + length, 16).place] = 0;
+    strcat(t->format, conversion);
+    t->text[length + larusqem_strftime(conversion, 3, m, t->text + length, 16).place] = 0;
+}
+
+/* the first ones are measured again, in turns, and put in order */
+static void measure_again(struct timed *first, size_t count, int rounds, void (*measure)(struct timed *, int)) {
+    for (int round = 0; round < rounds; round++)
+        for (struct timed *t = first; t < first + count; t++) {
+            double best = t->best;
+            measure(t, 1);
+            if (best < t->best) t->best = best;
+        }
+    qsort(first, count, sizeof *first, by_time);
+}
+
+/* of all sets the slowest stand first: many are measured some times more, lest other work on the machine chose them, those kept often */
+static void settle(struct timed *worst, void (*measure)(struct timed *, int)) {
+    qsort(worst, SETS, sizeof *worst, by_time);
+    measure_again(worst, 25 * KEPT, 5, measure);
+    measure_again(worst, KEPT, ROUNDS, measure);
+}
+
+/* the kinds that quarrel, by their conversions, and how long it took to find them */
+static void print_reason(const struct larusqem_reason *why, double took) {
+    for (int k = 0; k < 12; k++)
+        if (why->words[k + 1].next != 0) printf("`%%%c` ", letters[k]);
+    printf("| %.2f | %.3f |\n", took / 1e3, took / AIM);
+}
+
+static void print_reasons(const struct timed *worst) {
+    for (const struct timed *t = worst; t < worst + 5; t++) {
+        printf("| `%s` | `%s` | %u | ", t->text, t->format, t->reading.number);
+        print_reason(&t->reason, t->best);
+    }
+}
+
+/* adds kinds that are not said, one at a time and with the numbers of any day, as long as no day agrees and the reason takes longer */
+static void add_kinds(struct timed *t) {
+    for (int kinds = 0; kinds < 12; kinds++) {
+        struct timed slowest = *t;
+        for (const char *letter = letters; *letter; letter++)
+            for (int turn = 0; turn < 30 && !strchr(t->format, *letter); turn++) {
+                struct timed more = *t;
+                say(&more, *letter, any_day());
+                time_reason(&more, 3);
+                if (more.reading.number == LARUSQEM_NONE_AGREES && more.best > slowest.best) slowest = more;
+            }
+        if (slowest.best == t->best) return;
+        *t = slowest;
+    }
+}
+
+/* the same behind minutes, as many as a text has room for: the words are looked for from the beginning, kind by kind */
+static void print_far_reason(const struct timed *t) {
+    static char long_format[LARUSQEM_LONGEST + 1], long_text[LARUSQEM_LONGEST + 1];
+    struct larusqem_reading reading;
+    size_t count = (LARUSQEM_LONGEST - sizeof t->text) / 2;
+    for (size_t i = 0; i < count; i++) {
+        strcat(long_format, "%M");
+        strcat(long_text, "08");
+    }
+    strcat(long_format, t->format);
+    strcat(long_text, t->text);
+    double took = best_reading(long_format, long_text, &reading, &reason, ROUNDS);
+    printf("| the first behind %zu times `08` | and as often `%%M` | %u | ", count, reading.number);
+    print_reason(&reason, took);
 }
 
 static void slowest(void) {
-    static const char letters[] = "YCymdjuUWGgV";
-    static struct timed worst[SETS];
-    double sum = 0;
+    static struct timed readings[SETS], reasons[SETS];
+    double sum = 0, reason_sum = 0;
     int count = 0;
     for (uint32_t set = 1; set <= SETS; set++) {
         uint32_t kinds = (uint32_t)__builtin_popcount(set);
         for (int turn = 0; turn < (kinds <= 3 ? 60 : 6); turn++) {
-            struct timed t = {"", "", 0, 0, 0};
+            struct timed t = {.best = 0};
             struct larusqem_date day = any_day();
             uint32_t quarrel = turn % 6 ? below(kinds) : kinds;
             for (int k = 0; k < 12; k++)
-                if (set >> k & 1) {
-                    char conversion[] = {'%', letters[k], ' ', 0};
-                    strcat(t.format, conversion);
-                    say(t.text, letters[k], quarrel-- && turn % 6 <= 3 ? day : any_day());
-                }
+                if (set >> k & 1) say(&t, letters[k], quarrel-- && turn % 6 <= 3 ? day : any_day());
             time_reading(&t, 3);
             sum += t.best;
+            if (t.best > readings[set - 1].best) readings[set - 1] = t;
+            time_reason(&t, 3);
+            reason_sum += t.best;
+            if (t.best > reasons[set - 1].best) reasons[set - 1] = t;
             count++;
-            if (t.best > worst[set - 1].best) worst[set - 1] = t;
         }
     }
-    qsort(worst, SETS, sizeof *worst, by_time);
-    for (size_t i = 0; i < KEPT; i++) time_reading(&worst[i], 25);
-    qsort(worst, KEPT, sizeof *worst, by_time);
+    settle(readings, time_reading);
     printf("| the slowest of %d readings, of each format one (mean of all %.2f microseconds) | format | number | days examined | "
            "microseconds |\n|---|---|---|---|---|\n", count, sum / count / 1e3);
-    for (struct timed *t = worst; t < worst + 5; t++)
-        printf("| `%s` | `%s` | %u | %u | %.2f |\n", t->text, t->format, t->number, t->examined, t->best / 1e3);
+    for (struct timed *t = readings; t < readings + 5; t++)
+        printf("| `%s` | `%s` | %u | %u | %.2f |\n", t->text, t->format, t->reading.number, t->reading.examined, t->best / 1e3);
+    settle(reasons, time_reason);
+    printf("\n| the slowest of the same with their reasons (mean of all %.2f microseconds) | format | number | kinds that quarrel | "
+           "microseconds | to the aim of 5 ms |\n|---|---|---|---|---|---|\n", reason_sum / count / 1e3);
+    print_reasons(reasons);
+    for (size_t i = 0; i < KEPT; i++) add_kinds(&reasons[i]);
+    measure_again(reasons, KEPT, ROUNDS, time_reason);
+    printf("\n| the slowest that are made of the first %d by adding kinds | format | number | kinds that quarrel | microseconds | "
+           "to the aim of 5 ms |\n|---|---|---|---|---|---|\n", KEPT);
+    print_reasons(reasons);
+    print_far_reason(reasons);
     printf("\n");
 }
 
@@ -403,12 +522,12 @@ static void scan_c(void) {
 }
 
 static void scan_plain(void) {
-    struct larusqem_options plain = {LARUSQEM_PLAIN, 0};
+    struct larusqem_options plain = {.engine = LARUSQEM_PLAIN};
     sink += larusqem_read_with(elements, element_count, texts[0], text_lengths[0], plain).place;
 }
 
 static void scan_within(void) {
-    struct larusqem_options within = {LARUSQEM_WITHIN, larusqem_days()};
+    struct larusqem_options within = {.engine = LARUSQEM_WITHIN, .budget = larusqem_days()};
     sink += larusqem_read_with(elements, element_count, texts[0], text_lengths[0], within).place;
 }
 
@@ -426,8 +545,8 @@ static void scanning(void) {
            "the skipping engine |\n|---|---|---|---|---|---|---|---|\n", larusqem_days());
     for (size_t k = 0; k < COUNT(cases); k++) {
         struct racer r[] = {{scan_c, 0}, {scan_plain, 0}, {scan_within, 0}};
-        struct timed skipping = {"", "", 0, 0, 0};
-        struct larusqem_options plain = {LARUSQEM_PLAIN, 0};
+        struct timed skipping = {.best = 0};
+        struct larusqem_options plain = {.engine = LARUSQEM_PLAIN};
         uint32_t hits[2];
         facts = cases[k].facts;
         open_format(cases[k].format, LARUSQEM_FOR_READING);
@@ -451,6 +570,7 @@ int main(void) {
     reading_clocks();
     reading_dates();
     reading_forms();
+    reading_reasons();
     slowest();
     scanning();
     return 0;

@@ -16,8 +16,9 @@
  * anything. Where a length is 0 nothing is read or written, and the pointer may be NULL (not so for the functions on words, below).
  *
  * The functions are pure: they keep nothing, allocate nothing, read no locale, no time zone and no clock, and have no state of their own.
- * Any number of threads may call them at once, on arrays of their own. A call takes at most 40 KB of stack (2 KB by opened elements), and
- * it always returns. What takes longest is a reading by the plain engine, which examines up to 3,652,059 days one by one (see "Engines").
+ * Any number of threads may call them at once, on arrays of their own. A call takes at most 40 KB of stack (2 KB by opened elements), with
+ * a reason asked for 64 KB (3 KB), and it always returns. What takes longest is a reading by the plain engine, which examines up to
+ * 3,652,059 days one by one (see "Engines").
  *
  * The calendar is Gregorian from 0001-01-01 to 9999-12-31. The conversions of a format are
  *   %Y %C %y %m %b %h %B %d %e %j %u %w %a %A %U %W %G %g %V %H %k %I %l %p %P %M %S
@@ -50,9 +51,12 @@ extern "C" {
 #define LARUSQEM_ELEMENTS 6656
 /* the bytes of a buffer that is enough for every writing by a format, or by the elements that it opens to: 256 times %99d has as many */
 #define LARUSQEM_WIDEST 25344
-/* the words of a moment and of a reading, for the functions on words */
+/* the entries of a reason: one for each kind of fact that can be named, by its number, and one for 0, which is none */
+#define LARUSQEM_KINDS 16
+/* the words of a moment, of a reading and of a reason, for the functions on words */
 #define LARUSQEM_MOMENT_WORDS 6
 #define LARUSQEM_READING_WORDS 18
+#define LARUSQEM_REASON_WORDS 33
 
 /* ---- Numbers that come back (RULES 3)
  *
@@ -229,19 +233,81 @@ enum larusqem_engine {
     LARUSQEM_WITHIN = 2 /* the plain one with a budget */
 };
 
-/* how a text is read: by an engine of the enum (any other number is as LARUSQEM_WITHIN), and with a budget, which only WITHIN looks at: a
-   budget alone does nothing, the engine must be LARUSQEM_WITHIN too */
+/* ---- Reasons (RULES 8.5)
+ *
+ * A reading that is refused by 9 or 10 has a reason, which is given where it is asked for (struct larusqem_options); it is the same by
+ * every engine. With any other number, 11 too, there is none.
+ *   9              names the kinds of fact that quarrel: no day, or no hour, agrees with all that is said of them together, and without
+ *                  any one of them some does. Each has its words, where the text first says it: a caller can underline these and no more.
+ *   10, place 1    the first of year, month and day in which the two days differ
+ *   10, place 2    the two hours, which the reading shows
+ * The kinds are tried in the order of the enum, and one is left out if none agrees without it either; so it is fixed which are named. Of
+ * "Tue 5 Mar 1934" by "%a %d %b %Y" these are the year, 10 to 14, the month, 6 to 9, the day, 4 to 5, and the weekday, 0 to 3; of "30 Feb
+ * 1900" the month and the day alone, since no year has it. "5 Mar" by "%d %b" has the part year: 0001-03-05 and 0002-03-05 differ in it.
+ */
+enum larusqem_kind {
+    LARUSQEM_YEAR = 1,                 /* %Y */
+    LARUSQEM_CENTURY = 2,              /* %C */
+    LARUSQEM_YEAR_IN_CENTURY = 3,      /* %y */
+    LARUSQEM_MONTH = 4,                /* %m %b %B %h */
+    LARUSQEM_DAY = 5,                  /* %d %e */
+    LARUSQEM_DAY_OF_YEAR = 6,          /* %j */
+    LARUSQEM_WEEKDAY = 7,              /* %a %A %u %w */
+    LARUSQEM_SUNDAY_WEEK = 8,          /* %U */
+    LARUSQEM_MONDAY_WEEK = 9,          /* %W */
+    LARUSQEM_ISO_YEAR = 10,            /* %G */
+    LARUSQEM_ISO_YEAR_IN_CENTURY = 11, /* %g */
+    LARUSQEM_ISO_WEEK = 12,            /* %V */
+    LARUSQEM_HOUR = 13,                /* %H %k */
+    LARUSQEM_HOUR_OF_TWELVE = 14,      /* %I %l */
+    LARUSQEM_HALF_OF_DAY = 15          /* %p %P */
+};
+
+/* the parts of a date, in the order in which two days are compared */
+enum larusqem_part {
+    LARUSQEM_NO_PART = 0,
+    LARUSQEM_YEAR_PART = 1,
+    LARUSQEM_MONTH_PART = 2,
+    LARUSQEM_DAY_PART = 3
+};
+
+/* where words stand in a text: the offset of their first digit or letter, and the offset after their last; 0 0 where there are none */
+struct larusqem_extent {
+    uint32_t from;
+    uint32_t next;
+};
+
+/*
+ * Why a reading was refused. A kind is named exactly where the `next` of its words is not 0.
+ *
+ *   members        number 9                                       number 10, place 1    any other number or place
+ *   part           0                                              the part              0
+ *   words[kind]    of a kind that is named its words, else 0 0    0 0                   0 0
+ */
+struct larusqem_reason {
+    uint32_t part;
+    struct larusqem_extent words[LARUSQEM_KINDS];
+};
+
+/*
+ * How a text is read: by an engine of the enum (any other number is as LARUSQEM_WITHIN); with a budget, which only WITHIN looks at, so that
+ * a budget alone does nothing; and where the reason goes, or NULL: not asked for. It takes time only where it is asked for and the reading
+ * is refused by 9 or 10. In C an initialiser best names its members, as {.engine = LARUSQEM_WITHIN, .budget = 1000} does: all others are
+ * then 0, without a warning.
+ */
 struct larusqem_options {
     uint32_t engine;
     uint32_t budget;
+    struct larusqem_reason *reason;
 };
 
 /* ---- The functions of the library, on words
  *
- * They are what is proved; the functions below hand them structs. As these they take a moment and leave a reading, as words in the order of
- * the members, all of which are written. A format is opened for reading by 0, and for writing by any other number. A text is read by the
- * skipping engine by 0, by the plain one by 1, where the budget is not looked at, and by the plain one with the budget by any other number.
- * Every result is number * 2^32 + place (larusqem_answer_of takes it apart). No pointer may be NULL.
+ * They are what is proved; the functions below hand them structs. As these they take a moment and leave a reading and a reason, as words in
+ * the order of the members, all of which are written. A format is opened for reading by 0, and for writing by any other number. A text is
+ * read by the skipping engine by 0, by the plain one by 1, where the budget is not looked at, and by the plain one with the budget by any
+ * other number. Each result is number * 2^32 + place (larusqem_answer_of takes it apart). The two that explain leave the reason of the
+ * reading by the skipping engine, which is that of every engine whose budget is enough. No pointer may be NULL.
  */
 uint64_t larusqem_strftime_words(const uint8_t *format, size_t format_length, const uint32_t moment[LARUSQEM_MOMENT_WORDS], uint8_t *out,
                                  size_t out_length);
@@ -253,6 +319,10 @@ uint64_t larusqem_write_words(const uint32_t *elements, size_t elements_length, 
                               size_t out_length);
 uint64_t larusqem_read_words(const uint32_t *elements, size_t elements_length, const uint8_t *text, size_t text_length, uint32_t engine,
                              uint32_t budget, uint32_t reading[LARUSQEM_READING_WORDS]);
+void larusqem_explain_words(const uint8_t *format, size_t format_length, const uint8_t *text, size_t text_length,
+                            uint32_t reason[LARUSQEM_REASON_WORDS]);
+void larusqem_explain_read_words(const uint32_t *elements, size_t elements_length, const uint8_t *text, size_t text_length,
+                                 uint32_t reason[LARUSQEM_REASON_WORDS]);
 
 /* Each member is the word of its place, and nothing lies between or after them. All members are uint32_t, so the library reaches each of
    them by its own type, and a pointer to the struct serves as one to its words. */
@@ -295,6 +365,13 @@ LARUSQEM_WORD(larusqem_reading, 16, weekday_form);
 LARUSQEM_WORD(larusqem_reading, 17, month_form);
 LARUSQEM_ASSERT(larusqem_reading_is_its_words, sizeof(struct larusqem_reading) == LARUSQEM_READING_WORDS * sizeof(uint32_t));
 
+LARUSQEM_WORD(larusqem_extent, 0, from);
+LARUSQEM_WORD(larusqem_extent, 1, next);
+LARUSQEM_ASSERT(larusqem_extent_is_its_words, sizeof(struct larusqem_extent) == 2 * sizeof(uint32_t));
+LARUSQEM_WORD(larusqem_reason, 0, part);
+LARUSQEM_ASSERT(larusqem_reason_words_are_from_word_1, offsetof(struct larusqem_reason, words) == sizeof(uint32_t));
+LARUSQEM_ASSERT(larusqem_reason_is_its_words, sizeof(struct larusqem_reason) == LARUSQEM_REASON_WORDS * sizeof(uint32_t));
+
 #undef LARUSQEM_WORD
 #undef LARUSQEM_ASSERT
 
@@ -329,8 +406,18 @@ static inline struct larusqem_answer larusqem_strftime(const char *format, size_
                                                       out_length ? (uint8_t *)out : &none, out_length));
 }
 
+/* whether a reading has a reason; where it has none, none is written */
+static inline int larusqem_has_reason(const struct larusqem_reading *reading, struct larusqem_reason *reason)
+{
+    struct larusqem_reason none = {LARUSQEM_NO_PART, {{0, 0}}};
+
+    if (reading->number == 9 || reading->number == 10) return 1;
+    *reason = none;
+    return 0;
+}
+
 /* Reads a text by a format and with options: the one day and hour that all that it says fits, or why there is none. Answers 0, 1, 3 or 5
-   to 11. */
+   to 11. Where a reason is asked for, all of it is written, whatever the number. */
 static inline struct larusqem_reading larusqem_strptime_with(const char *format, size_t format_length, const char *text,
                                                              size_t text_length, struct larusqem_options options)
 {
@@ -338,13 +425,16 @@ static inline struct larusqem_reading larusqem_strptime_with(const char *format,
 
     larusqem_strptime_words(larusqem_bytes(format, format_length), format_length, larusqem_bytes(text, text_length), text_length,
                             options.engine, options.budget, (uint32_t *)&reading);
+    if (options.reason && larusqem_has_reason(&reading, options.reason))
+        larusqem_explain_words(larusqem_bytes(format, format_length), format_length, larusqem_bytes(text, text_length), text_length,
+                               (uint32_t *)options.reason);
     return reading;
 }
 
-/* The same by the skipping engine. Answers 0, 1, 3 or 5 to 10. */
+/* The same by the skipping engine, and without a reason. Answers 0, 1, 3 or 5 to 10. */
 static inline struct larusqem_reading larusqem_strptime(const char *format, size_t format_length, const char *text, size_t text_length)
 {
-    struct larusqem_options skipping = {LARUSQEM_SKIPPING, 0};
+    struct larusqem_options skipping = {LARUSQEM_SKIPPING, 0, NULL};
 
     return larusqem_strptime_with(format, format_length, text, text_length, skipping);
 }
@@ -408,13 +498,16 @@ static inline struct larusqem_reading larusqem_read_with(const uint32_t *element
 
     larusqem_read_words(elements_length ? elements : &none, elements_length, larusqem_bytes(text, text_length), text_length,
                         options.engine, options.budget, (uint32_t *)&reading);
+    if (options.reason && larusqem_has_reason(&reading, options.reason))
+        larusqem_explain_read_words(elements_length ? elements : &none, elements_length, larusqem_bytes(text, text_length), text_length,
+                                    (uint32_t *)options.reason);
     return reading;
 }
 
-/* The same by the skipping engine. Answers 0, 3 or 5 to 10. */
+/* The same by the skipping engine, and without a reason. Answers 0, 3 or 5 to 10. */
 static inline struct larusqem_reading larusqem_read(const uint32_t *elements, size_t elements_length, const char *text, size_t text_length)
 {
-    struct larusqem_options skipping = {LARUSQEM_SKIPPING, 0};
+    struct larusqem_options skipping = {LARUSQEM_SKIPPING, 0, NULL};
 
     return larusqem_read_with(elements, elements_length, text, text_length, skipping);
 }

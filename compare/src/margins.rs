@@ -1,7 +1,9 @@
 //! Cases worked by hand, on `rules.rs`: what is expected is typed, not computed.
 use crate::c_library::isspace;
 use crate::random::Random;
-use crate::rules::{matched, read, white, write, Calendar, Engine, Facts, Form, Forms, Moment, Reading, DAYS};
+use crate::rules::{
+    explain, matched, quarrels, read, white, write, Calendar, Engine, Facts, Form, Forms, Moment, Part, Reading, Reason, Words, DAYS,
+};
 
 const MORNING: Moment = [1934, 3, 5, 7, 8, 9];
 
@@ -258,20 +260,356 @@ fn names() {
     assert_eq!(write(&cal, b"%a %A %b %B %h", &midnight(1934, 9, 6), 99).2, b"Thu Thursday Sep September Sep");
 }
 
+/// A reason with its words as kind, from and next.
+fn quarrel(words: &[(usize, usize, usize)]) -> Option<Reason> {
+    Some(Reason::Quarrel(words.iter().map(|&(kind, from, next)| (kind, Words { from, next })).collect()))
+}
+
+/// The kinds that quarrel, where they stand in the text: on the day, and on the hour.
+#[test]
+fn quarrelling_kinds() {
+    let cal = Calendar::new();
+    for (format, text, place, words) in [
+        // the cases of RULES 8.5
+        ("%a %d %b %Y", "Tue 5 Mar 1934", 1, &[(1, 10, 14), (4, 6, 9), (5, 4, 5), (7, 0, 3)][..]),
+        (" %a %d %b %Y", "  Tue 5 Mar 1934", 1, &[(1, 12, 16), (4, 8, 11), (5, 6, 7), (7, 2, 5)]),
+        ("%d %b %Y %H:%M", "29 Feb 1900 07:08", 1, &[(1, 7, 11), (4, 3, 6), (5, 0, 2)]),
+        ("%d %b %Y", "30 Feb 1900", 1, &[(4, 3, 6), (5, 0, 2)]),
+        ("%C %y %d %b %Y", "19 33 5 Mar 1934", 1, &[(1, 12, 16), (3, 3, 5)]),
+        ("%G %V %u", "2016 53 7", 1, &[(10, 0, 4), (12, 5, 7)]),
+        ("%C %y", "00 00", 1, &[(2, 0, 2), (3, 3, 5)]),
+        ("%a %u %d %b %Y", "Tue 2 5 Mar 1934", 1, &[(1, 12, 16), (4, 8, 11), (5, 6, 7), (7, 0, 3)]),
+        ("%H %p", "7 PM", 2, &[(13, 0, 1), (15, 2, 4)]),
+        ("%H %I %p", "07 8 AM", 2, &[(13, 0, 2), (14, 3, 4)]),
+        ("%d %b %Y %H %p", "5 Mar 1934 7 PM", 2, &[(13, 11, 12), (15, 13, 15)]),
+        // two kinds, other kinds beside them or not
+        ("%Y %C", "1934 20", 1, &[(1, 0, 4), (2, 5, 7)]),
+        ("%y %j", "1 366", 1, &[(3, 0, 1), (6, 2, 5)]),
+        ("%C %y %j", "19 1 366", 1, &[(3, 3, 4), (6, 5, 8)]),
+        ("%m %j", "1 366", 1, &[(4, 0, 1), (6, 2, 5)]),
+        ("%U %m", "53 1", 1, &[(4, 3, 4), (8, 0, 2)]),
+        ("%U %W", "10 12", 1, &[(8, 0, 2), (9, 3, 5)]),
+        ("%V %m", "53 3", 1, &[(4, 3, 4), (12, 0, 2)]),
+        ("%g %V", "0 53", 1, &[(11, 0, 1), (12, 2, 4)]),
+        ("%G %g", "2009 10", 1, &[(10, 0, 4), (11, 5, 7)]),
+        ("%G %Y", "2009 2011", 1, &[(1, 5, 9), (10, 0, 4)]),
+        ("%G %y", "2009 11", 1, &[(3, 5, 7), (10, 0, 4)]),
+        ("%C %g", "0 0", 1, &[(2, 0, 1), (11, 2, 3)]),
+        // a week of Sundays begins with one, and so one of Mondays: in none of them is it the week before the first
+        ("%Y %U %a", "2017 0 Sun", 1, &[(7, 7, 10), (8, 5, 6)]),
+        ("%Y %W %u", "2018 0 1", 1, &[(7, 7, 8), (9, 5, 6)]),
+        // the fourth of a month is never in week 2: that of January is in week 1
+        ("%V %d %b", "2 4 jan", 1, &[(5, 2, 3), (12, 0, 1)]),
+        // day 64 is 4 March or 5 March
+        ("%Y %j %m %d", "1934 64 3 6", 1, &[(5, 10, 11), (6, 5, 7)]),
+        // more kinds
+        ("%Y %j", "1900 366", 1, &[(1, 0, 4), (6, 5, 8)]),
+        ("%C %y %j", "19 00 366", 1, &[(2, 0, 2), (3, 3, 5), (6, 6, 9)]),
+        ("%G %m %d", "2008 12 29", 1, &[(4, 5, 7), (5, 8, 10), (10, 0, 4)]),
+        ("%D %C", "02/29/00 19", 1, &[(2, 9, 11), (3, 6, 8), (4, 0, 2), (5, 3, 5)]),
+        // 5 March of a year 34 is a Monday, Sunday, Friday or Wednesday
+        ("%a %D %C", "Tue 03/05/34 19", 1, &[(3, 10, 12), (4, 4, 6), (5, 7, 9), (7, 0, 3)]),
+        ("%a %D %C", "Sun 03/05/34 19", 1, &[(2, 13, 15), (3, 10, 12), (4, 4, 6), (5, 7, 9), (7, 0, 3)]),
+        // composites, names in every form, numbers for names, white space
+        ("%c", "Tue Mar  5 07:08:09 1934", 1, &[(1, 20, 24), (4, 4, 7), (5, 9, 10), (7, 0, 3)]),
+        ("%a %F", "Tue 1934-03-05", 1, &[(1, 4, 8), (4, 9, 11), (5, 12, 14), (7, 0, 3)]),
+        ("%w %F", "0 1934-03-05", 1, &[(1, 2, 6), (4, 7, 9), (5, 10, 12), (7, 0, 1)]),
+        ("%A %d %B %Y", "Thursday 5 SEPTEMBER 1934", 1, &[(1, 21, 25), (4, 11, 20), (5, 9, 10), (7, 0, 8)]),
+        ("%a %d %b %Y", "thurs 5 sept 1934", 1, &[(1, 13, 17), (4, 8, 12), (5, 6, 7), (7, 0, 5)]),
+        ("%a %d %b %Y", "Thur 5 Sep 1934", 1, &[(1, 11, 15), (4, 7, 10), (5, 5, 6), (7, 0, 4)]),
+        ("%d%b", " \t30Feb", 1, &[(4, 4, 7), (5, 2, 4)]),
+        ("%d of%n%m", "30 of \r 2", 1, &[(4, 8, 9), (5, 0, 2)]),
+        // said twice
+        ("%d %e %b %Y", "30 30 Feb 1900", 1, &[(4, 6, 9), (5, 0, 2)]),
+        ("%b %m %d", "Feb 2 30", 1, &[(4, 0, 3), (5, 6, 8)]),
+        ("%m %b %d", "02 february 30", 1, &[(4, 0, 2), (5, 12, 14)]),
+        // the hour: also beside a day that has been found, but not beside one that is refused
+        ("%H %I %p", "12 12 AM", 2, &[(13, 0, 2), (15, 6, 8)]),
+        ("%I %p %H", "12 PM 0", 2, &[(13, 6, 7), (15, 3, 5)]),
+        ("%k %l", " 0  1", 2, &[(13, 1, 2), (14, 4, 5)]),
+        ("%r %H", "07:08:09 PM 7", 2, &[(13, 12, 13), (15, 9, 11)]),
+        ("%F %p%P %R", "2000-02-29 pmPM 07:08", 2, &[(13, 16, 18), (15, 11, 13)]),
+        ("%d %b %Y %H %p", "30 Feb 1900 7 PM", 1, &[(4, 3, 6), (5, 0, 2)]),
+    ] {
+        let matched = matched(&cal, format.as_bytes(), text.as_bytes());
+        let reading = matched.reading(Engine::Skipping);
+        assert_eq!((reading.number, reading.place), (9, place), "{text} by {format}");
+        assert_eq!(matched.reason_slowly(&cal, &reading), quarrel(words), "{text} by {format}");
+        for engine in [Engine::Skipping, Engine::Plain, Engine::Within(DAYS as u32)] {
+            assert_eq!(matched.reason(&cal, &matched.reading(engine)), quarrel(words), "{text} by {format}");
+        }
+        let small = matched.reading(Engine::Within(DAYS as u32 - 1));
+        let over = small.number == 11;
+        assert_eq!(matched.reason(&cal, &small), if over { None } else { quarrel(words) }, "{text} by {format}");
+    }
+}
+
+/// What two days differ in, the two hours, and no reason at all.
+#[test]
+fn other_reasons() {
+    let cal = Calendar::new();
+    let (year, month, day) = (Some(Reason::Differ(Part::Year)), Some(Reason::Differ(Part::Month)), Some(Reason::Differ(Part::Day)));
+    let hours = |first, second| Some(Reason::Hours([first, second]));
+    for (format, text, number, place, reason) in [
+        // the cases of RULES 8.5
+        ("%d %b", "5 mar", 10, 1, year.clone()),
+        ("%d %Y", "5 1934", 10, 1, month.clone()),
+        ("%b %Y", "Mar 1934", 10, 1, day.clone()),
+        ("%a", "Mon", 10, 1, day.clone()),
+        ("%I:%M", "07:08", 10, 2, hours(7, 19)),
+        ("%p", "PM", 10, 2, hours(12, 13)),
+        // 0034-03-05 and 0134-03-05, 0004-12-31 and 0008-12-31, 2008-12-31 and 2009-01-31, 0006-12-31 and 0012-12-30
+        ("%y %j", "34 64", 10, 1, year.clone()),
+        ("%j", "366", 10, 1, year.clone()),
+        ("%G %d", "2009 31", 10, 1, year.clone()),
+        ("%U", "53", 10, 1, year.clone()),
+        // 2009-01-05 and 2009-02-05, 1934-04-30 and 1934-07-30
+        ("%G %d", "2009 5", 10, 1, month.clone()),
+        ("%Y %a %d", "1934 Mon 30", 10, 1, month),
+        // 2008-12-29 and 2008-12-30, 0001-01-01 and 0001-01-02, 1934-01-01 and 1934-01-08
+        ("%G", "2009", 10, 1, day.clone()),
+        ("%V", "1", 10, 1, day.clone()),
+        ("%Y %u", "1934 1", 10, 1, day),
+        // the day goes before the hour
+        ("%d %b %I", "5 mar 7", 10, 1, year.clone()),
+        ("%d %b %H %p", "5 mar 7 PM", 10, 1, year),
+        ("%F %I", "2000-02-29 12", 10, 2, hours(0, 12)),
+        ("%p %F", "am 2000-02-29", 10, 2, hours(0, 1)),
+        ("%r", "07:08:09 PM", 0, 11, None),
+        ("", "", 0, 0, None),
+        ("%d %Q", "5 x", 3, 3, None),
+        ("%d %b %Y", "28 Feb 190x", 0, 10, None),
+        ("%a %d %b %Y", "Tue 5 Mar", 6, 9, None),
+        ("%H %p %d", "7 PM 32", 7, 5, None),
+        ("%d %b %Y %e", "30 Feb 1900 29", 8, 12, None),
+    ] {
+        let matched = matched(&cal, format.as_bytes(), text.as_bytes());
+        for engine in [Engine::Skipping, Engine::Plain, Engine::Within(DAYS as u32)] {
+            let reading = matched.reading(engine);
+            assert_eq!((reading.number, reading.place), (number, place), "{text} by {format}");
+            assert_eq!(matched.reason(&cal, &reading), reason, "{text} by {format}");
+        }
+    }
+    for (format, text, number) in [(&b"x".repeat(1025)[..], &b"x"[..], 1), (b"%d", &[b'1'; 1025], 5)] {
+        let (reading, reason) = explain(&cal, Engine::Skipping, format, text);
+        assert_eq!((reading.number, reason), (number, None));
+    }
+    let (reading, reason) = explain(&cal, Engine::Within(1), b"%a", b"Mon");
+    assert_eq!((reading.number, reason), (11, None));
+}
+
+/// Lists, and what the program `quarrels` writes for them (RULES 9.2).
+#[test]
+fn sentences() {
+    let cal = Calendar::new();
+    let example = "%a %d %b %Y\nMon 5 Mar 1934\nTue 5 Mar 1934\n5 Mar 1934\n";
+    let answer = "Tue 5 Mar 1934
+^^^ ^ ^^^ ^^^^
+line 3: no day is Tue, 5, Mar and 1934 together
+
+5 Mar 1934
+^
+line 4: the text does not go on as the format wants
+
+";
+    assert_eq!(quarrels(&cal, example.as_bytes()), answer);
+
+    // a format, a text, what is shown of it, the marks if there are any, and the sentence
+    for (format, text, shown, marks, sentence) in [
+        // 3, and what is shown of any text
+        (
+            "%d %^b",
+            "5 MAR",
+            "5 MAR",
+            "",
+            "the format has a conversion at byte 3 that is unknown or unfinished, or that has a flag or a width",
+        ),
+        ("%", "", "", "", "the format has a conversion at byte 0 that is unknown or unfinished, or that has a flag or a width"),
+        ("%d", "\x7f\0\u{80}\t!\x0b~\x0c \r\x1f", "???? ! ~   ?", "^", "the text does not go on as the format wants"),
+        // 6: at the first byte, later, after white space, and where the text ends
+        ("%d %b %Y", "5 Mrz 1934", "5 Mrz 1934", "  ^", "the text does not go on as the format wants"),
+        ("%d %b %Y", "5 Mar \t year", "5 Mar   year", "        ^", "the text does not go on as the format wants"),
+        ("%d %b %Y", "5 Mar", "5 Mar", "     ^", "the text ends before the format does"),
+        ("%d %b %Y", "5 Mar \r", "5 Mar  ", "       ^", "the text ends before the format does"),
+        ("%d %b %Y", "", "", "^", "the text ends before the format does"),
+        // a name that is cut off does not match where it begins
+        ("%d %b", "5 Ma", "5 Ma", "  ^", "the text does not go on as the format wants"),
+        // 7 and 8, the place after white space
+        ("%d %e", " \t32 5", "  32 5", "  ^", "this number is outside its range"),
+        ("%d %e", "05 \t6 ", "05  6 ", "    ^", "this was said before, differently"),
+        ("%b %m", "Mar 13", "Mar 13", "    ^", "this number is outside its range"),
+        ("%m %b", "4 March", "4 March", "  ^", "this was said before, differently"),
+        // 9: what each kind is called
+        ("%C %y", "00 00", "00 00", "^^ ^^", "no day is century 00 and year in century 00 together"),
+        ("%Y %C", "1934 20", "1934 20", "^^^^ ^^", "no day is 1934 and century 20 together"),
+        ("%m/%j", "1/366", "1/366", "^ ^^^", "no day is month 1 and day of year 366 together"),
+        ("%e%h", " 30FEB", " 30FEB", " ^^^^^", "no day is 30 and FEB together"),
+        ("%U %w", "0 0", "0 0", "^ ^", "no day is Sunday week 0 and weekday 0 together"),
+        ("%A:%W", "monday:00", "monday:00", "^^^^^^ ^^", "no day is monday and Monday week 00 together"),
+        ("%G %g", "2009 10", "2009 10", "^^^^ ^^", "no day is ISO year 2009 and ISO year in century 10 together"),
+        ("%V (%m)", "53 (3)", "53 (3)", "^^  ^", "no day is ISO week 53 and month 3 together"),
+        ("%I %H", "8 07", "8 07", "^ ^^", "no hour is hour of twelve 8 and hour 07 together"),
+        ("%H %p", "7 pM, or so", "7 pM, or so", "^ ^^", "no hour is hour 7 and pM together"),
+        // three kinds, four, five, and words between them that are not named
+        ("%d %b %Y %H:%M", "29 Feb 1900 07:08", "29 Feb 1900 07:08", "^^ ^^^ ^^^^", "no day is 29, Feb and 1900 together"),
+        ("%C %y %d %b %Y", "19 33 5 Mar 1934", "19 33 5 Mar 1934", "   ^^       ^^^^", "no day is year in century 33 and 1934 together"),
+        (
+            "%a %D %C",
+            "Sun 03/05/34 19",
+            "Sun 03/05/34 19",
+            "^^^ ^^ ^^ ^^ ^^",
+            "no day is Sun, month 03, 05, year in century 34 and century 19 together",
+        ),
+        // a carriage return at the end is white space
+        ("%d %b\r", "30 Feb\r", "30 Feb ", "^^ ^^^", "no day is 30 and Feb together"),
+        // 10
+        ("%d %b", "5 mar", "5 mar", "", "more than one day agrees, the earliest 0001-03-05 and 0002-03-05; the year is missing"),
+        ("%d %Y", "5 1934", "5 1934", "", "more than one day agrees, the earliest 1934-01-05 and 1934-02-05; the month is missing"),
+        ("%b %Y", "Mar 1934", "Mar 1934", "", "more than one day agrees, the earliest 1934-03-01 and 1934-03-02; the day is missing"),
+        ("%I:%M", "07:08", "07:08", "", "more than one hour agrees, the earliest 7 and 19; AM or PM is missing"),
+        ("%I:%M", "12:00", "12:00", "", "more than one hour agrees, the earliest 0 and 12; AM or PM is missing"),
+        ("%p", "PM", "PM", "", "more than one hour agrees, the earliest 12 and 13; the hour is missing"),
+        ("%P %M", "am 7", "am 7", "", "more than one hour agrees, the earliest 0 and 1; the hour is missing"),
+    ] {
+        let marks = if marks.is_empty() { String::new() } else { format!("{marks}\n") };
+        let expected = format!("{shown}\n{marks}line 2: {sentence}\n\n");
+        assert_eq!(quarrels(&cal, format!("{format}\n{text}\n").as_bytes()), expected, "{text} by {format}");
+    }
+
+    // 1 and 5
+    let long = "x".repeat(1025);
+    let says = |sentence: &str| format!("{long}\nline 2: {sentence}\n\n");
+    assert_eq!(quarrels(&cal, format!("{long}\n{long}").as_bytes()), says("the format has more than 1,024 bytes"));
+    assert_eq!(quarrels(&cal, format!("%Q\n{long}").as_bytes()), says("the text has more than 1,024 bytes"));
+    // nothing to say, and an input that is too long
+    for list in ["", "\n", "%d", "%d\n", "%F\n1934-03-05\n2000-02-29 and more", "\nfive\n\n"] {
+        assert_eq!(quarrels(&cal, list.as_bytes()), "", "{list}");
+    }
+    assert_eq!(quarrels(&cal, &[b'\n'; 32_768]), "");
+    assert_eq!(quarrels(&cal, &[b'\n'; 32_769]), "too long\n");
+    // lines are counted, those that are read too, and the last needs no newline
+    let far = format!("%M\n{}x", "7\n".repeat(1000));
+    assert_eq!(quarrels(&cal, far.as_bytes()), "x\n^\nline 1002: the text does not go on as the format wants\n\n");
+}
+
+/// Facts of some kinds by a day, one or two of them by another day.
+fn facts_of_two(random: &mut Random, cal: &Calendar, most: usize) -> Facts {
+    let d = if random.chance(30) { *random.pick(&cal.days[..4000]) } else { *random.pick(&cal.days) };
+    let other = *random.pick(&cal.days);
+    let mut facts: Facts = [None; 18];
+    for _ in 0..1 + random.below(most) {
+        let kind = 1 + random.below(12);
+        facts[kind] = Some(if random.chance(80) { d.value(kind) } else { other.value(kind) });
+    }
+    facts
+}
+
 /// The quick search and the literal one, on sets of facts that agree with a day or quarrel.
 #[test]
 fn searches() {
     let cal = Calendar::new();
     let mut random = Random(1934);
-    for i in 0..60 {
-        let d = if i % 3 == 0 { *random.pick(&cal.days[..4000]) } else { *random.pick(&cal.days) };
-        let other = *random.pick(&cal.days);
-        let mut facts: Facts = [None; 18];
-        for _ in 0..1 + random.below(4) {
-            let kind = 1 + random.below(12);
-            facts[kind] = Some(if random.chance(80) { d.value(kind) } else { other.value(kind) });
-        }
+    for _ in 0..100 {
+        let facts = facts_of_two(&mut random, &cal, 4);
         assert_eq!(cal.search(&facts), cal.search_slowly(&facts), "{facts:?}");
+        assert_eq!(cal.any_agrees(&facts), cal.any_agrees_slowly(&facts), "{facts:?}");
+    }
+}
+
+/// The facts of some kinds alone.
+fn only(facts: &Facts, kinds: &[usize]) -> Facts {
+    std::array::from_fn(|kind| if kinds.contains(&kind) { facts[kind] } else { None })
+}
+
+/// The first of all sets of these kinds with whose facts no day agrees, in the order of numbers that have a binary digit for each kind, the
+/// first kind's the highest. To leave kinds out in order comes to this set: a kind stays only where every set that is left has it.
+fn first_set(cal: &Calendar, facts: &Facts, kinds: &[usize]) -> Vec<usize> {
+    let set = |number: usize| -> Vec<usize> {
+        let has = |place: usize| number >> (kinds.len() - 1 - place) & 1 == 1;
+        (0..kinds.len()).filter(|place| has(*place)).map(|place| kinds[place]).collect()
+    };
+    (0..1 << kinds.len()).map(set).find(|kinds| !cal.any_agrees(&only(facts, kinds))).unwrap()
+}
+
+/// What RULES 8.5 says of the kinds that quarrel, whatever way they are found: none agrees with them together, some does without any one
+/// of them, and each was said.
+fn assert_quarrel(facts: &Facts, named: &[usize], any_agrees: impl Fn(&Facts) -> bool) {
+    assert!(named.iter().all(|kind| facts[*kind].is_some()), "{facts:?}");
+    assert!(!any_agrees(&only(facts, named)), "{facts:?}");
+    for kind in named {
+        let others: Vec<usize> = named.iter().copied().filter(|other| other != kind).collect();
+        assert!(any_agrees(&only(facts, &others)), "{facts:?} without {kind}");
+    }
+}
+
+/// Such are the kinds that are named for the day, and they are the first such set; by asking every day for some of each size.
+#[test]
+fn quarrels_on_the_day() {
+    let cal = Calendar::new();
+    let mut random = Random(305);
+    let mut met = [0; 6];
+    for _ in 0..4000 {
+        let facts = facts_of_two(&mut random, &cal, 9);
+        if cal.any_agrees(&facts) {
+            continue;
+        }
+        let said: Vec<usize> = (1..=12).filter(|kind| facts[*kind].is_some()).collect();
+        let named = named(&mut random, &cal, &facts, b"YCymdjuUWGgV", 1);
+        assert_eq!(named, first_set(&cal, &facts, &said), "{facts:?}");
+        assert_quarrel(&facts, &named, |facts| cal.any_agrees(facts));
+        met[named.len()] += 1;
+        if met[named.len()] <= 3 {
+            assert_quarrel(&facts, &named, |facts| cal.any_agrees_slowly(facts));
+        }
+    }
+    assert!(met[2..].iter().all(|n| *n >= 3), "{met:?}");
+}
+
+/// The same for the hour, with everything that can be said of it.
+#[test]
+fn quarrels_on_the_hour() {
+    let cal = Calendar::new();
+    let mut random = Random(7);
+    let shows = |hour: u32| [hour, [12, 1, 2, 3, 4, 5, 6, 7, 8, 9, 10, 11][hour as usize % 12], (hour > 11) as u32];
+    let agrees = |facts: &Facts, hour: u32| (0..3).all(|i| facts[13 + i].is_none() || facts[13 + i] == Some(shows(hour)[i]));
+    let any_agrees = |facts: &Facts| (0..24).any(|hour| agrees(facts, hour));
+    let mut count = 0;
+    for hour in (0..24).map(Some).chain([None]) {
+        for twelve in (1..=12).map(Some).chain([None]) {
+            for half in [Some(0), Some(1), None] {
+                let mut facts: Facts = [None; 18];
+                facts[13..=15].copy_from_slice(&[hour, twelve, half]);
+                if any_agrees(&facts) {
+                    continue;
+                }
+                assert_quarrel(&facts, &named(&mut random, &cal, &facts, b"HIp", 13), any_agrees);
+                count += 1;
+            }
+        }
+    }
+    // an hour fits one number of twelve and one half: so by %H and %I, by %H and %p, and by all three
+    assert_eq!(count, (24 * 12 - 24) + (24 * 2 - 24) + (24 * 12 * 2 - 24));
+}
+
+/// The kinds that the reader names for facts that no day, or no hour, agrees with, said in any order by the letters, the first of which
+/// says kind `first`. Their words are what says the facts.
+fn named(random: &mut Random, cal: &Calendar, facts: &Facts, letters: &[u8], first: usize) -> Vec<usize> {
+    let word = |kind: usize| match (kind, facts[kind]) {
+        (15, Some(half)) => ["AM", "PM"][half as usize].to_string(),
+        (_, number) => number.unwrap().to_string(),
+    };
+    let said: Vec<usize> = (first..first + letters.len()).filter(|kind| facts[*kind].is_some()).collect();
+    let (mut format, mut text) = (String::new(), String::new());
+    for kind in random.sample(&said, said.len()) {
+        format += &format!("%{} ", letters[kind - first] as char);
+        text += &format!("{} ", word(kind));
+    }
+    match explain(cal, Engine::Skipping, format.as_bytes(), text.as_bytes()).1 {
+        Some(Reason::Quarrel(named)) => {
+            assert!(named.iter().all(|(kind, words)| text[words.from..words.next] == word(*kind)), "{text} by {format}");
+            named.iter().map(|(kind, _)| *kind).collect()
+        }
+        reason => panic!("{reason:?} for {text} by {format}"),
     }
 }
 

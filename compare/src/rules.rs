@@ -4,6 +4,8 @@
 //! and is compared with it. Python's datetime module judges its calendar (`vectors days` and tests/every_day.py), cases worked by hand its
 //! rules (`margins.rs`).
 
+use std::ops::RangeInclusive;
+
 /// The last day of the calendar, 9999-12-31.
 pub const DAYS: usize = 3_652_059;
 
@@ -151,6 +153,16 @@ impl Calendar {
         (1..=12).all(|k| agrees(facts, k, self.days[i].value(k)))
     }
 
+    /// Whether a day agrees with facts, by asking every day.
+    pub fn any_agrees_slowly(&self, facts: &Facts) -> bool {
+        (0..DAYS).any(|i| self.agrees(i, facts))
+    }
+
+    /// The same, faster.
+    pub fn any_agrees(&self, facts: &Facts) -> bool {
+        !self.first(1, facts).is_empty()
+    }
+
     /// A search that asks every day, in order, up to the second that agrees.
     pub fn search_slowly(&self, facts: &Facts) -> Search {
         let mut search = Search { days: Vec::new(), plain: 0, skipping: 0 };
@@ -169,7 +181,7 @@ impl Calendar {
 
     /// The same, faster.
     pub fn search(&self, facts: &Facts) -> Search {
-        let found = self.first_two(facts);
+        let found = self.first(2, facts);
         let through = found.get(1).map_or(DAYS, |i| i + 1);
         let days = found.iter().map(|&i| self.days[i].date()).collect();
         Search { days, plain: through as u32, skipping: self.in_possible_months(facts, through) as u32 }
@@ -180,58 +192,68 @@ impl Calendar {
         if facts[1..=4].iter().all(|f| f.is_none()) {
             return through;
         }
+        let years = match (facts[1], facts[2]) {
+            (Some(y), _) => y..=y,
+            (_, Some(c)) => (100 * c).max(1)..=100 * c + 99,
+            _ => 1..=9999,
+        };
         let mut count = 0;
-        for year in facts[1].map_or(1..=9999, |y| y..=y) {
-            let mut before = self.years[year as usize];
-            if before >= through {
+        for year in years {
+            if self.years[year as usize] >= through {
                 break;
             }
             if !(agrees(facts, 2, year / 100) && agrees(facts, 3, year % 100)) {
                 continue;
             }
-            for month in 1..=12 {
-                let length = month_length(year, month) as usize;
-                if agrees(facts, 4, month) {
-                    count += length.min(through.saturating_sub(before));
-                }
-                before += length;
+            for month in facts[4].map_or(1..=12, |m| m..=m) {
+                let before = self.place(year, month, 1);
+                count += (month_length(year, month) as usize).min(through.saturating_sub(before));
             }
         }
         count
     }
 
-    /// The first two agreeing days: only a year's days are asked where a year is said, else the sets of days are intersected.
-    fn first_two(&self, facts: &Facts) -> Vec<usize> {
-        let (mut from, mut to) = (0, DAYS);
-        if let Some(y) = facts[1] {
-            from = self.years[y as usize];
-            to = self.years[y as usize + 1];
-        } else if let Some(g) = facts[10] {
-            // a week of the year g has its Thursday in g, so its days lie within a week of g's own
-            from = self.years[g as usize].saturating_sub(7);
-            to = (self.years[g as usize + 1] + 7).min(DAYS);
-        }
-        if to - from < DAYS {
-            return (from..to).filter(|&i| self.agrees(i, facts)).take(2).collect();
-        }
+    /// The first agreeing days, at most so many: of some years alone, by what was said of them, and there the sets of days are intersected.
+    fn first(&self, count: usize, facts: &Facts) -> Vec<usize> {
+        let years = years_asked(count, facts);
         if let Some(j) = facts[6] {
-            let at = |y: usize| self.years[y] + j as usize - 1;
-            return (1..=9999).map(at).filter(|&i| i < DAYS && self.agrees(i, facts)).take(2).collect();
+            let at = |y: u32| self.years[y as usize] + j as usize - 1;
+            return years.map(at).filter(|&i| i < DAYS && self.agrees(i, facts)).take(count).collect();
         }
-        let said: Vec<&Vec<u64>> = (1..=12).filter_map(|k| facts[k].map(|n| &self.sets[k][n as usize])).collect();
+        let (from, to) = (self.years[*years.start() as usize], self.years[*years.end() as usize + 1]);
+        let said: Vec<&Vec<u64>> = (1..=12).filter(|&k| KEPT[k] > 0).filter_map(|k| facts[k].map(|n| &self.sets[k][n as usize])).collect();
         let mut found = Vec::new();
-        for w in 0..DAYS / 64 + 1 {
+        for w in from / 64..=(to - 1) / 64 {
             let mut bits = said.iter().fold(!0u64, |b, s| b & s[w]);
             while bits != 0 {
-                found.push(w * 64 + bits.trailing_zeros() as usize);
-                if found.len() == 2 {
+                let i = w * 64 + bits.trailing_zeros() as usize;
+                bits &= bits - 1;
+                if (from..to).contains(&i) && self.agrees(i, facts) {
+                    found.push(i);
+                }
+                if found.len() == count {
                     return found;
                 }
-                bits &= bits - 1;
             }
         }
         found
     }
+}
+
+/// The years that the first so many agreeing days are of: those that are said, by year, century and ISO year. Where none of these is, all
+/// else repeats after 400 years: then 400 years for each of the days.
+fn years_asked(count: usize, facts: &Facts) -> RangeInclusive<u32> {
+    let year = facts[1].map(|y| (y, y));
+    let century = facts[2].map(|c| (100 * c, 100 * c + 99));
+    // a week of the year g has its Thursday in g, so its days lie in g or in a year beside it
+    let week_year = facts[10].map(|g| (g - 1, g + 1));
+    let said: Vec<(u32, u32)> = [year, century, week_year].into_iter().flatten().collect();
+    if said.is_empty() {
+        return 1..=400 * count as u32;
+    }
+    let first = said.iter().map(|(first, _)| *first).max().unwrap();
+    let last = said.iter().map(|(_, last)| *last).min().unwrap();
+    first.max(1)..=last.min(9999)
 }
 
 /// At each kind 1 to 17 (RULES 7) the number said, if one was. AM is 0 and PM is 1.
@@ -531,11 +553,36 @@ pub fn read(cal: &Calendar, engine: Engine, format: &[u8], text: &[u8]) -> Readi
     matched(cal, format, text).reading(engine)
 }
 
-/// What a reading comes to before an engine is named: the facts, the forms of names, the first unread offset and what there is to find by
-/// the facts, if any of them bears on the day; or a refusal.
+/// The reader, and the reason of what it refuses by 9 or by 10 (RULES 8.5).
+pub fn explain(cal: &Calendar, engine: Engine, format: &[u8], text: &[u8]) -> (Reading, Option<Reason>) {
+    let matched = matched(cal, format, text);
+    let reading = matched.reading(engine);
+    let reason = matched.reason(cal, &reading);
+    (reading, reason)
+}
+
+/// What a reading comes to before an engine is named: what was said, and what there is to find by the facts, if any of them bears on the
+/// day; or a refusal.
 pub enum Matched {
-    Facts { facts: Facts, forms: Forms, at: usize, search: Option<Search> },
+    Facts { said: Box<Said>, search: Option<Search> },
     Refused(Reading),
+}
+
+/// What the items of a format read of a text.
+pub struct Said {
+    pub facts: Facts,
+    /// At each kind that was said, where it was first.
+    pub words: [Option<Words>; 18],
+    pub forms: Forms,
+    /// The first unread offset.
+    pub at: usize,
+}
+
+/// Where in a text something is said: the offset of its first digit or letter, and the offset after its last.
+#[derive(Clone, Copy, PartialEq, Eq, Debug)]
+pub struct Words {
+    pub from: usize,
+    pub next: usize,
 }
 
 /// What a format makes of a text.
@@ -555,9 +602,9 @@ pub fn matched_opened(cal: &Calendar, opened: &Result<Vec<Item>, usize>, text: &
         Err(at) => Matched::Refused(refused(3, *at)),
         Ok(items) => match read_items(items, text) {
             Err(reading) => Matched::Refused(reading),
-            Ok((facts, forms, at)) => {
-                let search = facts[1..=12].iter().any(|f| f.is_some()).then(|| cal.search(&facts));
-                Matched::Facts { facts, forms, at, search }
+            Ok(said) => {
+                let search = said.facts[1..=12].iter().any(|f| f.is_some()).then(|| cal.search(&said.facts));
+                Matched::Facts { said: Box::new(said), search }
             }
         },
     }
@@ -628,9 +675,10 @@ fn name_at(text: &[u8], names: &[&str]) -> Option<(u32, usize, Form)> {
     full.or(found.iter().max_by_key(|(_, length, _)| *length)).copied()
 }
 
-/// What the items read (RULES 6): the facts, the forms of names and the first unread offset, or 6, 7 or 8, from left to right.
-fn read_items(items: &[Item], text: &[u8]) -> Result<(Facts, Forms, usize), Reading> {
+/// What the items read (RULES 6), or 6, 7 or 8, from left to right.
+fn read_items(items: &[Item], text: &[u8]) -> Result<Said, Reading> {
     let mut facts: Facts = [None; 18];
+    let mut words = [None; 18];
     let mut forms = Forms::default();
     let mut at = 0;
     let spaces = |at: usize| text[at..].iter().take_while(|b| white(**b)).count();
@@ -673,6 +721,7 @@ fn read_items(items: &[Item], text: &[u8]) -> Result<(Facts, Forms, usize), Read
             return Err(refused(8, at));
         }
         facts[kind] = Some(number);
+        words[kind] = words[kind].or(Some(Words { from: at, next: at + length }));
         match kind {
             4 => forms.month = form.or(forms.month),
             7 => forms.weekday = form.or(forms.weekday),
@@ -680,15 +729,29 @@ fn read_items(items: &[Item], text: &[u8]) -> Result<(Facts, Forms, usize), Read
         }
         at += length;
     }
-    Ok((facts, forms, at))
+    Ok(Said { facts, words, forms, at })
+}
+
+/// The number of an hour fact's kind (13 to 15) for an hour.
+fn hour_value(kind: usize, hour: u32) -> u32 {
+    match kind {
+        13 => hour,
+        14 => twelve(hour),
+        _ => hour / 12,
+    }
+}
+
+/// The hours that agree.
+fn hours(facts: &Facts) -> Vec<u32> {
+    (0..24).filter(|h| (13..=15).all(|k| agrees(facts, k, hour_value(k, *h)))).collect()
 }
 
 impl Matched {
     /// The day and the hour that the facts leave (RULES 8).
     pub fn reading(&self, engine: Engine) -> Reading {
-        let (facts, forms, at, search) = match self {
+        let (said, search) = match self {
             Matched::Refused(reading) => return reading.clone(),
-            Matched::Facts { facts, forms, at, search } => (facts, *forms, *at, search),
+            Matched::Facts { said, search } => (said, search),
         };
         let mut day = None;
         let mut examined = 0;
@@ -708,15 +771,211 @@ impl Matched {
             }
         }
         let mut hour = None;
-        if facts[13..=15].iter().any(|f| f.is_some()) {
-            let fits = |h: &u32| agrees(facts, 13, *h) && agrees(facts, 14, twelve(*h)) && agrees(facts, 15, *h / 12);
-            let found: Vec<u32> = (0..24).filter(fits).collect();
-            match found[..] {
+        if said.facts[13..=15].iter().any(|f| f.is_some()) {
+            match hours(&said.facts)[..] {
                 [] => return Reading { examined, ..refused(9, 2) },
                 [one] => hour = Some(one),
                 [first, second, ..] => return Reading { two_hours: Some([first, second]), examined, ..refused(10, 2) },
             }
         }
-        Reading { number: 0, place: at as u32, day, hour, minute: facts[16], second: facts[17], examined, forms, ..Reading::default() }
+        let (place, minute, second) = (said.at as u32, said.facts[16], said.facts[17]);
+        Reading { number: 0, place, day, hour, minute, second, examined, forms: said.forms, ..Reading::default() }
+    }
+
+    /// The reason of a reading of this text, if it has one (RULES 8.5).
+    pub fn reason(&self, cal: &Calendar, reading: &Reading) -> Option<Reason> {
+        self.reason_by(|facts| cal.any_agrees(facts), reading)
+    }
+
+    /// The same by asking every day, for each kind that is tried.
+    pub fn reason_slowly(&self, cal: &Calendar, reading: &Reading) -> Option<Reason> {
+        self.reason_by(|facts| cal.any_agrees_slowly(facts), reading)
+    }
+
+    /// The same, where `any_day_agrees` says whether a day agrees with facts.
+    pub fn reason_by(&self, any_day_agrees: impl Fn(&Facts) -> bool, reading: &Reading) -> Option<Reason> {
+        let said = match self {
+            Matched::Refused(_) => return None,
+            Matched::Facts { said, .. } => said,
+        };
+        match (reading.number, reading.place) {
+            (9, 1) => Some(said.quarrel(quarrelling(&said.facts, 1..=12, any_day_agrees))),
+            (9, _) => Some(said.quarrel(quarrelling(&said.facts, 13..=15, |facts| !hours(facts).is_empty()))),
+            (10, 1) => reading.two_days.map(|[first, second]| Reason::Differ(part_of_difference(first, second))),
+            (10, _) => reading.two_hours.map(Reason::Hours),
+            _ => None,
+        }
+    }
+}
+
+/// Why a reading is refused by 9 or by 10 (RULES 8.5).
+#[derive(Clone, PartialEq, Eq, Debug)]
+pub enum Reason {
+    /// The kinds that quarrel, in the order of RULES 7, each with its words.
+    Quarrel(Vec<(usize, Words)>),
+    /// The first part in which the two days differ.
+    Differ(Part),
+    Hours([u32; 2]),
+}
+
+#[derive(Clone, Copy, PartialEq, Eq, Debug)]
+pub enum Part {
+    Year,
+    Month,
+    Day,
+}
+
+impl Part {
+    pub fn name(&self) -> &'static str {
+        match self {
+            Part::Year => "year",
+            Part::Month => "month",
+            Part::Day => "day",
+        }
+    }
+}
+
+/// The kinds among these that quarrel, where none agrees with all of them: each kind is tried in order, and left out if none agrees with
+/// what is left without it. Of a kind that was not said nothing is left out.
+fn quarrelling(facts: &Facts, kinds: RangeInclusive<usize>, any_agrees: impl Fn(&Facts) -> bool) -> Vec<usize> {
+    let mut left = *facts;
+    for kind in kinds.clone().filter(|k| facts[*k].is_some()) {
+        let mut without = left;
+        without[kind] = None;
+        if !any_agrees(&without) {
+            left = without;
+        }
+    }
+    kinds.filter(|k| left[*k].is_some()).collect()
+}
+
+/// The first of year, month and day in which two days differ.
+fn part_of_difference(first: (u32, u32, u32), second: (u32, u32, u32)) -> Part {
+    if first.0 != second.0 {
+        Part::Year
+    } else if first.1 != second.1 {
+        Part::Month
+    } else {
+        Part::Day
+    }
+}
+
+impl Said {
+    /// Kinds that quarrel, with their words.
+    fn quarrel(&self, kinds: Vec<usize>) -> Reason {
+        Reason::Quarrel(kinds.into_iter().map(|kind| (kind, self.words[kind].unwrap())).collect())
+    }
+}
+
+/// The bytes of a list, at most (RULES 9).
+pub const LONGEST_LIST: usize = 32_768;
+
+/// The lines of a list, the format first, or none of them where it is too long.
+pub fn lines_of(list: &[u8]) -> Option<Vec<&[u8]>> {
+    if list.len() > LONGEST_LIST {
+        return None;
+    }
+    let mut lines: Vec<&[u8]> = list.split(|b| *b == b'\n').collect();
+    if lines[lines.len() - 1].is_empty() {
+        lines.pop(); // what follows the last newline is no line
+    }
+    Some(lines)
+}
+
+/// What the program `quarrels` writes for a list (RULES 9.2).
+pub fn quarrels(cal: &Calendar, list: &[u8]) -> String {
+    let lines = match lines_of(list) {
+        None => return "too long\n".to_string(),
+        Some(lines) => lines,
+    };
+    let mut out = String::new();
+    for (i, text) in lines.iter().enumerate().skip(1) {
+        let (reading, reason) = explain(cal, Engine::Skipping, lines[0], text);
+        if reading.number != 0 {
+            let (marks, sentence) = (marks(&reading, reason.as_ref()), sentence(text, &reading, reason.as_ref()));
+            out += &format!("{}\n{marks}line {}: {sentence}\n\n", printable(text), i + 1);
+        }
+    }
+    out
+}
+
+/// A text as it is shown, a byte for each of its bytes.
+fn printable(text: &[u8]) -> String {
+    let byte = |b: &u8| match *b {
+        b if white(b) => ' ',
+        33..=126 => *b as char,
+        _ => '?',
+    };
+    text.iter().map(byte).collect()
+}
+
+/// The line of marks under a text, if anything is marked.
+fn marks(reading: &Reading, reason: Option<&Reason>) -> String {
+    let marked: Vec<usize> = match (reading.number, reason) {
+        (6..=8, _) => vec![reading.place as usize],
+        (_, Some(Reason::Quarrel(named))) => named.iter().flat_map(|(_, words)| words.from..words.next).collect(),
+        _ => return String::new(),
+    };
+    let last = *marked.iter().max().unwrap();
+    (0..=last).map(|at| if marked.contains(&at) { '^' } else { ' ' }).chain(['\n']).collect()
+}
+
+/// What is wrong with a refused text.
+fn sentence(text: &[u8], reading: &Reading, reason: Option<&Reason>) -> String {
+    let Reading { number, place, .. } = *reading;
+    match (number, reason) {
+        (1, _) => "the format has more than 1,024 bytes".to_string(),
+        (3, _) => format!("the format has a conversion at byte {place} that is unknown or unfinished, or that has a flag or a width"),
+        (5, _) => "the text has more than 1,024 bytes".to_string(),
+        (6, _) if place as usize == text.len() => "the text ends before the format does".to_string(),
+        (6, _) => "the text does not go on as the format wants".to_string(),
+        (7, _) => "this number is outside its range".to_string(),
+        (8, _) => "this was said before, differently".to_string(),
+        (_, Some(Reason::Quarrel(named))) => {
+            let what = if place == 1 { "day" } else { "hour" };
+            format!("no {what} is {} together", list_of_words(text, named))
+        }
+        (_, Some(Reason::Differ(part))) => {
+            let part = part.name();
+            let [first, second] = reading.two_days.unwrap().map(|(y, m, d)| format!("{y:04}-{m:02}-{d:02}"));
+            format!("more than one day agrees, the earliest {first} and {second}; the {part} is missing")
+        }
+        (_, Some(Reason::Hours([first, second]))) => {
+            let missing = if *second == first + 12 { "AM or PM" } else { "the hour" };
+            format!("more than one hour agrees, the earliest {first} and {second}; {missing} is missing")
+        }
+        _ => unreachable!("no such refusal without a budget: {number}"),
+    }
+}
+
+/// The words of kinds that quarrel, in the order of the text. There are two or more: of every kind each number that is read agrees with a
+/// day, or an hour.
+fn list_of_words(text: &[u8], named: &[(usize, Words)]) -> String {
+    let mut named = named.to_vec();
+    named.sort_by_key(|(_, words)| words.from);
+    let shown = |(kind, words): &(usize, Words)| {
+        let words = printable(&text[words.from..words.next]);
+        format!("{}{words}", if words.starts_with(|c: char| c.is_ascii_digit()) { label(*kind) } else { "" })
+    };
+    let (last, others) = named.split_last().unwrap();
+    format!("{} and {}", others.iter().map(shown).collect::<Vec<String>>().join(", "), shown(last))
+}
+
+/// What stands before words that begin with a digit; AM and PM do not.
+fn label(kind: usize) -> &'static str {
+    match kind {
+        2 => "century ",
+        3 => "year in century ",
+        4 => "month ",
+        6 => "day of year ",
+        7 => "weekday ",
+        8 => "Sunday week ",
+        9 => "Monday week ",
+        10 => "ISO year ",
+        11 => "ISO year in century ",
+        12 => "ISO week ",
+        13 => "hour ",
+        14 => "hour of twelve ",
+        _ => "", // year and day
     }
 }

@@ -19,7 +19,7 @@ static void print_reading(const char *how, struct larusqem_reading r)
 
 int main(int count, char **words)
 {
-    struct larusqem_options within = {LARUSQEM_WITHIN, 0};
+    struct larusqem_options within = {.engine = LARUSQEM_WITHIN};
     struct larusqem_reading r;
 
     if (count != 4 || sscanf(words[1], "%" SCNu32, &within.budget) != 1) {

@@ -229,7 +229,7 @@ static void reads_by(struct larusqem_options options, const char *format, const 
 /* the same by every engine: by the plain one with its own count of days, which is also the smallest budget that is enough */
 static void reads(const char *format, const char *text, struct larusqem_reading expected, uint32_t plain_count, int line)
 {
-    struct larusqem_options options = {LARUSQEM_SKIPPING, 0};
+    struct larusqem_options options = {LARUSQEM_SKIPPING, 0, NULL};
 
     reads_by(options, format, text, expected, line);
     expected.examined = plain_count;
@@ -310,7 +310,7 @@ static struct larusqem_reading named(uint32_t place, uint32_t month, uint32_t da
 static void forms(void)
 {
     static const uint32_t none = LARUSQEM_NO_NAME, full = LARUSQEM_FULL_NAME, middle = LARUSQEM_MIDDLE_NAME, brief = LARUSQEM_SHORT_NAME;
-    static const struct larusqem_options skipping = {LARUSQEM_SKIPPING, 0};
+    static const struct larusqem_options skipping = {LARUSQEM_SKIPPING, 0, NULL};
 
     reads("%a %d %b %Y", "Tues 4 Sept 1934", named(16, 9, 4, middle, middle), 3652059, __LINE__);
     reads_by(skipping, "%A %d %h %Y", "tHUR 6 SEP 1934", named(15, 9, 6, middle, brief), __LINE__);
@@ -324,9 +324,127 @@ static void forms(void)
     reads("%a %d %b %Y", "Tues 5 Sept 1934", refusal(LARUSQEM_NONE_AGREES, 1, 30), 3652059, __LINE__);
 }
 
+/* a reason in words: each kind that has any, with its numbers, then the part; empty where every member is 0 */
+static const char *shown(const struct larusqem_reason *reason)
+{
+    static char words[LARUSQEM_KINDS * 40];
+    char *end = words;
+
+    *end = '\0';
+    for (unsigned kind = 0; kind < LARUSQEM_KINDS; kind++)
+        if (reason->words[kind].from != 0 || reason->words[kind].next != 0)
+            end += sprintf(end, "%u: %u to %u; ", kind, reason->words[kind].from, reason->words[kind].next);
+    if (reason->part != LARUSQEM_NO_PART)
+        sprintf(end, "part %u; ", reason->part);
+    return words;
+}
+
+/* a text with the reason that its format shall give it with an engine and a budget, both ways and on words; the reading is as without */
+static struct larusqem_reading explains_by(uint32_t engine, uint32_t budget, const char *format, const char *text, const char *expected,
+                                           int line)
+{
+    const uint8_t *format_bytes = (const uint8_t *)format, *text_bytes = (const uint8_t *)text;
+    size_t format_length = strlen(format), text_length = strlen(text);
+    struct larusqem_reason reason;
+    struct larusqem_options options = {engine, budget, NULL};
+    struct larusqem_reading plainly = larusqem_strptime_with(format, format_length, text, text_length, options), explained;
+    struct larusqem_answer opened = larusqem_open(format, format_length, LARUSQEM_FOR_READING, elements, LARUSQEM_ELEMENTS);
+    uint32_t words[LARUSQEM_REASON_WORDS];
+
+    options.reason = &reason;
+    memset(&reason, 255, sizeof reason);
+    explained = larusqem_strptime_with(format, format_length, text, text_length, options);
+    check(memcmp(&explained, &plainly, sizeof plainly) == 0 && strcmp(shown(&reason), expected) == 0, text, line);
+    /* on words it is asked for by itself, whatever a budget refuses */
+    memset(words, 255, sizeof words);
+    larusqem_explain_words(format_bytes, format_length, text_bytes, text_length, words);
+    check(plainly.number == LARUSQEM_OVER_BUDGET || memcmp(words, &reason, sizeof words) == 0, text, line);
+    if (opened.number != LARUSQEM_DONE)
+        return plainly;
+    memset(&reason, 255, sizeof reason);
+    explained = larusqem_read_with(elements, opened.place, text, text_length, options);
+    check(memcmp(&explained, &plainly, sizeof plainly) == 0 && strcmp(shown(&reason), expected) == 0, text, line);
+    memset(words, 255, sizeof words);
+    larusqem_explain_read_words(elements, opened.place, text_bytes, text_length, words);
+    check(plainly.number == LARUSQEM_OVER_BUDGET || memcmp(words, &reason, sizeof words) == 0, text, line);
+    return plainly;
+}
+
+/* the same by every engine; within a budget that is too small there is no reason */
+static void explains(const char *format, const char *text, uint32_t number, uint32_t place, const char *expected, int line)
+{
+    struct larusqem_reading r = explains_by(LARUSQEM_SKIPPING, 0, format, text, expected, line);
+    uint32_t count = explains_by(LARUSQEM_PLAIN, 0, format, text, expected, line).examined;
+
+    check(r.number == number && r.place == place, text, line);
+    explains_by(LARUSQEM_WITHIN, count, format, text, expected, line);
+    if (count == 0)
+        return;
+    r = explains_by(LARUSQEM_WITHIN, count - 1, format, text, "", line);
+    check(r.number == LARUSQEM_OVER_BUDGET && r.place == count - 1, text, line);
+}
+
+static void reasons(void)
+{
+    static const enum larusqem_kind kinds[] = {
+        LARUSQEM_YEAR,        LARUSQEM_CENTURY,  LARUSQEM_YEAR_IN_CENTURY, LARUSQEM_MONTH,          LARUSQEM_DAY,
+        LARUSQEM_DAY_OF_YEAR, LARUSQEM_WEEKDAY,  LARUSQEM_SUNDAY_WEEK,     LARUSQEM_MONDAY_WEEK,    LARUSQEM_ISO_YEAR,
+        LARUSQEM_ISO_YEAR_IN_CENTURY, LARUSQEM_ISO_WEEK, LARUSQEM_HOUR,    LARUSQEM_HOUR_OF_TWELVE, LARUSQEM_HALF_OF_DAY};
+    struct larusqem_reason reason;
+    struct larusqem_options options = {LARUSQEM_SKIPPING, 0, &reason};
+    struct larusqem_reading r;
+
+    CHECK(sizeof kinds / sizeof *kinds == LARUSQEM_KINDS - 1);
+    for (unsigned i = 0; i < sizeof kinds / sizeof *kinds; i++)
+        CHECK((unsigned)kinds[i] == i + 1);
+    CHECK(LARUSQEM_YEAR_PART == 1 && LARUSQEM_MONTH_PART == 2 && LARUSQEM_DAY_PART == 3);
+
+    explains("%a %d %b %Y", "Tue 5 Mar 1934", 9, 1, "1: 10 to 14; 4: 6 to 9; 5: 4 to 5; 7: 0 to 3; ", __LINE__);
+    explains(" %a %d %b %Y", "  Tue 5 Mar 1934", 9, 1, "1: 12 to 16; 4: 8 to 11; 5: 6 to 7; 7: 2 to 5; ", __LINE__);
+    explains("%d %b %Y %H:%M", "29 Feb 1900 07:08", 9, 1, "1: 7 to 11; 4: 3 to 6; 5: 0 to 2; ", __LINE__);
+    explains("%d %b %Y", "30 Feb 1900", 9, 1, "4: 3 to 6; 5: 0 to 2; ", __LINE__);
+    explains("%C %y %d %b %Y", "19 33 5 Mar 1934", 9, 1, "1: 12 to 16; 3: 3 to 5; ", __LINE__);
+    explains("%G %V %u", "2016 53 7", 9, 1, "10: 0 to 4; 12: 5 to 7; ", __LINE__);
+    explains("%C %y", "00 00", 9, 1, "2: 0 to 2; 3: 3 to 5; ", __LINE__);
+    explains("%a %u %d %b %Y", "Tue 2 5 Mar 1934", 9, 1, "1: 12 to 16; 4: 8 to 11; 5: 6 to 7; 7: 0 to 3; ", __LINE__);
+    explains("%m %j", "5 64", 9, 1, "4: 0 to 1; 6: 2 to 4; ", __LINE__);
+    explains("%U %W", "10\t 12", 9, 1, "8: 0 to 2; 9: 4 to 6; ", __LINE__);
+    explains("%g %V", "0 53", 9, 1, "11: 0 to 1; 12: 2 to 4; ", __LINE__);
+    explains("%H %p", "7 PM", 9, 2, "13: 0 to 1; 15: 2 to 4; ", __LINE__);
+    explains("%H %I %p", "07 8 AM", 9, 2, "13: 0 to 2; 14: 3 to 4; ", __LINE__);
+    explains("%d %b %Y %H %p", "5 Mar 1934 7 PM", 9, 2, "13: 11 to 12; 15: 13 to 15; ", __LINE__);
+    explains("%d %b", "5 mar", 10, 1, "part 1; ", __LINE__);
+    explains("%d %Y", "5 1934", 10, 1, "part 2; ", __LINE__);
+    explains("%b %Y", "Mar 1934", 10, 1, "part 3; ", __LINE__);
+    explains("%a", "Mon", 10, 1, "part 3; ", __LINE__);
+    explains("%I:%M", "07:08", 10, 2, "", __LINE__);
+    explains("%p", "PM", 10, 2, "", __LINE__);
+
+    explains("%d %b %Y", "5 Mar 19345", 0, 10, "", __LINE__);
+    explains("", "Tue", 0, 0, "", __LINE__);
+    explains("%d %Q", "30", 3, 3, "", __LINE__);
+    explains("%d %b", "30 Mai", 6, 3, "", __LINE__);
+    explains("%H%M", "930", 7, 0, "", __LINE__);
+    explains("%d %b %e", "30 Feb 31", 8, 7, "", __LINE__);
+
+    r = larusqem_strptime_with("%a %d %b %Y", 11, "Tue 5 Mar 1934", 14, options);
+    CHECK(r.number == LARUSQEM_NONE_AGREES && reason.words[LARUSQEM_MONTH].from == 6 && reason.words[LARUSQEM_MONTH].next == 9);
+    r = larusqem_strptime_with(longer, sizeof longer, "30", 2, options);
+    CHECK(r.number == LARUSQEM_FORMAT_TOO_LONG && shown(&reason)[0] == '\0');
+    memset(&reason, 255, sizeof reason);
+    r = larusqem_strptime_with("%d", 2, longer, sizeof longer, options);
+    CHECK(r.number == LARUSQEM_TEXT_TOO_LONG && shown(&reason)[0] == '\0');
+    memset(&reason, 255, sizeof reason);
+    elements[0] = 256;
+    r = larusqem_read_with(elements, 1, "30", 2, options);
+    CHECK(r.number == LARUSQEM_BAD_CONVERSION && r.place == 0 && shown(&reason)[0] == '\0');
+}
+
 /* NULL with length 0, for every pointer */
 static void nulls(void)
 {
+    struct larusqem_reason reason;
+    struct larusqem_options options = {LARUSQEM_SKIPPING, 0, &reason};
     struct larusqem_reading r;
 
     CHECK(answers(larusqem_strftime(NULL, 0, moment, NULL, 0), LARUSQEM_DONE, 0));
@@ -344,6 +462,12 @@ static void nulls(void)
     CHECK(r.number == LARUSQEM_DONE && r.place == 0 && r.year == 0);
     r = larusqem_read(elements, 1, NULL, 0);
     CHECK(r.number == LARUSQEM_NO_MATCH && r.place == 0);
+    memset(&reason, 255, sizeof reason);
+    r = larusqem_strptime_with(NULL, 0, NULL, 0, options);
+    CHECK(r.number == LARUSQEM_DONE && r.place == 0 && shown(&reason)[0] == '\0');
+    memset(&reason, 255, sizeof reason);
+    r = larusqem_read_with(NULL, 0, NULL, 0, options);
+    CHECK(r.number == LARUSQEM_DONE && r.place == 0 && shown(&reason)[0] == '\0');
 }
 
 static int is_date(struct larusqem_date date, uint32_t year, uint32_t month, uint32_t day)
@@ -382,6 +506,7 @@ int main(void)
     limits();
     reading();
     forms();
+    reasons();
     nulls();
     calendar();
     printf("%u checks, %u failed\n", checks, failures);

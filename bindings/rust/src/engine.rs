@@ -7,13 +7,13 @@
 /// two engines is equal only if the counts are.
 ///
 /// ```
-/// use larusqem::{strptime_with, Date, Engine, ReadError};
+/// use larusqem::{strptime_with, Date, Engine, Part, ReadError};
 ///
 /// // open: the second day that fits is 0002-03-05, day 429 of the calendar
-/// let (first, second) = (Date::new(1, 3, 5).unwrap(), Date::new(2, 3, 5).unwrap());
+/// let (first, second, part) = (Date::new(1, 3, 5).unwrap(), Date::new(2, 3, 5).unwrap(), Part::Year);
 /// let read = |engine| strptime_with("%d %b", "5 Mar", engine);
-/// assert_eq!(read(Engine::Skipping), Err(ReadError::TwoDays { first, second, examined: 31 + 5 }));
-/// assert_eq!(read(Engine::Plain), Err(ReadError::TwoDays { first, second, examined: 429 }));
+/// assert_eq!(read(Engine::Skipping), Err(ReadError::TwoDays { first, second, part, examined: 31 + 5 }));
+/// assert_eq!(read(Engine::Plain), Err(ReadError::TwoDays { first, second, part, examined: 429 }));
 /// assert_eq!(read(Engine::Within(429)), read(Engine::Plain));
 /// assert_eq!(read(Engine::Within(428)), Err(ReadError::OverBudget { budget: 428 }));
 ///

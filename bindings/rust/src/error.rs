@@ -1,6 +1,7 @@
 //! Why something is refused, by the numbers and places of RULES 3.
 use crate::date::Date;
 use crate::ffi;
+use crate::quarrel::{Part, Quarrel};
 use core::fmt;
 
 /// A field of a moment.
@@ -214,23 +215,24 @@ impl From<FormatError> for WriteError {
 /// Why a text is not read. Judged are 1, 5, 3, then 6, 7 and 8 from left to right, then 11, 9 or 10 for the day, then 9 or 10 for the hour.
 ///
 /// ```
-/// use larusqem::{strptime, strptime_with, Date, Engine, FormatError, ReadError};
+/// use larusqem::{strptime, strptime_with, Date, Engine, FormatError, Part, ReadError};
 ///
 /// assert_eq!(strptime("%d %Q", "5 x"), Err(ReadError::Format(FormatError::BadConversion { offset: 3 })));
 /// assert_eq!(strptime("%F", "1934-March"), Err(ReadError::NoMatch { offset: 5 }));
 /// assert_eq!(strptime("%H%M", "930"), Err(ReadError::OutOfRange { offset: 0 }));
 /// assert_eq!(strptime("%d %e", "5 6"), Err(ReadError::Contradiction { offset: 2 }));
-/// assert_eq!(strptime("%a %d %b %Y", "Tue 5 Mar 1934"), Err(ReadError::NoDay { examined: 31 }));
-/// assert_eq!(strptime("%H %p", "7 PM"), Err(ReadError::NoHour { examined: 0 }));
-/// assert_eq!(
-///     strptime("%d %b", "5 mar"),
-///     Err(ReadError::TwoDays { first: Date::new(1, 3, 5).unwrap(), second: Date::new(2, 3, 5).unwrap(), examined: 36 })
-/// );
+/// assert!(matches!(strptime("%a %d %b %Y", "Tue 5 Mar 1934"), Err(ReadError::NoDay { examined: 31, .. })));
+/// assert!(matches!(strptime("%H %p", "7 PM"), Err(ReadError::NoHour { examined: 0, .. })));
+/// let (first, second) = (Date::new(1, 3, 5).unwrap(), Date::new(2, 3, 5).unwrap());
+/// assert_eq!(strptime("%d %b", "5 mar"), Err(ReadError::TwoDays { first, second, part: Part::Year, examined: 36 }));
 /// assert_eq!(strptime("%I:%M", "07:08"), Err(ReadError::TwoHours { first: 7, second: 19, examined: 0 }));
 /// assert_eq!(strptime_with("%F", "1934-03-05", Engine::Within(1000)), Err(ReadError::OverBudget { budget: 1000 }));
 ///
 /// let refusal = strptime("%I:%M", "07:08").unwrap_err();
 /// assert_eq!((refusal.number(), refusal.place(), refusal.examined()), (10, 2, 0));
+///
+/// let refusal = strptime("%a %d %b %Y", "Tuesday 5 March 1934").unwrap_err();
+/// assert_eq!(refusal.to_string(), "no day is Tuesday, 5, March and 1934 together");
 /// ```
 #[derive(Clone, Copy, PartialEq, Eq, Hash, Debug)]
 #[non_exhaustive]
@@ -258,11 +260,15 @@ pub enum ReadError {
     NoDay {
         /// How many days were examined.
         examined: u32,
+        /// The words that no day fits together.
+        quarrel: Quarrel,
     },
     /// 9, place 2: no hour fits all that is said.
     NoHour {
         /// How many days were examined.
         examined: u32,
+        /// The words that no hour fits together.
+        quarrel: Quarrel,
     },
     /// 10, place 1: two or more days fit.
     TwoDays {
@@ -270,6 +276,8 @@ pub enum ReadError {
         first: Date,
         /// The next.
         second: Date,
+        /// The first part in which they differ.
+        part: Part,
         /// How many days were examined.
         examined: u32,
     },
@@ -321,9 +329,17 @@ impl ReadError {
         match *self {
             ReadError::Format(_) | ReadError::TextTooLong => 0,
             ReadError::NoMatch { .. } | ReadError::OutOfRange { .. } | ReadError::Contradiction { .. } => 0,
-            ReadError::NoDay { examined } | ReadError::NoHour { examined } => examined,
+            ReadError::NoDay { examined, .. } | ReadError::NoHour { examined, .. } => examined,
             ReadError::TwoDays { examined, .. } | ReadError::TwoHours { examined, .. } => examined,
             ReadError::OverBudget { budget } => budget,
+        }
+    }
+
+    /// The words that no day, or no hour, fits together, where that is why.
+    pub fn quarrel(&self) -> Option<&Quarrel> {
+        match self {
+            ReadError::NoDay { quarrel, .. } | ReadError::NoHour { quarrel, .. } => Some(quarrel),
+            _ => None,
         }
     }
 }
@@ -336,10 +352,15 @@ impl fmt::Display for ReadError {
             ReadError::NoMatch { offset } => write!(f, "the text does not match the format at byte {offset}"),
             ReadError::OutOfRange { offset } => write!(f, "the number at byte {offset} of the text is outside its range"),
             ReadError::Contradiction { offset } => write!(f, "what stands at byte {offset} of the text was said before, differently"),
-            ReadError::NoDay { .. } => write!(f, "no day fits all that the text says"),
-            ReadError::NoHour { .. } => write!(f, "no hour fits all that the text says"),
-            ReadError::TwoDays { first, second, .. } => write!(f, "two or more days fit what the text says: {first}, {second}"),
-            ReadError::TwoHours { first, second, .. } => write!(f, "two or more hours fit what the text says: {first}, {second}"),
+            ReadError::NoDay { quarrel, .. } => write!(f, "no day is {quarrel} together"),
+            ReadError::NoHour { quarrel, .. } => write!(f, "no hour is {quarrel} together"),
+            ReadError::TwoDays { first, second, part, .. } => {
+                write!(f, "more than one day agrees, the earliest {first} and {second}; the {part} is missing")
+            }
+            ReadError::TwoHours { first, second, .. } => {
+                let missing = if *second == first + 12 { "AM or PM" } else { "the hour" };
+                write!(f, "more than one hour agrees, the earliest {first} and {second}; {missing} is missing")
+            }
             ReadError::OverBudget { budget } => write!(f, "more days would have to be examined than the budget of {budget}"),
         }
     }

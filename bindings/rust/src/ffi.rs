@@ -9,6 +9,9 @@ pub type MomentWords = [u32; 6];
 /// last weekday name and of the last month name.
 pub type ReadingWords = [u32; 18];
 
+/// The part in which two days differ; for each kind of fact, from 0 on, where its words begin and end.
+pub type ReasonWords = [u32; 33];
+
 /// What a format is opened for: flags and widths are taken for writing, and refused for reading.
 #[derive(Clone, Copy)]
 pub enum Use {
@@ -17,7 +20,7 @@ pub enum Use {
 }
 
 mod c {
-    use super::{MomentWords, ReadingWords};
+    use super::{MomentWords, ReadingWords, ReasonWords};
 
     extern "C" {
         pub fn larusqem_strftime_words(
@@ -59,6 +62,20 @@ mod c {
             budget: u32,
             reading: *mut ReadingWords,
         ) -> u64;
+        pub fn larusqem_explain_words(
+            format: *const u8,
+            format_length: usize,
+            text: *const u8,
+            text_length: usize,
+            reason: *mut ReasonWords,
+        );
+        pub fn larusqem_explain_read_words(
+            elements: *const u32,
+            elements_length: usize,
+            text: *const u8,
+            text_length: usize,
+            reason: *mut ReasonWords,
+        );
         #[cfg(test)]
         pub fn larusqem_days() -> u32;
         pub fn larusqem_day_number(year: u32, month: u32, day: u32) -> u32;
@@ -104,6 +121,20 @@ pub fn read(elements: &[u32], text: &[u8], engine: Engine) -> ReadingWords {
         c::larusqem_read_words(elements.as_ptr(), elements.len(), text.as_ptr(), text.len(), engine, budget, &mut reading);
     }
     reading
+}
+
+/// Why a text is refused by 9 or 10, which is the same by every engine.
+pub fn explain(format: &[u8], text: &[u8]) -> ReasonWords {
+    let mut reason = [0; 33];
+    unsafe { c::larusqem_explain_words(format.as_ptr(), format.len(), text.as_ptr(), text.len(), &mut reason) };
+    reason
+}
+
+/// The same by elements.
+pub fn explain_read(elements: &[u32], text: &[u8]) -> ReasonWords {
+    let mut reason = [0; 33];
+    unsafe { c::larusqem_explain_read_words(elements.as_ptr(), elements.len(), text.as_ptr(), text.len(), &mut reason) };
+    reason
 }
 
 #[cfg(test)]

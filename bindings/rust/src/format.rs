@@ -147,7 +147,8 @@ impl Format {
     /// assert_eq!((within(500).number(), within(500).examined()), (10, 429));
     /// ```
     pub fn read_with(&self, text: impl AsRef<[u8]>, engine: Engine) -> Result<Reading, ReadError> {
-        Reading::from_words(ffi::read(&self.elements.0, text.as_ref(), engine))
+        let (elements, text) = (&self.elements.0, text.as_ref());
+        Reading::from_words(ffi::read(elements, text, engine), text, || ffi::explain_read(elements, text))
     }
 }
 

@@ -19,7 +19,9 @@
 //! assert_eq!(&text[reading.unread..], " in the margin");
 //!
 //! // 5 March 1934 was no Tuesday
-//! assert!(matches!(format.read("Tue 5 Mar 1934 07:08"), Err(ReadError::NoDay { .. })));
+//! let refused = format.read("Tue 5 Mar 1934 07:08").unwrap_err();
+//! assert!(matches!(refused, ReadError::NoDay { .. }));
+//! assert_eq!(refused.to_string(), "no day is Tue, 5, Mar and 1934 together");
 //! ```
 //!
 //! # Read loosely has a price
@@ -76,6 +78,22 @@
 //! same answer, and tell how many days they examined. The plain one can be given a budget of days; where that is too small, the reading is
 //! refused. [`strptime`] and [`Format::read`] skip; [`strptime_with`] and [`Format::read_with`] take an engine.
 //!
+//! # Reasons
+//!
+//! Where no day or no hour fits, the [`ReadError`] holds the [`Quarrel`]: words that none fits together, while without any one of them some
+//! day or hour fits, and where in the text they stand. Where two or more days fit, it holds the [`Part`] in which the first two differ.
+//! Both are in its message:
+//!
+//! ```
+//! use larusqem::strptime;
+//!
+//! let why = |format, text| strptime(format, text).unwrap_err().to_string();
+//! assert_eq!(why("%A %d %m %Y", "Monday 30 2 1934"), "no day is 30 and month 2 together");
+//! assert_eq!(why("%d %b %Y %k %p", "5 Mar 1934 7 pm"), "no hour is hour 7 and pm together");
+//! assert_eq!(why("%d %b", "5 Mar"), "more than one day agrees, the earliest 0001-03-05 and 0002-03-05; the year is missing");
+//! assert_eq!(why("%I:%M", "07:08"), "more than one hour agrees, the earliest 7 and 19; AM or PM is missing");
+//! ```
+//!
 //! # What is proved
 //!
 //! The C functions of the repository's library. This crate gives them types, and is tested. A [`Date`] or a [`Moment`] that exists is
@@ -99,6 +117,7 @@ mod error;
 mod ffi;
 mod format;
 mod moment;
+mod quarrel;
 mod reading;
 mod shape;
 
@@ -107,6 +126,7 @@ pub use engine::Engine;
 pub use error::{Field, FieldError, FormatError, ParseError, ReadError, WriteError};
 pub use format::{Format, WriteFormat};
 pub use moment::Moment;
+pub use quarrel::{Kind, Part, Quarrel, Words};
 pub use reading::{NameForm, Reading};
 
 /// The bytes of the longest writing: `%99d`, 256 times. No format writes more, and a buffer of as many bytes is never too small.
@@ -159,7 +179,8 @@ pub fn strptime(format: impl AsRef<[u8]>, text: impl AsRef<[u8]>) -> Result<Read
 /// assert_eq!(read(Engine::Skipping).unwrap().examined, 31);
 /// ```
 pub fn strptime_with(format: impl AsRef<[u8]>, text: impl AsRef<[u8]>, engine: Engine) -> Result<Reading, ReadError> {
-    Reading::from_words(ffi::strptime(format.as_ref(), text.as_ref(), engine))
+    let (format, text) = (format.as_ref(), text.as_ref());
+    Reading::from_words(ffi::strptime(format, text, engine), text, || ffi::explain(format, text))
 }
 
 /// The version of the library that is linked: major, minor, patch.

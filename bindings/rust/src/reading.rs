@@ -3,6 +3,7 @@ use crate::date::Date;
 use crate::error::{FormatError, ReadError};
 use crate::ffi;
 use crate::moment::Moment;
+use crate::quarrel::{Part, Quarrel};
 use alloc::format;
 use alloc::string::ToString;
 use core::fmt;
@@ -93,8 +94,12 @@ impl Reading {
         Moment::new(self.date?, self.hour?, self.minute?, self.second?).ok()
     }
 
-    /// What the words of a reading say.
-    pub(crate) fn from_words(words: ffi::ReadingWords) -> Result<Reading, ReadError> {
+    /// What the words of a reading of a text say. The reason is asked for where it is needed alone, so that no other reading takes longer.
+    pub(crate) fn from_words(
+        words: ffi::ReadingWords,
+        text: &[u8],
+        reason: impl FnOnce() -> ffi::ReasonWords,
+    ) -> Result<Reading, ReadError> {
         let [number, place, year, month, day, hour_said, hour, minute_said, minute, second_said, second, ..] = words;
         let [.., other_year, other_month, other_day, other_hour, examined, weekday_form, month_form] = words;
         let offset = place as usize;
@@ -118,11 +123,11 @@ impl Reading {
             (6, _) => ReadError::NoMatch { offset },
             (7, _) => ReadError::OutOfRange { offset },
             (8, _) => ReadError::Contradiction { offset },
-            (9, 1) => ReadError::NoDay { examined },
-            (9, _) => ReadError::NoHour { examined },
+            (9, 1) => ReadError::NoDay { examined, quarrel: Quarrel::from_words(reason(), text) },
+            (9, _) => ReadError::NoHour { examined, quarrel: Quarrel::from_words(reason(), text) },
             (10, 1) => {
                 let second = Date::known(other_year, other_month, other_day);
-                ReadError::TwoDays { first: Date::known(year, month, day), second, examined }
+                ReadError::TwoDays { first: Date::known(year, month, day), second, part: Part::from_words(reason()), examined }
             }
             (10, _) => ReadError::TwoHours { first: hour, second: other_hour, examined },
             (11, budget) => ReadError::OverBudget { budget },

@@ -1,6 +1,6 @@
 //! Worked cases through the Rust types, by a format that is opened once and by one that is not; readings by every engine.
-use larusqem::{strftime, strptime, strptime_with, Date, Engine, Field, Format, FormatError, Moment, NameForm, ParseError, ReadError};
-use larusqem::{Reading, Weekday, WriteError, WriteFormat, LONGEST_WRITING};
+use larusqem::{strftime, strptime, strptime_with, Date, Engine, Field, Format, FormatError, Kind, Moment, NameForm, ParseError, Part};
+use larusqem::{ReadError, Reading, Weekday, WriteError, WriteFormat, LONGEST_WRITING};
 
 fn date(year: u32, month: u32, day: u32) -> Date {
     Date::new(year, month, day).unwrap()
@@ -71,9 +71,9 @@ fn uncounted(answer: Result<Reading, ReadError>) -> Result<Reading, ReadError> {
             reading.examined = examined;
             Ok(reading)
         }
-        Err(ReadError::NoDay { .. }) => Err(ReadError::NoDay { examined }),
-        Err(ReadError::NoHour { .. }) => Err(ReadError::NoHour { examined }),
-        Err(ReadError::TwoDays { first, second, .. }) => Err(ReadError::TwoDays { first, second, examined }),
+        Err(ReadError::NoDay { quarrel, .. }) => Err(ReadError::NoDay { examined, quarrel }),
+        Err(ReadError::NoHour { quarrel, .. }) => Err(ReadError::NoHour { examined, quarrel }),
+        Err(ReadError::TwoDays { first, second, part, .. }) => Err(ReadError::TwoDays { first, second, part, examined }),
         Err(ReadError::TwoHours { first, second, .. }) => Err(ReadError::TwoHours { first, second, examined }),
         other => other,
     }
@@ -228,7 +228,7 @@ fn forms_of_names() {
     }
     assert_eq!(read("%d %b %Y", "5 Septem 1934"), Err(ReadError::NoMatch { offset: 6 }));
     assert_eq!(read("%a %a", "Tues Wed"), Err(ReadError::Contradiction { offset: 5 }));
-    assert_eq!(read("%a %d %b %Y", "Tues 5 Sept 1934"), Err(ReadError::NoDay { examined: 30 }));
+    assert!(matches!(read("%a %d %b %Y", "Tues 5 Sept 1934"), Err(ReadError::NoDay { examined: 30, .. })));
 }
 
 #[test]
@@ -247,17 +247,98 @@ fn whole_readings() {
 
 #[test]
 fn refused_reading() {
-    assert_eq!(read("%G %V %u", "2016 53 7"), Err(ReadError::NoDay { examined: Date::DAYS }));
-    assert_eq!(read("%a %d %b %Y", "Tue 5 Mar 1934"), Err(ReadError::NoDay { examined: 31 }));
-    assert_eq!(read("%C %y", "00 00"), Err(ReadError::NoDay { examined: 0 }));
+    assert!(matches!(read("%G %V %u", "2016 53 7"), Err(ReadError::NoDay { examined: Date::DAYS, .. })));
+    assert!(matches!(read("%a %d %b %Y", "Tue 5 Mar 1934"), Err(ReadError::NoDay { examined: 31, .. })));
+    assert!(matches!(read("%C %y", "00 00"), Err(ReadError::NoDay { examined: 0, .. })));
     assert_eq!(read("%d %b %Y %I", "5 Mar 1934 07"), Err(ReadError::TwoHours { first: 7, second: 19, examined: 31 }));
-    assert_eq!(read("%d %b", "5 mar"), Err(ReadError::TwoDays { first: date(1, 3, 5), second: date(2, 3, 5), examined: 36 }));
+    let (first, second) = (date(1, 3, 5), date(2, 3, 5));
+    assert_eq!(read("%d %b", "5 mar"), Err(ReadError::TwoDays { first, second, part: Part::Year, examined: 36 }));
     assert_eq!(read("%H%M", "930"), Err(ReadError::OutOfRange { offset: 0 }));
     assert_eq!(read("%d %e", "5 6"), Err(ReadError::Contradiction { offset: 2 }));
-    assert_eq!(read("%H %p", "7 PM"), Err(ReadError::NoHour { examined: 0 }));
+    assert!(matches!(read("%H %p", "7 PM"), Err(ReadError::NoHour { examined: 0, .. })));
     assert_eq!(strptime("%5Y", "x"), Err(ReadError::Format(FormatError::BadConversion { offset: 0 })));
     assert_eq!(strptime("%5Y", vec![b'x'; 1025]), Err(ReadError::TextTooLong));
     assert_eq!(strptime(vec![b'x'; 1025], "x"), Err(ReadError::Format(FormatError::TooLong)));
+}
+
+#[test]
+fn quarrels() {
+    use Kind::{Century, Day, DayOfYear, HalfOfDay, Hour, HourOfTwelve, IsoWeek, IsoYear, IsoYearInCentury};
+    use Kind::{MondayWeek, Month, SundayWeek, Weekday, Year, YearInCentury};
+    for (format, text, said, expected) in [
+        ("%a %d %b %Y", "Tue 5 Mar 1934", "Tue, 5, Mar and 1934", vec![(Weekday, 0..3), (Day, 4..5), (Month, 6..9), (Year, 10..14)]),
+        (" %a %d %b %Y", "  Tue 5 Mar 1934", "Tue, 5, Mar and 1934", vec![(Weekday, 2..5), (Day, 6..7), (Month, 8..11), (Year, 12..16)]),
+        ("%d %b %Y %H:%M", "29 Feb 1900 07:08", "29, Feb and 1900", vec![(Day, 0..2), (Month, 3..6), (Year, 7..11)]),
+        ("%d %b %Y", "30 Feb 1900", "30 and Feb", vec![(Day, 0..2), (Month, 3..6)]),
+        ("%C %y %d %b %Y", "19 33 5 Mar 1934", "year in century 33 and 1934", vec![(YearInCentury, 3..5), (Year, 12..16)]),
+        ("%G %V %u", "2016 53 7", "ISO year 2016 and ISO week 53", vec![(IsoYear, 0..4), (IsoWeek, 5..7)]),
+        ("%C %y", "00 00", "century 00 and year in century 00", vec![(Century, 0..2), (YearInCentury, 3..5)]),
+        ("%a %u %d %b %Y", "Tue 2 5 Mar 1934", "Tue, 5, Mar and 1934", vec![(Weekday, 0..3), (Day, 6..7), (Month, 8..11), (Year, 12..16)]),
+        (
+            "%u %e %m %Y",
+            "2  5 03 1934",
+            "weekday 2, 5, month 03 and 1934",
+            vec![(Weekday, 0..1), (Day, 3..4), (Month, 5..7), (Year, 8..12)],
+        ),
+        ("%j %B", "64 may", "day of year 64 and may", vec![(DayOfYear, 0..2), (Month, 3..6)]),
+        ("%U%t%W", "10 12", "Sunday week 10 and Monday week 12", vec![(SundayWeek, 0..2), (MondayWeek, 3..5)]),
+        ("%V %g", "53 0", "ISO week 53 and ISO year in century 0", vec![(IsoWeek, 0..2), (IsoYearInCentury, 3..4)]),
+        ("%H %p", "7 PM", "hour 7 and PM", vec![(Hour, 0..1), (HalfOfDay, 2..4)]),
+        ("%H %I %p", "07 8 AM", "hour 07 and hour of twelve 8", vec![(Hour, 0..2), (HourOfTwelve, 3..4)]),
+        ("%d %b %Y %H %p", "5 Mar 1934 7 PM", "hour 7 and PM", vec![(Hour, 11..12), (HalfOfDay, 13..15)]),
+    ] {
+        let refused = read(format, text).unwrap_err();
+        let quarrel = refused.quarrel().unwrap();
+        let words: Vec<_> = quarrel.words().map(|words| (words.kind, words.range)).collect();
+        assert_eq!(words, expected, "{format} {text}");
+        assert!(quarrel.words().all(|words| words.text == &text[words.range] && quarrel.contains(words.kind)));
+        let (what, place) = if quarrel.contains(Hour) { ("hour", 2) } else { ("day", 1) };
+        assert_eq!((refused.number(), refused.place()), (9, place));
+        assert_eq!(refused.to_string(), format!("no {what} is {said} together"));
+    }
+}
+
+/// The longest words, at the end of the longest text.
+#[test]
+fn far_quarrels() {
+    let date = "Wednesday, 6 September 1934";
+    let text = " ".repeat(1024 - date.len()) + date;
+    let refused = read(" %A, %d %B %Y", &text).unwrap_err();
+    assert_eq!(refused.to_string(), "no day is Wednesday, 6, September and 1934 together");
+    let last = refused.quarrel().unwrap().words().last().unwrap();
+    assert_eq!((last.kind, last.range, last.text), (Kind::Year, 1020..1024, "1934"));
+}
+
+#[test]
+fn missing() {
+    let refused = |format, text| read(format, text).unwrap_err();
+    for (format, text, first, second, part) in [
+        ("%d %b", "5 mar", date(1, 3, 5), date(2, 3, 5), Part::Year),
+        ("%d %Y", "5 1934", date(1934, 1, 5), date(1934, 2, 5), Part::Month),
+        ("%b %Y", "Mar 1934", date(1934, 3, 1), date(1934, 3, 2), Part::Day),
+        ("%a", "Mon", date(1, 1, 1), date(1, 1, 8), Part::Day),
+    ] {
+        let error = refused(format, text);
+        let examined = error.examined();
+        assert_eq!(error, ReadError::TwoDays { first, second, part, examined });
+        assert_eq!(error.to_string(), format!("more than one day agrees, the earliest {first} and {second}; the {part} is missing"));
+        assert_eq!(error.quarrel(), None);
+    }
+    for (format, text, first, second, what) in [("%I:%M", "07:08", 7, 19, "AM or PM"), ("%p", "PM", 12, 13, "the hour")] {
+        let error = refused(format, text);
+        assert_eq!(error, ReadError::TwoHours { first, second, examined: 0 });
+        assert_eq!(error.to_string(), format!("more than one hour agrees, the earliest {first} and {second}; {what} is missing"));
+        assert_eq!(error.quarrel(), None);
+    }
+}
+
+/// An error is handed around in every result.
+#[test]
+fn errors_are_small() {
+    fn copied<T: Copy>() -> usize {
+        std::mem::size_of::<T>()
+    }
+    assert!(copied::<ReadError>() < 128);
 }
 
 #[test]
@@ -365,8 +446,10 @@ fn shown_to_people() {
     assert_eq!(shown("%d %b %Y %H:%M", "5 Mar 1934 07:08"), "1934-03-05 07:08:--");
     assert_eq!(shown("%S", "9"), "- --:--:09");
     let refused = |format, text| read(format, text).unwrap_err().to_string();
-    assert_eq!(refused("%d %b", "5 mar"), "two or more days fit what the text says: 0001-03-05, 0002-03-05");
     assert_eq!(refused("%H%M", "930"), "the number at byte 0 of the text is outside its range");
+    assert_eq!(format!("{:>9}|{:6}|", Kind::Weekday, Part::Year), "  weekday|year  |");
+    let debugged = format!("{:?}", read("%d %b", "30 Feb").unwrap_err().quarrel().unwrap());
+    assert_eq!(debugged, r#"[Words { kind: Day, range: 0..2, text: "30" }, Words { kind: Month, range: 3..6, text: "Feb" }]"#);
 }
 
 #[cfg(feature = "std")]
@@ -379,7 +462,7 @@ fn errors_have_sources() {
     assert_eq!(source(&strptime("%Q", "").unwrap_err()), unknown);
     assert_eq!(source(&strftime("%Q", Moment::midnight(Date::FIRST), &mut []).unwrap_err()), unknown);
     assert_eq!(source(&"1934-13-01".parse::<Date>().unwrap_err()), Some("the month is not 1 to 12".to_string()));
-    assert_eq!(source(&ReadError::NoDay { examined: 31 }), None);
+    assert_eq!(source(&strptime("%d %b", "30 Feb").unwrap_err()), None);
     let field: &dyn Error = &Date::new(0, 1, 1).unwrap_err();
     assert!(field.downcast_ref::<larusqem::FieldError>().is_some() && field.source().is_none());
 }

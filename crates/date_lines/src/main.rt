@@ -1,12 +1,16 @@
 // Reads a list, a format and texts, from standard input or from a file, and writes the report on it (RULES 9). An input that was not read
 // to its end gets no report; what could not be done is said on standard error.
-use check::same;
+use console::Asked;
+use console::print;
+use console::print_version;
+use console::put;
+use console::what_is_asked;
 use format::MOST_ELEMENTS;
 use libc::STDERR_FILENO;
 use libc::STDIN_FILENO;
 use libc::STDOUT_FILENO;
-use report::LONGEST_INPUT;
-use report::PART;
+use lists::LONGEST_INPUT;
+use lists::PART;
 use report::first_part;
 use report::next_part;
 use streams::Got;
@@ -58,32 +62,8 @@ fn report_on_file(name: &[u8]) {
 
 // Each of these answers whether all was written.
 
-fn put(fd: i32, bytes: &[u8]) -> bool {
-    write_all(fd, bytes) == bytes.len()
-}
-
 fn put_usage(fd: i32) -> bool {
     put(fd, b"usage: date_lines [FILE] | --help | --version\n")
-}
-
-fn print(bytes: &[u8]) -> bool {
-    put(STDOUT_FILENO, bytes)
-}
-
-fn print_number(n: u32) -> bool {
-    let mut digits = [0u8; 20];
-    let count = io::decimal(n as u64, &mut digits);
-    print(&digits[..count])
-}
-
-fn print_version() -> bool {
-    print(b"date_lines ")
-        && print_number(version::MAJOR)
-        && print(b".")
-        && print_number(version::MINOR)
-        && print(b".")
-        && print_number(version::PATCH)
-        && print(b"\n")
 }
 
 fn print_help() -> bool {
@@ -100,10 +80,6 @@ fn print_help() -> bool {
         && print(b"README.md, or date_lines(1) and larusqem(3), have numbers and conversions.\n")
 }
 
-fn refuse() {
-    put_usage(STDERR_FILENO);
-}
-
 // Says so where a text was not written whole.
 fn tell(written: bool) {
     if !written {
@@ -111,41 +87,16 @@ fn tell(written: bool) {
     }
 }
 
-fn obey(argument: &[u8]) {
-    if same(argument, b"--help") {
-        tell(print_help());
-        return;
-    }
-    if same(argument, b"--version") {
-        tell(print_version());
-        return;
-    }
-    if argument.len() == 0 {
-        refuse();
-        return;
-    }
-    if argument[0] == b'-' {
-        refuse();
-        return;
-    }
-    report_on_file(argument);
-}
-
 fn main() {
-    let count = os::arg_count();
-    if count < 2 {
-        report_on(STDIN_FILENO);
-        return;
-    }
     let mut argument = io::buffer();
     let n = os::arg(1, &mut argument);
-    if os::errno() != 0 {
-        refuse();
-        return;
+    match what_is_asked(&argument[..n]) {
+        Asked::Standard => report_on(STDIN_FILENO),
+        Asked::File => report_on_file(&argument[..n]),
+        Asked::Help => tell(print_help()),
+        Asked::Version => tell(print_version(b"date_lines")),
+        Asked::Unknown => {
+            put_usage(STDERR_FILENO);
+        }
     }
-    if 2 < count {
-        refuse();
-        return;
-    }
-    obey(&argument[..n]);
 }

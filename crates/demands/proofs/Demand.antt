@@ -104,10 +104,10 @@ within a b ks e k m =
     let t = and-eq-true-iff (leb a k) (leb k b) .0 (every-member (λ k. leb a k && leb k b) ks e k m) in
     (leb-true a k (t .0), leb-true k b (t .1))
 
-day-kind : (k : ℕ) → Member k dayKinds → (1 ≤ k) × (k ≤ 12)
+pub day-kind : (k : ℕ) → Member k dayKinds → (1 ≤ k) × (k ≤ 12)
 day-kind = within 1 12 dayKinds (unfold computes every in refl)
 
-hour-kind : (k : ℕ) → Member k hourKinds → (13 ≤ k) × (k ≤ 15)
+pub hour-kind : (k : ℕ) → Member k hourKinds → (13 ≤ k) × (k ≤ 15)
 hour-kind = within 13 15 hourKinds (unfold computes every in refl)
 
 -- ---- a matched text
@@ -141,7 +141,7 @@ module _ (f s : List ℕ) (m : Matched f s) where
       (λ d i g k n b x. let w = day-kind k b in day-would d (i .0) (i .1) k n (w .0) (w .1) .0 (g k n b (handed f s m k n .0 x)))
       (dayVerdict kept) (day-judged kept)
 
-  hour-by : Judged (NoneSaid f s hourKinds) IsHour (HourAgrees f s) (hourVerdict kept)
+  pub hour-by : Judged (NoneSaid f s hourKinds) IsHour (HourAgrees f s) (hourVerdict kept)
   hour-by =
       judged-over (none-said hourKinds) (none-kept hourKinds)
       (λ h i g k n b x. let w = hour-kind k b in hour-would h i k n (w .0) (w .1) .1 (g k n b (handed f s m k n .1 x)))

@@ -21,7 +21,7 @@ use Rattle.judge.proofs.Engines as judge
 use Rattle.judge.proofs.Engines.{searched-verdict, by-skipping, by-plain}
 use Rattle.strptime.specs.Answers.{showing, refused, naming, examining, overBudget, withDay, withSearched, judged, readingBy, reading}
 use Rattle.strptime.specs.declared.Reading.{Reading}
-use Rattle.strptime.specs.declared.State.{State}
+use Rattle.matching.specs.declared.State.{State}
 use Rattle.demands.specs.Demand.{NoneSaid}
 use Rattle.demands.specs.Engines.{OneVerdict, SameBut, refusedAt, plainDays, Engines}
 use Rattle.demands.specs.Facts.{Matched}
@@ -36,7 +36,7 @@ one-verdict x = (dayVerdict x, by-skipping x .0, by-plain x .0, by-skipping x .1
 -- ---- a judging, by what the engine gives
 module _ (t : State) where
   -- the same by every engine, but for the days examined
-  abbrev verdicts : Reading
+  abbrev pub verdicts : Reading
   verdicts = withDay t (dayVerdict (t .facts)) (hourVerdict (t .facts))
 
   judged-is : (e : Engine) {v : Verdict} {n : ℕ} → searched e (t .facts) ≡ Judged v n → judged e t ≡ examining n verdicts
@@ -48,7 +48,7 @@ module _ (t : State) where
   over-is e q = rw q
 
   -- either a verdict, or 11
-  judged-or : (e : Engine) → ((n : ℕ) × (judged e t ≡ examining n verdicts)) ⊎ (judged e t .number ≡ 11)
+  pub judged-or : (e : Engine) → ((n : ℕ) × (judged e t ≡ examining n verdicts)) ⊎ (judged e t .number ≡ 11)
   unfolding overBudget examining refused showing
   judged-or e = go (searched e (t .facts)) refl
     where

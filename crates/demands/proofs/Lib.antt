@@ -4,10 +4,14 @@ pub mod Counts
 pub mod Demand
 pub mod Engines
 pub mod Examined
+pub mod FirstSaid
 pub mod Matched
 pub mod NameCases
 pub mod Names
+pub mod Quarrels
+pub mod Reasons
 pub mod Rows
+pub mod Spelled
 pub mod Starred
 pub mod Verdicts
 pub mod Walk

@@ -1,7 +1,7 @@
 -- Demand 1: every answer is a row of the table.
 -- Assumes nothing.
 use Prim.Native.Nat.{ℕ, zero, _≤_, _<_}
-use mathlib.Core.Bool.{true, false, false≢true}
+use mathlib.Core.Bool.{false, false≢true}
 use mathlib.Core.List.{List, [], _∷_, _++_}
 use mathlib.Core.Path.{_≡_, refl, sym, _∙_}
 use native.Mathlib.Nat.{zero-add}
@@ -32,18 +32,18 @@ use Rattle.judge.proofs.Engines.{searched-over}
 use Rattle.strptime.specs.Answers as reader
 use Rattle.strptime.specs.Answers.{showing, finished, naming, examining, overBudget, done, withHour, withDay, withSearched}
 use Rattle.strptime.specs.Answers.{judged, concluded, readBy, readingBy}
-use Rattle.strptime.specs.Reading.{start, noForms, readAll}
+use Rattle.matching.specs.Steps.{start, noForms, readAll}
 use Rattle.strptime.specs.declared.Day.{Day}
-use Rattle.strptime.specs.declared.Forms.{Forms}
-use Rattle.strptime.specs.declared.Outcome.{Outcome}
-use Rattle.strptime.specs.declared.Outcome.the-variants.{Read as AllRead, Mismatch, Range, Conflict}
+use Rattle.matching.specs.declared.Forms.{Forms}
+use Rattle.matching.specs.declared.Outcome.{Outcome}
+use Rattle.matching.specs.declared.Outcome.the-variants.{Read as AllRead, Mismatch, Range, Conflict}
 use Rattle.strptime.specs.declared.Reading.{Reading}
 use Rattle.strptime.specs.declared.Said.{Said}
 use Rattle.strptime.specs.declared.Shown.{Shown}
 use Rattle.strptime.specs.declared.Shown.the-variants.{Nothing, Hours}
-use Rattle.strptime.specs.declared.State.{State}
+use Rattle.matching.specs.declared.State.{State}
 use Rattle.strptime.proofs.Places.{all-within}
-use Rattle.strptime.proofs.Walk.{Placed}
+use Rattle.matching.proofs.Walk.{Placed}
 use Rattle.demands.specs.Demand.{beforeNine}
 use Rattle.demands.specs.Rows.{OneOf, WritingRow, readingNumbers, ReadingRow}
 

@@ -19,8 +19,8 @@ use Rattle.judge.specs.Agreement as agreement
 use Rattle.judge.specs.Engines as engines
 use Rattle.judge.specs.Search as search
 use Rattle.judge.specs.Verdicts as verdicts
-use Rattle.strptime.specs.Elements as elements
-use Rattle.strptime.specs.Reading as reading
+use Rattle.matching.specs.Elements as elements
+use Rattle.matching.specs.Steps as reading
 use Rattle.strptime.specs.Answers as answers
 use Rattle.demands.specs.Starred as cases
 use Rattle.demands.specs.Starred.{Case, starred}

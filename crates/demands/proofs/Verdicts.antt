@@ -19,7 +19,7 @@ use Rattle.strptime.specs.declared.Said.{Said}
 use Rattle.strptime.specs.declared.Said.the-variants.{Unsaid, Is}
 use Rattle.strptime.specs.declared.Shown.{Shown}
 use Rattle.strptime.specs.declared.Shown.the-variants.{Days, Hours}
-use Rattle.strptime.specs.declared.State.{State}
+use Rattle.matching.specs.declared.State.{State}
 
 -- the day that a verdict leaves, where it does not refuse
 abbrev pub Leaves : Verdict → Day → Type 0

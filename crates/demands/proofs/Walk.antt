@@ -15,14 +15,14 @@ use lib.Seq.{getD-set-same, getD-set-other}
 use Rattle.kinds.specs.Kinds.{kinds, month, weekday}
 use Rattle.judge.specs.Agreement.{said}
 use Rattle.judge.specs.declared.Facts.{Facts}
-use Rattle.strptime.specs.Elements.{readElement}
-use Rattle.strptime.specs.Reading.{goes, stays, noted, noForms, later, latest, met, tell, taken, stepOn, isRead, readAll}
-use Rattle.strptime.specs.declared.Forms.{Forms}
-use Rattle.strptime.specs.declared.State.{State}
-use Rattle.strptime.specs.declared.Stepped.{Stepped}
-use Rattle.strptime.specs.declared.elements.Item.{Item}
-use Rattle.strptime.specs.declared.elements.Item.the-variants.{Skip, Fact as Reads, NoMatch, OutOfRange}
-use Rattle.strptime.proofs.Sound.{Finds, Sound, sound}
+use Rattle.matching.specs.Elements.{readElement}
+use Rattle.matching.specs.Steps.{goes, stays, noted, noForms, later, latest, met, tell, taken, stepOn, isRead, readAll}
+use Rattle.matching.specs.declared.Forms.{Forms}
+use Rattle.matching.specs.declared.State.{State}
+use Rattle.matching.specs.declared.Stepped.{Stepped}
+use Rattle.matching.specs.declared.elements.Item.{Item}
+use Rattle.matching.specs.declared.elements.Item.the-variants.{Skip, Fact as Reads, NoMatch, OutOfRange}
+use Rattle.matching.proofs.Sound.{Finds, Sound, sound}
 use Rattle.text.specs.declared.names.NameForm.{NameForm}
 use Rattle.text.specs.declared.names.NameForm.the-variants.{NoName, Full, Middle, Short}
 use Rattle.demands.specs.Facts.{Fact, saying, factsFrom, Says, isName, lastForm, going, allRead, ending, endFrom}

@@ -1,6 +1,6 @@
 -- The kinds of fact by their numbers (RULES 7): which bear on the day and which on the hour, and by which the skipping engine counts (RULES
 -- 8.4). Demand 3 and the counts speak of these lists by name; this says what is in them.
-use mathlib.Core.List.{List, [], _∷_}
+use mathlib.Core.List.{[], _∷_}
 use mathlib.Core.Path.{_≡_}
 use Rattle.kinds.specs.Kinds.{dayKinds, hourKinds, minute, second}
 use Rattle.judge.specs.Engines.{monthKinds}

@@ -12,7 +12,7 @@ use Rattle.judge.specs.declared.Facts.{Facts}
 use Rattle.judge.specs.declared.Searched.the-variants.{Judged}
 use Rattle.judge.specs.declared.Verdict.{Verdict}
 use Rattle.strptime.specs.Answers.{readingBy, reading}
-use Rattle.strptime.specs.Reading.{noForms}
+use Rattle.matching.specs.Steps.{noForms}
 use Rattle.strptime.specs.declared.Day.the-variants.{NoDate}
 use Rattle.strptime.specs.declared.Reading.{Reading}
 use Rattle.strptime.specs.declared.Said.the-variants.{Unsaid}

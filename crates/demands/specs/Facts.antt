@@ -9,9 +9,9 @@ use lib.Dec.{eqb}
 use lib.ListN.{length}
 use Rattle.format.specs.Opening.{Whole, opening, longest}
 use Rattle.format.specs.declared.opening.Side.the-variants.{Reader}
-use Rattle.strptime.specs.Elements.{readElement}
-use Rattle.strptime.specs.declared.elements.Item.{Item}
-use Rattle.strptime.specs.declared.elements.Item.the-variants.{Skip, Fact as Reads, NoMatch, OutOfRange}
+use Rattle.matching.specs.Elements.{readElement}
+use Rattle.matching.specs.declared.elements.Item.{Item}
+use Rattle.matching.specs.declared.elements.Item.the-variants.{Skip, Fact as Reads, NoMatch, OutOfRange}
 use Rattle.text.specs.declared.names.NameForm.{NameForm}
 use Rattle.text.specs.declared.names.NameForm.the-variants.{NoName, Full, Middle, Short}
 

@@ -20,6 +20,7 @@ pub mod Examined
 pub mod Facts
 pub mod NameCases
 pub mod Names
+pub mod Reasons
 pub mod Rows
 pub mod Starred
 pub mod WhiteSpace

@@ -9,7 +9,7 @@ use Rattle.format.specs.Conversions.{among}
 use Rattle.judge.specs.declared.Engine.{Engine}
 use Rattle.judge.specs.declared.Engine.the-variants.{Within}
 use Rattle.strftime.specs.Writing.{Result}
-use Rattle.strptime.specs.Reading.{noForms}
+use Rattle.matching.specs.Steps.{noForms}
 use Rattle.strptime.specs.declared.Day.the-variants.{NoDate}
 use Rattle.strptime.specs.declared.Reading.{Reading}
 use Rattle.strptime.specs.declared.Said.the-variants.{Unsaid}

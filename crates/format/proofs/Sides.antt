@@ -16,7 +16,7 @@ use Rattle.laws.specs.Lists.{every}
 use Rattle.laws.proofs.Cases.{either, picked, clash}
 use Rattle.laws.proofs.Table.{at}
 use Rattle.text.specs.Digits.{isDigit, digitRun, decimal}
-use Rattle.format.specs.Conversions.{Row, Composite, among, rows, isConversion, conversionOf, composites, formatOf, ownFormat}
+use Rattle.format.specs.Conversions.{Composite, among, isConversion, conversionOf, composites, formatOf, ownFormat}
 use Rattle.format.specs.Conversions.{computes as rows-compute}
 use Rattle.format.specs.Opening.{Ended, Opening, unstyled, conversionAt, letter, piece, conversion, flags, flagRun, widthRun}
 use Rattle.format.specs.Opening.{isUnstyled, withStyle, styled, signed, pieceOf, nothing, before, composed, acted, signAt}
@@ -32,7 +32,7 @@ use Rattle.format.specs.declared.opening.Sign.the-variants.{Own, Of}
 use Rattle.format.specs.declared.opening.Style.{Style}
 use Rattle.format.proofs.Bound.{bound}
 use Rattle.format.proofs.Elements.{letter-below, elements, element-at}
-use Rattle.format.proofs.Entry.{not-read as unread, signed-is}
+use Rattle.format.proofs.Entry.{not-read as unread}
 use Rattle.format.proofs.Letters.{among-past}
 use Rattle.format.proofs.Pieces.{Unstyled, conversion-unstyled, Follows, follows}
 use Rattle.format.proofs.Styles.{flag-run, width-run}

@@ -16,7 +16,7 @@ use Rattle.judge.specs.declared.Facts.{Facts}
 use Rattle.judge.specs.declared.Found.{Found}
 use Rattle.judge.specs.declared.Found.the-variants.{Nothing, One}
 use Rattle.calendar.proofs.Dates.{Valid, no-fault-valid, valid-no-fault, number-within, date-of-number, number-of-date}
-use Rattle.judge.proofs.Agreeing.{Agreeing, agreeing}
+use Rattle.judge.proofs.Agreeing.{agreeing}
 use Rattle.judge.proofs.SpanLaws.{is-said}
 use Rattle.judge.proofs.Tells.{Tells, none, single, tells, tells-same}
 

@@ -2,7 +2,7 @@
 use mathlib.Core.List.{map}
 use mathlib.Core.Path.{_≡_, refl}
 use Rattle.strptime.specs.Answers as answers
-use Rattle.strptime.specs.Reading as reading
+use Rattle.matching.specs.Steps as reading
 use Rattle.larusqem.specs.Cases.{Case, wordCases}
 use Rattle.larusqem.specs.Words.{more, wordsOf}
 

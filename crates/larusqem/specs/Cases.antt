@@ -3,7 +3,7 @@ use Prim.Native.Nat.{ℕ}
 use mathlib.Core.List.{List, [], _∷_}
 use Rattle.calendar.specs.Calendar.{date}
 use Rattle.strptime.specs.Answers.{readingOf}
-use Rattle.strptime.specs.Reading.{both}
+use Rattle.matching.specs.Steps.{both}
 use Rattle.strptime.specs.declared.Answer.{Answer}
 use Rattle.strptime.specs.declared.Answer.the-variants.{Done, NoMatch, OpenDay, OpenHour}
 use Rattle.strptime.specs.declared.Day.the-variants.{NoDate, On}

@@ -1,10 +1,16 @@
 // Runs the reader on the cases that compare/src/bin/vectors/read.rs makes. The input is pairs of lines: a format, and a text. A line of the
-// output is `number place date hour minute second | shown | examined | weekday month`: what is unsaid is -, shown has the first two days or
-// hours of number 10, the days examined are those of the engine that skips, and last come the forms of names.
+// output is `number place date hour minute second | shown | examined | weekday month | reason`: what is unsaid is -, shown has the first
+// two days or hours of number 10, the days examined are those of the engine that skips, then come the forms of names. The reason is -, or
+// each kind that quarrels with where its words begin and end, or the part in which two days differ, or two hours.
 use calendar::Date;
 use judge::Engine;
 use libc::STDOUT_FILENO;
-use report::line_end;
+use lists::line_end;
+use matching::Extent;
+use reasons::Explained;
+use reasons::Part;
+use reasons::Reason;
+use reasons::explain_by_format;
 use strptime::Day;
 use strptime::Reading;
 use strptime::Said;
@@ -106,6 +112,58 @@ fn print_reading(reading: Reading) {
     print(b" |");
     print_form(weekday);
     print_form(month);
+}
+
+// Where the words of a kind stand, if they stand anywhere.
+fn print_extent(kind: usize, extent: Extent) {
+    if extent.next == 0 {
+        return;
+    }
+    print(b" ");
+    io::print_decimal(STDOUT_FILENO, kind as u64);
+    print(b":");
+    io::print_decimal(STDOUT_FILENO, extent.from as u64);
+    print(b"-");
+    io::print_decimal(STDOUT_FILENO, extent.next as u64);
+}
+
+fn print_words(words: [Extent; kinds::KINDS]) {
+    let mut kind = 0;
+    while kind < kinds::KINDS {
+        print_extent(kind, words[kind]);
+        kind += 1;
+    }
+}
+
+fn print_part(part: Part) {
+    match part {
+        Part::Year => print(b" year"),
+        Part::Month => print(b" month"),
+        Part::Day => print(b" day"),
+    }
+}
+
+fn print_explained(explained: Explained) {
+    let reason = explained.reason;
+    let words = explained.words;
+    print(b" |");
+    match reason {
+        Reason::NoReason => print(b" -"),
+        Reason::Quarrel(_) => print_words(words),
+        Reason::Differ(part) => print_part(part),
+        Reason::Hours { first, second } => {
+            print(b" hours ");
+            print_number(first);
+            print(b" ");
+            print_number(second);
+        }
+    }
+}
+
+fn print_case(format: &[u8], text: &[u8]) {
+    let answer = strptime(Engine::Skipping, format, text);
+    print_reading(reading_of(answer));
+    print_explained(explain_by_format(answer, format, text));
     print(b"\n");
 }
 
@@ -126,14 +184,13 @@ fn print_readings(input: &[u8]) {
         let middle = line_end(input, at);
         let from = next_line(input, middle);
         let end = line_end(input, from);
-        let answer = strptime(Engine::Skipping, &input[at..middle], &input[from..end]);
-        print_reading(reading_of(answer));
+        print_case(&input[at..middle], &input[from..end]);
         at = next_line(input, end);
     }
 }
 
 fn main() {
-    let mut input = [0u8; 131072];
+    let mut input = [0u8; 262144];
     let n = io::read_full(0, &mut input);
     print_readings(&input[..n]);
 }

@@ -1,79 +1,52 @@
--- A line's number and place have at most four digits, over plain variables.
+-- A line's number and place have at most four digits, and so it has at most 30 bytes, over plain variables.
 -- Assumes nothing.
 use Prim.Native.Nat.{ℕ, _≤_, _<_}
 use mathlib.Core.List.{List}
+use mathlib.Core.Path.{_≡_, refl}
 use native.Mathlib.Omega.{arith}
-use lib.Dec.{eqb, leb, lit≤}
-use lib.ListN.{length, take}
-use Rattle.laws.proofs.Cases.{picked}
-use Rattle.format.specs.Opening.{longest, mostElements, elementsIn}
+use lib.Dec.{lit≤}
+use lib.ListN.{length, length-append}
+use Rattle.laws.specs.Bytes.{bytes}
 use Rattle.format.specs.declared.opening.Opened.{Opened}
-use Rattle.format.specs.declared.opening.Opened.the-variants.{Done, TooLong, Bad}
-use Rattle.format.specs.declared.opening.Side.the-variants.{Reader}
-use Rattle.judge.specs.Engines.{searched}
-use Rattle.judge.specs.Verdicts.{hourVerdict}
-use Rattle.judge.specs.declared.Engine.the-variants.{Skipping}
-use Rattle.judge.specs.declared.Searched.{Searched}
-use Rattle.judge.specs.declared.Searched.the-variants.{Judged, OverBudget}
-use Rattle.judge.specs.declared.Verdict.{Verdict}
-use Rattle.judge.specs.declared.Verdict.the-variants.{Unsaid, Impossible, Open, Agreed}
-use Rattle.report.specs.Parts.{readingBy}
-use Rattle.strptime.specs.Answers.{showing, refused, finished, naming, examining, overBudget, done, withHour, withDay, withSearched}
-use Rattle.strptime.specs.Answers.{judged, concluded, readBy, byElements, unlessLong, elementsReadingBy, elementsReading}
-use Rattle.strptime.specs.Reading.{start, noForms, readAll}
+use Rattle.lists.specs.Answers.{openedReading}
+use Rattle.lists.proofs.Figures.{opened-numbers, opened-place, date-length}
+use Rattle.report.specs.Line.{dayShown, saidShown, momentShown, lineOf}
 use Rattle.strptime.specs.declared.Day.{Day}
-use Rattle.strptime.specs.declared.Forms.{Forms}
-use Rattle.strptime.specs.declared.Outcome.{Outcome}
-use Rattle.strptime.specs.declared.Outcome.the-variants.{Read, Mismatch, Range, Conflict}
+use Rattle.strptime.specs.declared.Day.the-variants.{NoDate, On}
+use Rattle.strptime.specs.declared.Said.{Said}
+use Rattle.strptime.specs.declared.Said.the-variants.{Unsaid, Is}
+use Rattle.text.proofs.Fill.{plain-most}
+use Rattle.text.proofs.ReadBack.{filled-length}
 use Rattle.strptime.specs.declared.Reading.{Reading}
-use Rattle.strptime.specs.declared.State.{State}
-use Rattle.strptime.proofs.Places.{elements-place}
 
--- ---- a reading's number is at most 11
-module _ (t : State) where
-  hour-number : (d : Day) (v : Verdict) → withHour t d v .number ≤ 11
-  unfolding withHour done showing refused finished
-  hour-number d Unsaid = lit≤ tt
-  hour-number d Impossible = lit≤ tt
-  hour-number d (Open a b) = lit≤ tt
-  hour-number d (Agreed k) = lit≤ tt
+-- ---- how long a line is
+day-most : (d : Day) → length (dayShown d) ≤ 10
+unfolding dayShown bytes
+day-most NoDate = lit≤ tt
+day-most (On d) = omega (arith, date-length d)
 
-  day-number : (v w : Verdict) → withDay t v w .number ≤ 11
-  unfolding withDay showing refused
-  day-number Unsaid w = hour-number _ w
-  day-number Impossible w = lit≤ tt
-  day-number (Open a b) w = lit≤ tt
-  day-number (Agreed k) w = hour-number _ w
+said-two : (x : Said) → length (saidShown x) ≡ 2
+unfolding saidShown bytes
+said-two Unsaid = refl
+said-two (Is n) = filled-length 48 2 n
 
-  searched-number : (x : Searched) (w : Verdict) → withSearched t x w .number ≤ 11
-  unfolding withSearched examining overBudget showing refused
-  searched-number (Judged v n) w = day-number v w
-  searched-number (OverBudget b) w = lit≤ tt
+moment-most : (d : Day) (h m c : Said) → length (momentShown d h m c) ≤ 19
+unfolding momentShown bytes
+moment-most d h m c = simp length-append (omega (arith, day-most d, said-two h, said-two m, said-two c))
 
-  concluded-number : (fs : Forms) (o : Outcome) → concluded Skipping t fs o .number ≤ 11
-  unfolding concluded naming judged showing refused
-  concluded-number fs Read = searched-number (searched Skipping (t .facts)) (hourVerdict (t .facts))
-  concluded-number fs (Mismatch p) = lit≤ tt
-  concluded-number fs (Range p) = lit≤ tt
-  concluded-number fs (Conflict p) = lit≤ tt
+line-most : (r : Reading) → r .number < 10000 → r .place < 10000 → length (lineOf r) ≤ 30
+unfolding lineOf bytes
+line-most r p q =
+    simp length-append
+    (omega (
+      arith,
+      plain-most 4 (r .number) (lit≤ tt) (omega arith),
+      plain-most 4 (r .place) (lit≤ tt) (omega arith),
+      moment-most (r .day) (r .hour) (r .minute) (r .second),
+    ))
 
-by-number : (es s : List ℕ) → byElements Skipping es s .number ≤ 11
-unfolding byElements readBy showing refused
-by-number es s =
-    let r = readAll es s start noForms in
-    picked (λ (x : Reading). x .number ≤ 11) (eqb (elementsIn Reader mostElements es) (length es))
-    (concluded-number (r .state) (r .forms) (r .outcome)) (lit≤ tt)
-
-elements-number : (es s : List ℕ) → elementsReading es s .number ≤ 11
-unfolding elementsReadingBy unlessLong showing refused
-elements-number es s = picked (λ (x : Reading). x .number ≤ 11) (leb (length s) longest) (by-number es s) (lit≤ tt)
-
--- ---- its place is at most the most elements
-abbrev Short : Reading → Type 0
-Short r = (r .number < 10000) × (r .place < 10000)
-
-pub short : (o : Opened) (es s : List ℕ) → Short (readingBy o es s)
-unfolding readingBy unlessLong showing refused
-short (Done n) es s = (omega (arith, elements-number (take n es) s), omega (arith, elements-place (take n es) s))
-short TooLong es s = (lit≤ tt, lit≤ tt)
-short (Bad p) es s = picked Short (leb (length s) longest) (lit≤ tt, omega arith) (lit≤ tt, lit≤ tt)
+-- of a text as it is read
+pub line-short : (o : Opened) (es s : List ℕ) → length (lineOf (openedReading o es s)) ≤ 30
+line-short o es s =
+    let n = opened-numbers (λ n x. n ≤ 11) (λ n h. h) (λ a b. lit≤ tt) (λ a b h i. lit≤ tt) o es s in
+    line-most (openedReading o es s) (omega arith) (omega (arith, opened-place o es s))

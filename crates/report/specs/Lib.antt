@@ -1,5 +1,3 @@
 -- What the report on a list of texts says.
-pub mod Lines
 pub mod Line
 pub mod Report
-pub mod Parts

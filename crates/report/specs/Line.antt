@@ -1,18 +1,14 @@
 -- A line of the report: `number place date time` (RULES 9).
 use Prim.Native.Nat.{ℕ}
 use mathlib.Core.List.{List, _++_}
-use Rattle.calendar.specs.declared.Date.{Date}
 use Rattle.laws.specs.Bytes.{bytes}
+use Rattle.lists.specs.Putting.{dateShown}
 use Rattle.strptime.specs.declared.Day.{Day}
 use Rattle.strptime.specs.declared.Day.the-variants.{NoDate, On}
 use Rattle.strptime.specs.declared.Reading.{Reading}
 use Rattle.strptime.specs.declared.Said.{Said}
 use Rattle.strptime.specs.declared.Said.the-variants.{Unsaid, Is}
 use Rattle.text.specs.Digits.{filled, plain}
-
--- a date, as YYYY-MM-DD
-unfoldable pub dateShown : Date → List ℕ
-dateShown d = filled 48 4 (d .year) ++ (bytes "-" ++ (filled 48 2 (d .month) ++ (bytes "-" ++ filled 48 2 (d .day))))
 
 -- an unsaid day is `-`
 unfoldable pub dayShown : Day → List ℕ

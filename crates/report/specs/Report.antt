@@ -1,12 +1,12 @@
 -- The whole report (RULES 9).
 use Prim.Native.Nat.{ℕ}
-use mathlib.Core.Bool.{cond}
 use mathlib.Core.List.{List, [], _∷_, _++_}
-use lib.Dec.{leb}
-use lib.ListN.{length}
+use lib.ListN.{drop}
+use Rattle.format.specs.declared.opening.Opened.{Opened}
 use Rattle.laws.specs.Bytes.{bytes}
+use Rattle.lists.specs.Answers.{openedReading}
+use Rattle.lists.specs.Lines.{lines, onLines}
 use Rattle.report.specs.Line.{lineOf}
-use Rattle.report.specs.Lines.{lines}
 use Rattle.strptime.specs.Answers.{reading}
 use Rattle.strptime.specs.declared.Reading.{Reading}
 
@@ -23,9 +23,10 @@ unfoldable pub reportOn : List (List ℕ) → List ℕ
 reportOn [] = header
 reportOn (f ∷ ts) = header ++ answered (reading f) ts
 
--- a longer input gives the line `too long` alone
-abbrev pub longestInput : ℕ
-longestInput = 32768
-
+-- on an input
 unfoldable pub reportOf : List ℕ → List ℕ
-reportOf s = let report = reportOn (lines s) in cond (leb (length s) longestInput) report (bytes "too long\n")
+reportOf s = onLines reportOn s
+
+-- the lines for the texts of an input from a place on, by what opening the format answered and stored
+abbrev pub linesBy : Opened → List ℕ → List ℕ → ℕ → List ℕ
+linesBy o es s from = answered (openedReading o es) (lines (drop from s))

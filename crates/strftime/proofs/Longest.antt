@@ -4,7 +4,7 @@
 use Prim.Native.Char.{code}
 use Prim.Native.Nat.{ℕ, zero, suc, max, _+_, _-_, _*_, _/_, _%_, _≤_, _<_}
 use mathlib.Core.Bool.{true}
-use mathlib.Core.List.{List, [], _∷_, _++_, map}
+use mathlib.Core.List.{List, [], _∷_, _++_}
 use mathlib.Core.Path.{_≡_, refl}
 use native.Mathlib.Decide.{decLe}
 use native.Mathlib.Nat.{sub-zero, lt-of-not-le}
@@ -14,11 +14,11 @@ use lib.Dec.{T, eqb, leb, leb→le, ltb→lt}
 use lib.ListN.{length, drop, length-append, length-drop}
 use Rattle.laws.specs.Bytes.{bytes}
 use Rattle.laws.specs.Lists.{every}
-use Rattle.laws.proofs.Cases.{either, picked, clash}
+use Rattle.laws.proofs.Cases.{either, picked}
 use Rattle.laws.proofs.Table.{both}
 use Rattle.calendar.specs.Calendar.{date}
 use Rattle.text.proofs.Fill.{plain-most}
-use Rattle.format.specs.Conversions.{Row, rows, conversionOf, isConversion, isNumber, ownFormat, computes as rows-compute}
+use Rattle.format.specs.Conversions.{conversionOf, isNumber, ownFormat, computes as rows-compute}
 use Rattle.format.specs.Opening.{Ended, Opening, longest, conversionAt, isByte, letterOf, styleOf, flagRun, widthRun, styleFrom, takesFlag}
 use Rattle.format.specs.Opening.{after-E, after-O, paired, conversion, isUnstyled, withStyle, styled, signed, pieceOf}
 use Rattle.format.specs.Opening.{nothing, before, composed, acted, signAt, openFrom, compositeTo, openTo, opening}

@@ -9,10 +9,10 @@ use Rattle.format.specs.Opening.{Whole, BadAt, longest, opening, mostElements, 
 use Rattle.format.specs.declared.opening.Side.the-variants.{Reader}
 use Rattle.judge.specs.declared.Engine.{Engine}
 use Rattle.strptime.specs.Answers.{refused, concluded, readBy, byFormat, byElements, unlessLong, readingBy, elementsReadingBy}
-use Rattle.strptime.specs.Reading.{start, noForms, readAll}
-use Rattle.strptime.specs.declared.Outcome.{Outcome}
+use Rattle.matching.specs.Steps.{start, noForms, readAll}
+use Rattle.matching.specs.declared.Outcome.{Outcome}
 use Rattle.strptime.specs.declared.Reading.{Reading}
-use Rattle.strptime.specs.declared.Stepped.{Stepped}
+use Rattle.matching.specs.declared.Stepped.{Stepped}
 
 -- ---- what the elements' reading comes to
 pub by-outcome : (e : Engine) (es s : List ℕ) {r : Stepped} {o : Outcome} {a : Reading}

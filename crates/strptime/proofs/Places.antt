@@ -26,14 +26,14 @@ use Rattle.judge.proofs.Engines.{searched-over}
 use Rattle.strptime.specs.Answers.{showing, refused, finished, naming, examining, overBudget, done, withHour, withDay, withSearched}
 use Rattle.strptime.specs.Answers.{judged, concluded, readBy, byFormat, byElements, unlessLong, readingBy, elementsReadingBy}
 use Rattle.strptime.specs.Answers.{reading, elementsReading}
-use Rattle.strptime.specs.Reading.{start, stays, noForms, stepOn, isRead, readAll}
+use Rattle.matching.specs.Steps.{start, stays, noForms, stepOn, isRead, readAll}
 use Rattle.strptime.specs.declared.Day.{Day}
-use Rattle.strptime.specs.declared.Forms.{Forms}
-use Rattle.strptime.specs.declared.Outcome.{Outcome}
-use Rattle.strptime.specs.declared.Outcome.the-variants.{Read, Mismatch, Range, Conflict}
+use Rattle.matching.specs.declared.Forms.{Forms}
+use Rattle.matching.specs.declared.Outcome.{Outcome}
+use Rattle.matching.specs.declared.Outcome.the-variants.{Read, Mismatch, Range, Conflict}
 use Rattle.strptime.specs.declared.Reading.{Reading}
-use Rattle.strptime.specs.declared.State.{State}
-use Rattle.strptime.proofs.Walk.{Placed, Within, step-placed}
+use Rattle.matching.specs.declared.State.{State}
+use Rattle.matching.proofs.Walk.{Placed, Within, step-placed}
 
 pub all-within : (es s : List ℕ) (t : State) (fs : Forms) → t .at ≤ length s → Within s (readAll es s t fs)
 unfolding readAll stays Placed

@@ -17,22 +17,22 @@ use Rattle.judge.specs.declared.Searched.{Searched}
 use Rattle.judge.specs.declared.Searched.the-variants.{Judged, OverBudget as TooFew}
 use Rattle.judge.specs.declared.Verdict.{Verdict}
 use Rattle.judge.specs.declared.Verdict.the-variants.{Unsaid as NotSaid, Impossible, Open, Agreed}
-use Rattle.strptime.specs.Reading.{start, noForms, readAll}
+use Rattle.matching.specs.Steps.{start, noForms, readAll}
 use Rattle.strptime.specs.declared.Answer.{Answer}
 use Rattle.strptime.specs.declared.Answer.the-variants.{Done, FormatTooLong, TextTooLong, BadConversion}
 use Rattle.strptime.specs.declared.Answer.the-variants.{NoMatch, OutOfRange, Contradiction}
 use Rattle.strptime.specs.declared.Answer.the-variants.{NoDay, NoHour, OpenDay, OpenHour, OverBudget}
 use Rattle.strptime.specs.declared.Day.{Day}
 use Rattle.strptime.specs.declared.Day.the-variants.{NoDate, On}
-use Rattle.strptime.specs.declared.Forms.{Forms}
-use Rattle.strptime.specs.declared.Outcome.{Outcome}
-use Rattle.strptime.specs.declared.Outcome.the-variants.{Read, Mismatch, Range, Conflict}
+use Rattle.matching.specs.declared.Forms.{Forms}
+use Rattle.matching.specs.declared.Outcome.{Outcome}
+use Rattle.matching.specs.declared.Outcome.the-variants.{Read, Mismatch, Range, Conflict}
 use Rattle.strptime.specs.declared.Reading.{Reading}
 use Rattle.strptime.specs.declared.Said.{Said}
 use Rattle.strptime.specs.declared.Said.the-variants.{Unsaid, Is}
 use Rattle.strptime.specs.declared.Shown.{Shown}
 use Rattle.strptime.specs.declared.Shown.the-variants.{Nothing, Days, Hours}
-use Rattle.strptime.specs.declared.State.{State}
+use Rattle.matching.specs.declared.State.{State}
 
 -- ---- the numbers
 

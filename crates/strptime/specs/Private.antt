@@ -2,9 +2,9 @@
 use mathlib.Core.Path.{_≡_}
 use Rattle.judge.specs.Verdicts.{hourVerdict}
 use Rattle.strptime.specs.Answers.{examining, naming, readingOf, withHour}
-use Rattle.strptime.specs.declared.Forms.{Forms}
+use Rattle.matching.specs.declared.Forms.{Forms}
 use Rattle.strptime.specs.declared.Reading.{Reading}
-use Rattle.strptime.specs.declared.State.{State}
+use Rattle.matching.specs.declared.State.{State}
 use Rattle.strptime.specs.declared.answers.Dated.{Dated}
 use Rattle.strptime.specs.declared.answers.Dated.the-variants.{Fixed, Refused}
 

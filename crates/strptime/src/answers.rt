@@ -1,13 +1,9 @@
 // The reader's answer: what was read, then the day, then the hour.
 use crate::Answer;
 use crate::Day;
-use crate::Forms;
-use crate::Outcome;
 use crate::Reading;
 use crate::Said;
 use crate::Shown;
-use crate::State;
-use crate::steps::read_all;
 use calendar::Date;
 use calendar::FromNumber;
 use format::LONGEST;
@@ -27,6 +23,10 @@ use judge::Searched;
 use judge::Verdict;
 use judge::judge_day;
 use judge::judge_hour;
+use matching::Forms;
+use matching::Outcome;
+use matching::State;
+use matching::read_all;
 use text::NameForm;
 ghost use mathlib.Core.Path.{_≡_};
 ghost use Prim.Native.Nat.{_*_, _≤_, _<_};

@@ -1,42 +1,12 @@
 // The reader (RULES 6): a format and a text; the facts that the text says, and the day and hour that they fix.
 use calendar::Date;
-use judge::Facts;
-use text::NameForm;
+use matching::Forms;
 
 mod answers;
-mod elements;
-mod steps;
 
 pub use answers::read_elements;
 pub use answers::reading_of;
 pub use answers::strptime;
-
-// Where a reading stands: the facts so far, and the first unread offset of the text.
-pub struct State {
-    pub facts: Facts,
-    pub at: usize,
-}
-
-// The forms of the last weekday name and of the last month name that were read.
-pub struct Forms {
-    pub weekday: NameForm,
-    pub month: NameForm,
-}
-
-// How the reading of elements went: all are read, or one is refused, with its place.
-pub enum Outcome {
-    Read,
-    Mismatch { at: usize },
-    Range { at: usize },
-    Conflict { at: usize },
-}
-
-// The forms stand beside the state, and not in it: as two bytes of what is copied whole they would cost 7 ns a reading.
-pub struct Stepped {
-    pub state: State,
-    pub forms: Forms,
-    pub outcome: Outcome,
-}
 
 // The day of a finished reading.
 pub enum Day {

@@ -1,7 +1,7 @@
 //! Every flag and width before every letter: written, opened and read, against the rules.
 use crate::elements::Opened;
-use crate::library::{self, Lent, SKIPPING, WORDS};
-use crate::readings::words;
+use crate::library::{self, By, Lent, SKIPPING};
+use crate::readings::{explained_otherwise, read_otherwise};
 use compare::random::Random;
 use compare::rules::{self, Calendar, Engine, Moment, Use};
 
@@ -76,17 +76,17 @@ fn compare_openings(random: &mut Random, format: &[u8], differs: &mut impl FnMut
 /// What was written, by the format and by the elements that it opens to for writing.
 fn compare_readings(random: &mut Random, cal: &Calendar, format: &[u8], differs: &mut impl FnMut(&dyn std::fmt::Debug)) {
     let text = rules::write(cal, format, &MOMENTS[0], usize::MAX).2;
-    let reading = rules::read(cal, Engine::Skipping, format, &text);
+    let (reading, reason) = rules::explain(cal, Engine::Skipping, format, &text);
     let opened = Opened::new(format, Use::Writing);
-    let mut compare_words = |by: &str, call: &dyn Fn(&mut [u32]) -> (u32, u32)| {
-        let mut lent = Lent::new(random, WORDS, |n| n as u32);
-        let found = call(lent.slice());
-        if found != (reading.number, reading.place) || !lent.is(&words(&reading)) {
-            differs(&(by, String::from_utf8_lossy(format), &text, found, lent.slice().to_vec(), &reading));
+    let mut compare_by = |by: By| {
+        let read = read_otherwise(random, by, &text, SKIPPING, &reading);
+        let explained = explained_otherwise(random, by, &text, reason.as_ref());
+        if read.is_some() || explained.is_some() {
+            differs(&(by, &text, read, explained, &reading, &reason));
         }
     };
-    compare_words("format", &|lent| library::strptime(format, &text, SKIPPING, lent));
+    compare_by(By::Format(format));
     if opened.whole {
-        compare_words("elements", &|lent| library::read(&opened.elements, &text, SKIPPING, lent));
+        compare_by(By::Elements(&opened.elements));
     }
 }

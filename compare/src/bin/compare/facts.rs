@@ -1,13 +1,13 @@
 //! Sets of date facts: of every set of kinds, agreeing with a day and quarrelling, most of them without a year.
 use crate::elements::Opened;
-use crate::library;
-use crate::readings::{self, READ, STRPTIME};
+use crate::library::By;
+use crate::readings::{self, Engines, Judged, READ, STRPTIME};
 use crate::Tally;
 use compare::random::Random;
 use compare::rules::{self, numeric, Calendar, Day, Facts, Use, DAYS};
 
 /// The conversion that says each kind from 1 to 12.
-const LETTERS: &[u8; 12] = b"YCymdjuUWGgV";
+pub const LETTERS: &[u8; 12] = b"YCymdjuUWGgV";
 
 /// How far another day may lie for a fact to quarrel by little: days, weeks, a month, years, and the days of 400 years.
 const APART: [i64; 12] = [-1, 1, -7, 7, 30, -31, 365, -365, 366, -366, 146_097, -146_097];
@@ -26,7 +26,7 @@ const WHOLE: [(&str, &str); 9] = [
 ];
 
 /// A day: any, or one at the turn of a year, also of years 1, 9999, the first and the last of a century, or a leap day.
-fn day(random: &mut Random, cal: &Calendar) -> usize {
+pub fn day(random: &mut Random, cal: &Calendar) -> usize {
     let year = match random.below(6) {
         0 => random.from(1, 9999),
         1 => random.from(1, 2),
@@ -45,7 +45,7 @@ fn day(random: &mut Random, cal: &Calendar) -> usize {
 }
 
 /// A number that a kind can have.
-fn number(random: &mut Random, kind: usize) -> u32 {
+pub fn number(random: &mut Random, kind: usize) -> u32 {
     let (_, _, least, greatest) = numeric(LETTERS[kind - 1]).unwrap();
     random.from(least, greatest)
 }
@@ -85,18 +85,20 @@ pub fn compare_set(random: &mut Random, cal: &Calendar, tally: &mut Tally, kinds
         format += &format!("%{} ", LETTERS[kind - 1] as char);
         text += &format!("{} ", facts[kind].unwrap());
     }
-    compare_both(random, cal, tally, &format, text.as_bytes(), false);
+    compare_both(random, cal, tally, &format, text.as_bytes(), Engines::Drawn);
 }
 
 /// Both readers on a text: by the format, and by what it opens to.
-pub fn compare_both(random: &mut Random, cal: &Calendar, tally: &mut Tally, format: &str, text: &[u8], whole: bool) {
-    let matched = rules::matched(cal, format.as_bytes(), text);
+pub fn compare_both(random: &mut Random, cal: &Calendar, tally: &mut Tally, format: &str, text: &[u8], how_many: Engines) {
+    let judged = Judged::new(cal, rules::matched(cal, format.as_bytes(), text));
+    compare_judged(random, tally, format, text, how_many, &judged);
+}
+
+/// The same, where it is known what the text comes to.
+pub fn compare_judged(random: &mut Random, tally: &mut Tally, format: &str, text: &[u8], how_many: Engines, judged: &Judged) {
     let elements = Opened::new(format.as_bytes(), Use::Reading).elements;
-    let case = (format, text.escape_ascii().to_string());
-    readings::compare(random, tally, &READ, &matched, whole, &case, |told, lent| library::read(&elements, text, told, lent));
-    readings::compare(random, tally, &STRPTIME, &matched, whole, &case, |told, lent| {
-        library::strptime(format.as_bytes(), text, told, lent)
-    });
+    readings::compare(random, tally, &READ, how_many, By::Elements(&elements), text, judged);
+    readings::compare(random, tally, &STRPTIME, how_many, By::Format(format.as_bytes()), text, judged);
 }
 
 /// Every set of kinds 1 to 12, some times over, and the whole searches. Returns how many sets of facts there were.
@@ -110,7 +112,7 @@ pub fn compare(random: &mut Random, cal: &Calendar, tally: &mut Tally) -> usize 
         }
     }
     for (format, text) in WHOLE {
-        compare_both(random, cal, tally, format, text.as_bytes(), true);
+        compare_both(random, cal, tally, format, text.as_bytes(), Engines::All);
         count += 1;
     }
     count
@@ -122,7 +124,8 @@ pub fn check_search(random: &mut Random, cal: &Calendar, tally: &mut Tally) {
         let kinds = drawn(random);
         let quarrels = random.below(2);
         let facts = facts(random, cal, &kinds, quarrels);
-        if cal.search(&facts) != cal.search_slowly(&facts) {
+        let slowly = cal.search_slowly(&facts);
+        if cal.search(&facts) != slowly || cal.any_agrees(&facts) == slowly.days.is_empty() {
             tally.differs("rules.rs, the fast search", &facts);
         }
     }

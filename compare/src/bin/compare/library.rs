@@ -2,8 +2,9 @@
 use compare::random::Random;
 use compare::rules::Moment;
 
-/// The words of a reading.
+/// The words of a reading, and those of a reason.
 pub const WORDS: usize = 18;
+pub const REASON_WORDS: usize = 33;
 const GUARD: usize = 24;
 
 mod raw {
@@ -36,6 +37,20 @@ mod raw {
             budget: u32,
             reading: *mut u32,
         ) -> u64;
+        pub fn larusqem_explain_words(
+            format: *const u8,
+            format_length: usize,
+            text: *const u8,
+            text_length: usize,
+            reason: *mut u32,
+        );
+        pub fn larusqem_explain_read_words(
+            elements: *const u32,
+            elements_length: usize,
+            text: *const u8,
+            text_length: usize,
+            reason: *mut u32,
+        );
         pub fn larusqem_open_words(
             format: *const u8,
             format_length: usize,
@@ -85,6 +100,48 @@ pub fn read(elements: &[u32], text: &[u8], told: Told, reading: &mut [u32]) -> (
     assert_eq!(reading.len(), WORDS);
     let (elements_start, text_start, reading) = (elements.as_ptr(), text.as_ptr(), reading.as_mut_ptr());
     split(unsafe { raw::larusqem_read_words(elements_start, elements.len(), text_start, text.len(), told.engine, told.budget, reading) })
+}
+
+pub fn explain(format: &[u8], text: &[u8], reason: &mut [u32]) {
+    assert_eq!(reason.len(), REASON_WORDS);
+    unsafe { raw::larusqem_explain_words(format.as_ptr(), format.len(), text.as_ptr(), text.len(), reason.as_mut_ptr()) }
+}
+
+pub fn explain_read(elements: &[u32], text: &[u8], reason: &mut [u32]) {
+    assert_eq!(reason.len(), REASON_WORDS);
+    unsafe { raw::larusqem_explain_read_words(elements.as_ptr(), elements.len(), text.as_ptr(), text.len(), reason.as_mut_ptr()) }
+}
+
+/// What a text is read by.
+#[derive(Clone, Copy)]
+pub enum By<'a> {
+    Format(&'a [u8]),
+    Elements(&'a [u32]),
+}
+
+impl By<'_> {
+    pub fn read(&self, text: &[u8], told: Told, reading: &mut [u32]) -> (u32, u32) {
+        match self {
+            By::Format(format) => strptime(format, text, told, reading),
+            By::Elements(elements) => read(elements, text, told, reading),
+        }
+    }
+
+    pub fn explain(&self, text: &[u8], reason: &mut [u32]) {
+        match self {
+            By::Format(format) => explain(format, text, reason),
+            By::Elements(elements) => explain_read(elements, text, reason),
+        }
+    }
+}
+
+impl std::fmt::Debug for By<'_> {
+    fn fmt(&self, f: &mut std::fmt::Formatter) -> std::fmt::Result {
+        match self {
+            By::Format(format) => write!(f, "\"{}\"", format.escape_ascii()),
+            By::Elements(elements) => elements.fmt(f),
+        }
+    }
 }
 
 /// For reading where `for_writing` is 0, and for writing where it is any other number.

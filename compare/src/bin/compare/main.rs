@@ -1,6 +1,7 @@
 //! Compares the proved library with an independent implementation of the rules (`rules.rs`) on random cases, on every flag and width, on
-//! every set of kinds of facts and on every beginning of a name, its readings by every engine, its writer with the C library's strftime on
-//! every day of the years 1000 to 9999 and on flags and widths, and its white space with isspace on every byte.
+//! every set of kinds of facts, on every beginning of a name and on kinds that quarrel, its readings by every engine and with reasons, its
+//! writer with the C library's strftime on every day of the years 1000 to 9999 and on flags and widths, and its white space with isspace on
+//! every byte.
 //! Usage: compare SECONDS [SEED]
 mod c_columns;
 mod c_days;
@@ -11,25 +12,28 @@ mod elements;
 mod facts;
 mod library;
 mod names;
+mod quarrels;
 mod readings;
 mod speed;
 
 use compare::random::Random;
-use compare::rules::{self, Calendar, Reading, Use};
+use compare::rules::{self, Calendar, Reading, Reason, Use};
 use elements::Opened;
-use library::Lent;
-use readings::{form_number, READ, STRANGE, STRPTIME};
+use library::{By, Lent};
+use readings::{form_number, Engines, Judged, READ, STRANGE, STRPTIME};
 use std::collections::BTreeMap;
 use std::time::{Duration, Instant};
 
 /// What tells the writings by a format with flags and widths apart.
 const COLUMNS: &str = "flags and widths";
 
-/// How often each outcome came: a function, a number, and what tells its cases apart; and each form of weekday and month names, or none.
+/// How often each outcome came: a function, a number, and what tells its cases apart; each form of weekday and month names, or none; and
+/// each sort of reason, or none, with how many kinds it names.
 #[derive(Default)]
 struct Tally {
     counts: BTreeMap<(&'static str, u32, &'static str), u64>,
     forms: [[u64; 4]; 2],
+    reasons: BTreeMap<(&'static str, usize), u64>,
     differences: u64,
 }
 
@@ -50,6 +54,17 @@ impl Tally {
         for (counts, form) in self.forms.iter_mut().zip([r.forms.weekday, r.forms.month]) {
             counts[form_number(form)] += 1;
         }
+    }
+
+    fn count_reason(&mut self, reason: Option<&Reason>) {
+        let sort = match reason {
+            Some(Reason::Quarrel(named)) if named[0].0 <= 12 => ("quarrel on the day", named.len()),
+            Some(Reason::Quarrel(named)) => ("quarrel on the hour", named.len()),
+            Some(Reason::Differ(part)) => (part.name(), 0),
+            Some(Reason::Hours(_)) => ("hours", 0),
+            None => ("none", 0),
+        };
+        *self.reasons.entry(sort).or_insert(0) += 1;
     }
 
     fn differs(&mut self, function: &str, case: &dyn std::fmt::Debug) {
@@ -106,13 +121,11 @@ fn compare_write(random: &mut Random, cal: &Calendar, tally: &mut Tally, functio
 /// reading.
 fn compare_reading(random: &mut Random, cal: &Calendar, tally: &mut Tally, format: &[u8], opened: &Opened) {
     let text = cases::text(random, cal, &opened.items);
-    let matched = rules::matched(cal, format, &text);
+    let judged = Judged::new(cal, rules::matched(cal, format, &text));
     if opened.whole {
-        let case = (&opened.elements, &text);
-        readings::compare(random, tally, &READ, &matched, false, &case, |told, lent| library::read(&opened.elements, &text, told, lent));
+        readings::compare(random, tally, &READ, Engines::Drawn, By::Elements(&opened.elements), &text, &judged);
     }
-    let case = (format, &text);
-    readings::compare(random, tally, &STRPTIME, &matched, false, &case, |told, lent| library::strptime(format, &text, told, lent));
+    readings::compare(random, tally, &STRPTIME, Engines::Drawn, By::Format(format), &text, &judged);
 }
 
 fn compare_opening(random: &mut Random, tally: &mut Tally, format: &[u8], opened: &Opened, side: Use) {
@@ -198,9 +211,8 @@ fn compare_strange(random: &mut Random, cal: &Calendar, tally: &mut Tally) {
     if random.chance(50) {
         text.truncate(1024 - random.below(4));
     }
-    let matched = rules::matched_opened(cal, &opened, &text);
-    let case = (&entries, &text);
-    readings::compare(random, tally, &STRANGE, &matched, false, &case, |told, lent| library::read(&entries, &text, told, lent));
+    let judged = Judged::new(cal, rules::matched_opened(cal, &opened, &text));
+    readings::compare(random, tally, &STRANGE, Engines::Drawn, By::Elements(&entries), &text, &judged);
 }
 
 /// Every day of the calendar, and numbers and fields that are none.
@@ -292,6 +304,9 @@ fn main() {
     let texts = names::compare(&mut random, &cal, &mut tally);
     println!("{:6.1} s  {texts} texts of every beginning of every name, before each byte", began.elapsed().as_secs_f64());
 
+    let texts = quarrels::compare(&mut random, &cal, &mut tally);
+    println!("{:6.1} s  {texts} texts of kinds that quarrel, each kind's number changed, and of all hours", began.elapsed().as_secs_f64());
+
     let cases_began = Instant::now();
     let mut formats = 0u64;
     while cases_began.elapsed() < Duration::from_secs(seconds) {
@@ -305,6 +320,10 @@ fn main() {
         for _ in 0..40 {
             let kinds = facts::drawn(&mut random);
             facts::compare_set(&mut random, &cal, &mut tally, &kinds);
+        }
+        for _ in 0..2 {
+            let kind = 1 + random.below(12);
+            quarrels::compare_changed(&mut random, &cal, &mut tally, kind, 500);
         }
     }
     println!("{:6.1} s  {formats} random formats, and with flags and widths", began.elapsed().as_secs_f64());
@@ -330,6 +349,20 @@ fn main() {
     for (what, [_, full, middle, short]) in ["weekday", "month"].iter().zip(tally.forms) {
         println!("readings that gave the form of a {what}: {full} full, {middle} middle, {short} short");
     }
+    let reasons = |sort: &str| tally.reasons.iter().filter(|((s, _), _)| *s == sort).map(|(_, n)| n).sum::<u64>();
+    println!(
+        "readings with a reason: {} by kinds that quarrel on the day, {} on the hour; days that differ in the year {}, in the month {}, in \
+         the day {}; hours {}; without one {}",
+        reasons("quarrel on the day"),
+        reasons("quarrel on the hour"),
+        reasons("year"),
+        reasons("month"),
+        reasons("day"),
+        reasons("hours"),
+        reasons("none")
+    );
+    let of_kinds = |count: usize| tally.reasons.get(&("quarrel on the day", count)).unwrap_or(&0);
+    println!("kinds that quarrel on the day: two {}, three {}, four {}, five {}", of_kinds(2), of_kinds(3), of_kinds(4), of_kinds(5));
     println!("\nspeed of the library alone, one thread:");
     speed::measure();
     println!("\n{total} cases, {} differences", tally.differences);

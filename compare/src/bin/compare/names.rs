@@ -2,6 +2,7 @@
 //! leaves one day for each name.
 use crate::cases::in_any_case;
 use crate::facts::compare_both;
+use crate::readings::Engines;
 use crate::Tally;
 use compare::random::Random;
 use compare::rules::{forms_of, Calendar, MONTHS, WEEKDAYS};
@@ -18,7 +19,8 @@ pub fn compare(random: &mut Random, cal: &Calendar, tally: &mut Tally) -> usize 
                 let mut text = text.as_bytes().to_vec();
                 text.extend(in_any_case(random, beginning));
                 text.extend(after);
-                compare_both(random, cal, tally, &format, &text, is_form && after.is_none());
+                let how_many = if is_form && after.is_none() { Engines::All } else { Engines::Drawn };
+                compare_both(random, cal, tally, &format, &text, how_many);
                 count += 1;
             }
         }

@@ -1,9 +1,9 @@
-//! Readings by every engine: the skipping one, the plain one, and the plain one with budgets about the days that it examines.
-use crate::library::{Lent, Told, WORDS};
+//! Readings by every engine: the skipping one, the plain one, and the plain one with budgets about the days that it examines; and their
+//! reasons.
+use crate::library::{By, Lent, Told, REASON_WORDS, WORDS};
 use crate::Tally;
 use compare::random::Random;
-use compare::rules::{Engine, Form, Matched, Reading};
-use std::fmt::Debug;
+use compare::rules::{Calendar, Engine, Form, Matched, Part, Reading, Reason};
 
 /// The days that the plain engine may examine for a case, on the average: a search of more days is run less often, by so much.
 const FEW: u32 = 3000;
@@ -56,6 +56,54 @@ pub fn words(r: &Reading) -> [u32; WORDS] {
     w
 }
 
+/// A reason, or none, as its 33 words (RULES 10).
+pub fn reason_words(reason: Option<&Reason>) -> [u32; REASON_WORDS] {
+    let mut w = [0; REASON_WORDS];
+    match reason {
+        Some(Reason::Quarrel(named)) => {
+            for (kind, words) in named {
+                w[2 * kind + 1] = words.from as u32;
+                w[2 * kind + 2] = words.next as u32;
+            }
+        }
+        Some(Reason::Differ(Part::Year)) => w[0] = 1,
+        Some(Reason::Differ(Part::Month)) => w[0] = 2,
+        Some(Reason::Differ(Part::Day)) => w[0] = 3,
+        Some(Reason::Hours(_)) | None => {}
+    }
+    w
+}
+
+/// What a text comes to by the rules, and its reason, which is the same by every engine (RULES 8.5).
+pub struct Judged {
+    pub matched: Matched,
+    pub reason: Option<Reason>,
+}
+
+impl Judged {
+    pub fn new(cal: &Calendar, matched: Matched) -> Judged {
+        let reason = matched.reason(cal, &matched.reading(Engine::Skipping));
+        Judged { matched, reason }
+    }
+
+}
+
+/// What the library finds for a text, if it is not this.
+pub fn read_otherwise(random: &mut Random, by: By, text: &[u8], told: Told, reading: &Reading) -> Option<String> {
+    let mut lent = Lent::new(random, WORDS, |n| n as u32);
+    let answer = by.read(text, told, lent.slice());
+    let agrees = answer == (reading.number, reading.place) && lent.is(&words(reading));
+    (!agrees).then(|| format!("found {answer:?} {:?}", lent.slice()))
+}
+
+/// The same for its reason.
+pub fn explained_otherwise(random: &mut Random, by: By, text: &[u8], reason: Option<&Reason>) -> Option<String> {
+    let mut lent = Lent::new(random, REASON_WORDS, |n| n as u32);
+    by.explain(text, lent.slice());
+    let agrees = lent.is(&reason_words(reason));
+    (!agrees).then(|| format!("explained {:?}", lent.slice()))
+}
+
 /// Any budget, and any number but 0 and 1 for the engine that looks at it.
 fn told(random: &mut Random, engine: Engine) -> Told {
     let any = random.next() as u32 >> random.below(32);
@@ -66,10 +114,23 @@ fn told(random: &mut Random, engine: Engine) -> Told {
     }
 }
 
-/// The engines that a case is read by: always the skipping one, and a small budget. Where the plain one examines few days, or once in a
-/// while, or `whole`, also that, and budgets at that number of days, one above and one below, and the greatest. Where nothing is searched,
-/// once in a while too.
-fn engines(random: &mut Random, matched: &Matched, whole: bool) -> Vec<Engine> {
+/// How many engines a case is read by.
+#[derive(Clone, Copy, PartialEq, Eq)]
+pub enum Engines {
+    /// The skipping one.
+    Skipping,
+    /// That, and a small budget. Where the plain one examines few days, or once in a while, also that; where nothing is searched, once in
+    /// a while too.
+    Drawn,
+    All,
+}
+
+/// The engines that a case is read by: with the plain one come budgets at the days that it examines, one above and one below, and the
+/// greatest.
+fn engines(random: &mut Random, matched: &Matched, how_many: Engines) -> Vec<Engine> {
+    if how_many == Engines::Skipping {
+        return vec![Engine::Skipping];
+    }
     let plain = matched.reading(Engine::Plain).examined;
     let skipping = matched.reading(Engine::Skipping).examined;
     let small = match random.below(4) {
@@ -79,7 +140,7 @@ fn engines(random: &mut Random, matched: &Matched, whole: bool) -> Vec<Engine> {
     };
     let mut all = vec![Engine::Skipping, Engine::Within(small)];
     let odds = if plain == 0 { 15 } else { 100 };
-    if whole || random.from(0, plain) < FEW && random.chance(odds) {
+    if how_many == Engines::All || random.from(0, plain) < FEW && random.chance(odds) {
         all.extend([Engine::Plain, Engine::Within(plain), Engine::Within(plain + 1)]);
         all.extend(plain.checked_sub(1).map(Engine::Within));
         if random.chance(20) {
@@ -89,29 +150,24 @@ fn engines(random: &mut Random, matched: &Matched, whole: bool) -> Vec<Engine> {
     all
 }
 
-/// One reader on a text: `call` has it read as it is told, into the words lent.
-pub fn compare(
-    random: &mut Random,
-    tally: &mut Tally,
-    names: &Names,
-    matched: &Matched,
-    whole: bool,
-    case: &dyn Debug,
-    call: impl Fn(Told, &mut [u32]) -> (u32, u32),
-) {
-    for engine in engines(random, matched, whole) {
+/// One reader on a text.
+pub fn compare(random: &mut Random, tally: &mut Tally, names: &Names, how_many: Engines, by: By, text: &[u8], judged: &Judged) {
+    for engine in engines(random, &judged.matched, how_many) {
         let name = match engine {
             Engine::Skipping => names[0],
             Engine::Plain => names[1],
             Engine::Within(_) => names[2],
         };
-        let reading = matched.reading(engine);
+        let reading = judged.matched.reading(engine);
         let told = told(random, engine);
-        let mut lent = Lent::new(random, WORDS, |n| n as u32);
-        let found = call(told, lent.slice());
         tally.count_reading(name, &reading);
-        if found != (reading.number, reading.place) || !lent.is(&words(&reading)) {
-            tally.differs(name, &(case, told, found, lent.slice().to_vec(), &reading));
+        if let Some(found) = read_otherwise(random, by, text, told, &reading) {
+            tally.differs(name, &(by, text.escape_ascii().to_string(), told, found, &reading));
         }
+    }
+    let reason = judged.reason.as_ref();
+    tally.count_reason(reason);
+    if let Some(found) = explained_otherwise(random, by, text, reason) {
+        tally.differs("explain", &(by, text.escape_ascii().to_string(), found, reason));
     }
 }

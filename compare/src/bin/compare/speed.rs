@@ -42,6 +42,13 @@ fn read(format: &str, text: &str) {
     });
 }
 
+fn explain(format: &str, text: &str) {
+    let mut reason = [0; library::REASON_WORDS];
+    rate(&format!("explain \"{text}\" by \"{format}\""), |_| {
+        library::explain(format.as_bytes(), text.as_bytes(), &mut reason);
+    });
+}
+
 pub fn measure() {
     write("%Y-%m-%d %H:%M:%S");
     write("%c");
@@ -51,4 +58,8 @@ pub fn measure() {
     read("%d %b", "5 mar");
     read("%C %V %u", "99 53 1");
     read("%U %V", "10 50");
+    explain("%Y-%m-%d %H:%M:%S", "1934-03-05 07:08:09");
+    explain("%a %d %b %Y", "Tue 5 Mar 1934");
+    explain("%d %b", "30 Feb");
+    explain("%U %V", "10 50");
 }

@@ -1,12 +1,9 @@
 //! Inputs for the program date_lines, and what it must write: each of its rules (RULES 9) at least once.
 //! For cases `example` and `returns` the output is typed, not computed.
 use crate::{cat, Counts};
-use compare::rules::{read, Calendar, Engine};
+use compare::rules::{lines_of, read, Calendar, Engine, LONGEST_LIST};
 use std::fs;
 use std::path::Path;
-
-/// The bytes of an input, at most.
-const MOST: usize = 32768;
 
 const EXAMPLE_INPUT: &str = "%d %b %Y %H:%M
 5 Mar 1934 07:08
@@ -25,8 +22,8 @@ const RETURNS_OUTPUT: &str = "number place date time
 9 1 - --:--:--
 ";
 
-const CLOCK: &[u8] = b"%H:%M:%S\n";
-const FULL: &[u8] = &[b'x'; 1024];
+pub const CLOCK: &[u8] = b"%H:%M:%S\n";
+pub const FULL: &[u8] = &[b'x'; 1024];
 const MARGINS: &[u8] = b"%d %b %Y %H:%M\n5 Mar 1934 07:08\n29 Feb 1900 07:08\n1 jan 1 0:0\n31 December 9999 23:59\n5 Mar 1934 7\n";
 
 /// An hour, minute or second in two digits, or unsaid.
@@ -36,13 +33,10 @@ fn two(said: Option<u32>) -> String {
 
 /// What the program writes for an input.
 fn report(cal: &Calendar, input: &[u8]) -> String {
-    if input.len() > MOST {
-        return "too long\n".to_string();
-    }
-    let mut lines: Vec<&[u8]> = input.split(|b| *b == b'\n').collect();
-    if lines[lines.len() - 1].is_empty() {
-        lines.pop(); // what follows the last newline is no line
-    }
+    let lines = match lines_of(input) {
+        None => return "too long\n".to_string(),
+        Some(lines) => lines,
+    };
     let mut out = "number place date time\n".to_string();
     for text in lines.iter().skip(1) {
         let r = read(cal, Engine::Skipping, lines[0], text);
@@ -53,13 +47,13 @@ fn report(cal: &Calendar, input: &[u8]) -> String {
 }
 
 /// A format and texts of just so many bytes: the lines again and again, cut at the end.
-fn filled(lines: &[u8], size: usize) -> Vec<u8> {
+pub fn filled(lines: &[u8], size: usize) -> Vec<u8> {
     let texts = 1 + lines.iter().position(|b| *b == b'\n').unwrap();
     lines.iter().chain(lines[texts..].iter().cycle()).take(size).copied().collect()
 }
 
 /// With a carriage return before each newline.
-fn with_returns(lines: &[u8]) -> Vec<u8> {
+pub fn with_returns(lines: &[u8]) -> Vec<u8> {
     lines.iter().flat_map(|b| if *b == b'\n' { vec![b'\r', b'\n'] } else { vec![*b] }).collect()
 }
 
@@ -120,17 +114,17 @@ fn cases() -> Vec<(&'static str, Vec<u8>)> {
         ("format_too_long_by_its_return", cat(&[&b"%H".repeat(512), b"\r\n", &b"07".repeat(511), b"\r\n"])),
         ("returns_alone_end_no_line", b"%H:%M\r7:8\r7:8\r\n7:8\r7:8\r\n".to_vec()),
         // the input's length
-        ("longest", filled(MARGINS, MOST)),
-        ("longest_one_short", filled(MARGINS, MOST - 1)),
-        ("longest_with_returns", filled(&with_returns(MARGINS), MOST)),
-        ("longest_with_newline", cat(&[&filled(MARGINS, MOST - 1), b"\n"])),
-        ("longest_newlines", vec![b'\n'; MOST]),
-        ("longest_format", vec![b'x'; MOST]),
-        ("longest_text", cat(&[CLOCK, &vec![b'7'; MOST - CLOCK.len()]])),
-        ("too_long", filled(MARGINS, MOST + 1)),
-        ("too_long_newlines", vec![b'\n'; MOST + 1]),
-        ("too_long_by_a_newline", cat(&[&filled(MARGINS, MOST), b"\n"])),
-        ("much_too_long", filled(MARGINS, 10 * MOST)),
+        ("longest", filled(MARGINS, LONGEST_LIST)),
+        ("longest_one_short", filled(MARGINS, LONGEST_LIST - 1)),
+        ("longest_with_returns", filled(&with_returns(MARGINS), LONGEST_LIST)),
+        ("longest_with_newline", cat(&[&filled(MARGINS, LONGEST_LIST - 1), b"\n"])),
+        ("longest_newlines", vec![b'\n'; LONGEST_LIST]),
+        ("longest_format", vec![b'x'; LONGEST_LIST]),
+        ("longest_text", cat(&[CLOCK, &vec![b'7'; LONGEST_LIST - CLOCK.len()]])),
+        ("too_long", filled(MARGINS, LONGEST_LIST + 1)),
+        ("too_long_newlines", vec![b'\n'; LONGEST_LIST + 1]),
+        ("too_long_by_a_newline", cat(&[&filled(MARGINS, LONGEST_LIST), b"\n"])),
+        ("much_too_long", filled(MARGINS, 10 * LONGEST_LIST)),
     ]
 }
 

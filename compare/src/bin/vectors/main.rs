@@ -3,13 +3,17 @@
 //!     vectors write INPUT OUTPUT    the input of write_cases, and what it must write
 //!     vectors read INPUT OUTPUT     the input of read_cases, and what it must write
 //!     vectors lines DIRECTORY       for each case of date_lines NAME.in, its input, and NAME.out, what it must write
+//!     vectors quarrels DIRECTORY    the same for each case of quarrels
 //!     vectors days                  on standard output what every_day must write
 //!
-//! The first two are kept in the repository, as files `stdin` and `stdout` of crates/write_cases and crates/read_cases; what the last
-//! writes must be what tests/every_day.py writes by Python's datetime module.
+//! The first two are kept in the repository, as files `stdin` and `stdout` of crates/write_cases and crates/read_cases, and of the next two
+//! the case `example`, in crates/date_lines and crates/quarrels; what the last writes must be what tests/every_day.py writes by Python's
+//! datetime module.
 mod days;
 mod lines;
+mod quarrels;
 mod read;
+mod reasons;
 mod write;
 
 use compare::rules::Calendar;
@@ -44,9 +48,10 @@ fn main() -> std::io::Result<()> {
         ["write", input, output] => write::make(&Calendar::new(), Path::new(input), Path::new(output)),
         ["read", input, output] => read::make(&Calendar::new(), Path::new(input), Path::new(output)),
         ["lines", directory] => lines::make(&Calendar::new(), Path::new(directory)),
+        ["quarrels", directory] => quarrels::make(&Calendar::new(), Path::new(directory)),
         ["days"] => days::print(&Calendar::new()),
         _ => {
-            eprintln!("usage: vectors write INPUT OUTPUT | vectors read INPUT OUTPUT | vectors lines DIRECTORY | vectors days");
+            eprintln!("usage: vectors write INPUT OUTPUT | read INPUT OUTPUT | lines DIRECTORY | quarrels DIRECTORY | days");
             std::process::exit(2)
         }
     }

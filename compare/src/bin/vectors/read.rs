@@ -1,20 +1,22 @@
 //! Vectors for the reader: the input of the program read_cases, and what it must write.
 //!
 //! The input is pairs of lines: a format, and a text, each its own bytes up to the newline. A line of the output is
-//! `number place date hour minute second | shown | examined | weekday month`: what is unsaid is -, shown has the first two days or hours of
-//! number 10, examined is how many days the skipping engine examined, and last come the forms of names: -, full, middle or short.
+//! `number place date hour minute second | shown | examined | weekday month | reason`: what is unsaid is -, shown has the first two days or
+//! hours of number 10, examined is how many days the skipping engine examined, then come the forms of names: -, full, middle or short. The
+//! reason of number 9 is the kinds that quarrel, each with its words as kind:from-next; that of 10 is year, month or day, or `hours` and
+//! the two; any other number has none, -.
 //!
 //! Texts that the C library's strftime wrote for a known moment must moreover be read as that moment, where the format names one day and
 //! one hour.
 use crate::{cat, Counts};
 use compare::c_library;
 use compare::random::Random;
-use compare::rules::{self, forms_of, numeric, write, Calendar, Engine, Form, Moment, Reading, MONTHS, WEEKDAYS};
+use compare::rules::{self, explain, forms_of, numeric, write, Calendar, Engine, Form, Moment, Reading, Reason, MONTHS, WEEKDAYS};
 use std::fs;
 use std::path::Path;
 
 /// The bytes of the input that read_cases takes.
-const MOST: usize = 131_072;
+const MOST: usize = 262_144;
 
 /// Formats by which a text names one day, one hour, or both.
 const DAY_FORMATS: [&str; 22] = [
@@ -179,19 +181,19 @@ const DAYS: &str = "
 %V: 1 | 53
 ";
 
-struct Cases<'a> {
-    cal: &'a Calendar,
-    random: Random,
+pub struct Cases<'a> {
+    pub cal: &'a Calendar,
+    pub random: Random,
     all: Vec<(Vec<u8>, Vec<u8>)>,
 }
 
 /// Letters of the other case.
-fn swapped(text: &str) -> String {
+pub fn swapped(text: &str) -> String {
     text.chars().map(|c| if c.is_ascii_lowercase() { c.to_ascii_uppercase() } else { c.to_ascii_lowercase() }).collect()
 }
 
 impl Cases<'_> {
-    fn add(&mut self, format: impl AsRef<[u8]>, text: impl AsRef<[u8]>) {
+    pub fn add(&mut self, format: impl AsRef<[u8]>, text: impl AsRef<[u8]>) {
         self.all.push((format.as_ref().to_vec(), text.as_ref().to_vec()));
     }
 
@@ -308,7 +310,7 @@ impl Cases<'_> {
     }
 
     /// Pairs from lines of the form `FORMAT: TEXT | TEXT | TEXT`.
-    fn table(&mut self, lines: &str) {
+    pub fn table(&mut self, lines: &str) {
         for line in lines.trim().lines() {
             let (format, texts) = line.split_once(": ").unwrap();
             for text in texts.split(" | ") {
@@ -502,7 +504,7 @@ fn read(cal: &Calendar, format: &[u8], text: &[u8]) -> Reading {
 }
 
 /// One line of the output.
-fn line_of(r: &Reading) -> String {
+fn line_of(r: &Reading, reason: Option<&Reason>) -> String {
     let date = |(y, m, d): (u32, u32, u32)| format!("{y:04}-{m:02}-{d:02}");
     let said = |n: Option<u32>| n.map_or("-".to_string(), |n| n.to_string());
     let day = r.day.map_or("-".to_string(), date);
@@ -513,7 +515,29 @@ fn line_of(r: &Reading) -> String {
     };
     let time = format!("{} {} {}", said(r.hour), said(r.minute), said(r.second));
     let (weekday, month) = (form_name(r.forms.weekday), form_name(r.forms.month));
-    format!("{} {} {day} {time} | {shown} | {} | {weekday} {month}\n", r.number, r.place, r.examined)
+    format!("{} {} {day} {time} | {shown} | {} | {weekday} {month} | {}\n", r.number, r.place, r.examined, reason_of(reason))
+}
+
+fn reason_of(reason: Option<&Reason>) -> String {
+    match reason {
+        None => "-".to_string(),
+        Some(Reason::Quarrel(named)) => {
+            let all: Vec<String> = named.iter().map(|(kind, words)| format!("{kind}:{}-{}", words.from, words.next)).collect();
+            all.join(" ")
+        }
+        Some(Reason::Differ(part)) => part.name().to_string(),
+        Some(Reason::Hours([first, second])) => format!("hours {first} {second}"),
+    }
+}
+
+/// A reason in the counts.
+fn sort_of(reason: Option<&Reason>) -> String {
+    match reason {
+        None => "none".to_string(),
+        Some(Reason::Quarrel(named)) => format!("{} kinds of the {}", named.len(), if named[0].0 <= 12 { "day" } else { "hour" }),
+        Some(Reason::Differ(part)) => part.name().to_string(),
+        Some(Reason::Hours(_)) => "hours".to_string(),
+    }
 }
 
 fn form_name(form: Option<Form>) -> &'static str {
@@ -540,19 +564,21 @@ pub fn make(cal: &Calendar, input_path: &Path, output_path: &Path) -> std::io::R
     cases.white_space();
     cases.limits();
     cases.drawn(360);
+    cases.reasons();
     let (mut input, mut output) = (Vec::new(), String::new());
     let mut counts = Counts::default();
     for (format, text) in &cases.all {
         assert!(!format.contains(&b'\n') && !text.contains(&b'\n'));
-        let reading = read(cal, format, text);
+        let (reading, reason) = explain(cal, Engine::Skipping, format, text);
         counts.count(match reading.number {
             9 | 10 => format!("number {:>2}, place {}", reading.number, reading.place),
             number => format!("number {number:>2}"),
         });
         counts.count(format!("weekday {}", form_name(reading.forms.weekday)));
         counts.count(format!("month {}", form_name(reading.forms.month)));
+        counts.count(format!("reason {}", sort_of(reason.as_ref())));
         input.extend(cat(&[format, b"\n", text, b"\n"]));
-        output += &line_of(&reading);
+        output += &line_of(&reading, reason.as_ref());
     }
     assert!(input.len() <= MOST, "{} bytes are more than read_cases takes", input.len());
     fs::write(input_path, &input)?;

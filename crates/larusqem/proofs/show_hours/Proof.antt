@@ -1,6 +1,6 @@
 -- `larusqem::show_hours` meets its contract, word by word.
 use Rattle.strptime.specs.Answers.{showing, examining}
-use Rattle.strptime.specs.Reading.{noForms}
+use Rattle.matching.specs.Steps.{noForms}
 use Rattle.larusqem.specs.Words.{more, wordsOf}
 use borrow.Author.Needs.{needs}
 use Rattle.larusqem.proofs.show_hours.Statement.{statement}

@@ -3,7 +3,7 @@ use Prim.Native.Nat.{_-_, _≤_}
 use native.Mathlib.Omega.{arith}
 use denote.Ref.{now}
 use lib.ListN.{length}
-use Rattle.report.proofs.Splitting.{within}
+use Rattle.lists.proofs.Splitting.{within}
 use Rattle.read_cases.proofs.print_readings.Statement.{statement}
 use Rattle.read_cases.proofs.print_readings.Tie as tie
 
@@ -41,39 +41,33 @@ text-line c =
     let s = c .before .before .before .before .before .before in
     within (now (s .args .input)) (c .before .next-line .result) (omega arith) (c .line-end2 .ensures)
 
-sub-strptime : tie.Need-sub-strptime Inv-loop μ-loop
-sub-strptime c = format-line (c .before .before) .0
+sub-print-case : tie.Need-sub-print-case Inv-loop μ-loop
+sub-print-case c = format-line (c .before .before) .0
 
-part-strptime-start : tie.Need-part-strptime-start Inv-loop μ-loop
-part-strptime-start c = format-line (c .before .before) .0
+part-print-case-start : tie.Need-part-print-case-start Inv-loop μ-loop
+part-print-case-start c = format-line (c .before .before) .0
 
-part-strptime-end : tie.Need-part-strptime-end Inv-loop μ-loop
-part-strptime-end c = format-line (c .before .before) .1
+part-print-case-end : tie.Need-part-print-case-end Inv-loop μ-loop
+part-print-case-end c = format-line (c .before .before) .1
 
-sub-strptime-2 : tie.Need-sub-strptime-2 Inv-loop μ-loop
-sub-strptime-2 c = text-line (c .before) .0
+sub-print-case-2 : tie.Need-sub-print-case-2 Inv-loop μ-loop
+sub-print-case-2 c = text-line (c .before) .0
 
-part-strptime-start-2 : tie.Need-part-strptime-start-2 Inv-loop μ-loop
-part-strptime-start-2 c = text-line (c .before) .0
+part-print-case-start-2 : tie.Need-part-print-case-start-2 Inv-loop μ-loop
+part-print-case-start-2 c = text-line (c .before) .0
 
-part-strptime-end-2 : tie.Need-part-strptime-end-2 Inv-loop μ-loop
-part-strptime-end-2 c = text-line (c .before) .1
+part-print-case-end-2 : tie.Need-part-print-case-end-2 Inv-loop μ-loop
+part-print-case-end-2 c = text-line (c .before) .1
 
-strptime-requires : tie.Need-strptime-requires Inv-loop μ-loop
-strptime-requires c κs = tt
-
-reading-of-requires : tie.Need-reading-of-requires Inv-loop μ-loop
-reading-of-requires c κs = tt
-
-print-reading-requires : tie.Need-print-reading-requires Inv-loop μ-loop
-print-reading-requires c κs = tt
+print-case-requires : tie.Need-print-case-requires Inv-loop μ-loop
+print-case-requires c κs = tt
 
 next-line-requires-2 : tie.Need-next-line-requires-2 Inv-loop μ-loop
 next-line-requires-2 c κs = tt
 
 loop-less : tie.Need-loop-less Inv-loop μ-loop
 loop-less c =
-    let t = c .before .before .before .before .before .before in
+    let t = c .before .before .before .before in
     let f = t .before .before in
     omega (arith, format-line f, text-line t, t .before .next-line .ensures, c .next-line2 .ensures)
 
@@ -93,15 +87,13 @@ print-readings-spec =
     line-end-requires
     next-line-requires
     line-end-requires-2
-    sub-strptime
-    part-strptime-start
-    part-strptime-end
-    sub-strptime-2
-    part-strptime-start-2
-    part-strptime-end-2
-    strptime-requires
-    reading-of-requires
-    print-reading-requires
+    sub-print-case
+    part-print-case-start
+    part-print-case-end
+    sub-print-case-2
+    part-print-case-start-2
+    part-print-case-end-2
+    print-case-requires
     next-line-requires-2
     loop-less
     loop-again

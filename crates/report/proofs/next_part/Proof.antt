@@ -5,15 +5,19 @@ use mathlib.Core.Path.{_≡_, _∙_}
 use native.Mathlib.Omega.{arith}
 use denote.Ref.{now}
 use lib.ListN.{length, take, drop}
-use Rattle.report.specs.Parts.{readingBy}
-use Rattle.report.proofs.Figures.{short}
-use Rattle.report.proofs.Listing.{Listing, list-start, list-next}
-use Rattle.report.proofs.Splitting.{within}
+use Rattle.lists.specs.Answers.{openedReading}
+use Rattle.lists.proofs.Figures.{place-fits}
+use Rattle.lists.proofs.Listing.{Listing, list-start, list-next}
+use Rattle.lists.proofs.Splitting.{within}
+use Rattle.report.specs.Report.{linesBy}
+use Rattle.report.proofs.Figures.{line-short}
+use Rattle.report.proofs.Whole.{next-answered}
 use Rattle.report.proofs.next_part.Statement.{statement}
 use Rattle.report.proofs.next_part.Tie as tie
 
 abbrev Inv-loop : tie.InvT-loop
-Inv-loop opened elements input from out₀ next₀ count₀ out next count = Listing (readingBy opened elements) input from out₀ out count next
+Inv-loop opened elements input from out₀ next₀ count₀ out next count =
+    Listing (linesBy opened elements input from) out₀ out count (linesBy opened elements input next) from next
 
 abbrev μ-loop : tie.MeasureT-loop
 μ-loop opened elements input from out₀ next₀ count₀ out next count = length input - next
@@ -21,7 +25,7 @@ abbrev μ-loop : tie.MeasureT-loop
 loop-holds : tie.Need-loop-holds Inv-loop μ-loop
 loop-holds c =
     let a = c .before .args in
-    list-start (readingBy (a .opened) (now (a .elements))) (now (a .input)) (a .from) (now (a .out))
+    list-start (linesBy (a .opened) (now (a .elements)) (now (a .input)) (a .from)) (now (a .out)) (a .from)
 
 sub-if1 : tie.Need-sub-if1 Inv-loop μ-loop
 sub-if1 c = omega arith
@@ -61,11 +65,11 @@ read : (c : tie.After-reading-of Inv-loop μ-loop) →
     let l = e .before .before .before in
     let a = l .before .before .args in
     let t = take (e .line-end .result - l .loop .next) (drop (l .loop .next) (now (a .input))) in
-    c .reading-of .result ≡ readingBy (a .opened) (now (a .elements)) t
+    c .reading-of .result ≡ openedReading (a .opened) (now (a .elements)) t
 read c = c .reading-of .ensures ∙ c .before .before .answer-to .ensures
 
 put-line-requires : tie.Need-put-line-requires Inv-loop μ-loop
-put-line-requires c κs = (rw (read c) (short _ _ _), omega arith)
+put-line-requires c κs = rw (read c) (place-fits _ _ _)
 
 add-next : tie.Need-add-next Inv-loop μ-loop
 add-next c = omega (arith, found (c .before .before .before .before .before .before))
@@ -78,9 +82,11 @@ loop-again c =
     let e = c .before .before .before .before .before .before in
     let l = e .before .before .before in
     let a = l .before .before .args in
-    let p = c .put-line .ensures in
-    list-next (readingBy (a .opened) (now (a .elements))) (now (a .input)) (a .from) (now (a .out)) (l .loop .inv) (omega arith)
-    (e .line-end .ensures) (rw (read (c .before)) at (p .0)) (omega arith)
+    let t = take (e .line-end .result - l .loop .next) (drop (l .loop .next) (now (a .input))) in
+    list-next (l .loop .inv)
+    (next-answered (openedReading (a .opened) (now (a .elements))) (now (a .input)) (l .loop .next) (omega arith) (e .line-end .ensures))
+    (rw (read (c .before)) at (c .put-line .ensures))
+    (omega (arith, line-short (a .opened) (now (a .elements)) t)) (omega (arith, found e))
 
 returns-2 : tie.Need-returns-2 Inv-loop μ-loop
 returns-2 c = let i = c .before .loop .inv in record { puts = i .puts; goes = λ h. omega arith }

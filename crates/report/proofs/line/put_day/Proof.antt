@@ -1,8 +1,7 @@
--- `report::line::put_day` meets its contract.
-use native.Mathlib.Omega.{arith}
-use borrow.Author.Needs.{needs}
+-- `report::line::put_day` meets its contract. Assumes nothing.
 use Rattle.laws.specs.Bytes.{bytes}
 use Rattle.report.specs.Line.{dayShown}
+use borrow.Author.Needs.{needs}
 use Rattle.report.proofs.line.put_day.Statement.{statement}
 use Rattle.report.proofs.line.put_day.Tie as tie
 
@@ -23,18 +22,14 @@ same-length c = search needs
 
 returns : tie.Need-returns
 unfolding dayShown bytes
-returns c =
-    let p = c .before .before .put-byte .ensures in
-    (rw (c .before .before .before .before .enum-told .given .1) (p .0), omega (arith, p .1))
+returns c = rw (c .before .before .before .before .enum-told .given .1) (c .before .before .put-byte .ensures)
 
 same-length-2 : tie.Need-same-length-2
 same-length-2 c = search needs
 
 returns-2 : tie.Need-returns-2
-unfolding dayShown bytes
-returns-2 c =
-    let p = c .before .before .put-date .ensures in
-    (rw (c .before .before .before .before .before .day .given .1) (p .0), omega (arith, p .1))
+unfolding dayShown
+returns-2 c = rw (c .before .before .before .before .before .day .given .1) (c .before .before .put-date .ensures)
 
 pub put-day-spec : {M : Type 1} → statement M
 put-day-spec =

@@ -1,9 +1,8 @@
--- `report::line::put_line` meets its contract: number, place, and date and time, one after the other.
-use native.Mathlib.Omega.{arith}
-use borrow.Author.Needs.{needs}
+-- `report::line::put_line` meets its contract. Assumes nothing.
 use Rattle.laws.specs.Bytes.{bytes}
 use Rattle.report.specs.Line.{momentShown, lineOf}
-use Rattle.laws.proofs.Stores.{then}
+use Rattle.lists.proofs.Puts.{then}
+use borrow.Author.Needs.{needs}
 use Rattle.report.proofs.line.put_line.Statement.{statement}
 use Rattle.report.proofs.line.put_line.Tie as tie
 
@@ -14,19 +13,19 @@ put-plain-requires : tie.Need-put-plain-requires
 put-plain-requires c κs = search needs
 
 put-byte-requires : tie.Need-put-byte-requires
-put-byte-requires c κs = omega arith
+put-byte-requires c κs = search needs
 
 put-plain-requires-2 : tie.Need-put-plain-requires-2
-put-plain-requires-2 c κs = omega arith
+put-plain-requires-2 c κs = search needs
 
 put-byte-requires-2 : tie.Need-put-byte-requires-2
-put-byte-requires-2 c κs = omega arith
+put-byte-requires-2 c κs = search needs
 
 put-moment-requires : tie.Need-put-moment-requires
-put-moment-requires c κs = omega arith
+put-moment-requires c κs = search needs
 
 put-byte-requires-3 : tie.Need-put-byte-requires-3
-put-byte-requires-3 c κs = omega arith
+put-byte-requires-3 c κs = search needs
 
 same-length : tie.Need-same-length
 same-length c = search needs
@@ -41,13 +40,11 @@ returns c =
     let b = p .before .before .before .before in
     let n = b .before .before .before .before in
     let r = n .before .before .before .before .args .reading in
-    let x = momentShown (r .day) (r .hour) (r .minute) (r .second) in (
-      then (n .put-plain .ensures .0)
-          (then (b .put-byte .ensures .0)
-          (then (p .put-plain2 .ensures .0)
-          (then (d .put-byte2 .ensures .0) (then {x = x} (m .put-moment .ensures .0) (z .put-byte3 .ensures .0))))),
-      omega (arith, z, m, d, p, b, n),
-    )
+    let x = momentShown (r .day) (r .hour) (r .minute) (r .second) in
+    then (n .put-plain .ensures)
+    (then (b .put-byte .ensures)
+    (then (p .put-plain2 .ensures)
+    (then (d .put-byte2 .ensures) (then {x = x} (m .put-moment .ensures) (z .put-byte3 .ensures)))))
 
 pub put-line-spec : {M : Type 1} → statement M
 put-line-spec =

@@ -1,7 +1,7 @@
 -- `strptime::answers::showing` meets its contract. Assumes nothing.
 use mathlib.Core.Path.{refl}
 use Rattle.strptime.specs.Answers.{showing, examining}
-use Rattle.strptime.specs.Reading.{noForms}
+use Rattle.matching.specs.Steps.{noForms}
 use Rattle.strptime.proofs.answers.showing.Statement.{statement}
 use Rattle.strptime.proofs.answers.showing.Tie as tie
 

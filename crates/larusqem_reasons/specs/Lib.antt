@@ -1,0 +1,2 @@
+-- The reasons of readings on numbers and slices, as C sees them.
+pub mod Reasons
