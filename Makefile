@@ -1,4 +1,4 @@
-# Builds, tests and installs the library for C and the program; `make help` says how. Nothing is built before it is proved.
+# Builds, tests and installs the library for C and the programs; `make help` says how. Nothing is built before it is proved.
 PREFIX = /usr/local
 BINDIR = $(PREFIX)/bin
 INCLUDEDIR = $(PREFIX)/include
@@ -11,7 +11,7 @@ soname := liblarusqem.so.$(basename $(version))
 
 static = target/lib/liblarusqem.a
 shared = target/sharedlib/liblarusqem.so.$(version)
-program = target/bin/date_lines
+programs = date_lines quarrels
 
 ifneq ($(words $(PREFIX)) $(filter-out /%,$(PREFIX) $(DESTDIR)),1 )
 $(error PREFIX is an absolute path without blanks, and so is DESTDIR if there is one)
@@ -19,15 +19,14 @@ endif
 
 fill = sed -e 's|@prefix@|$(PREFIX)|' -e 's|@includedir@|$(INCLUDEDIR)|' -e 's|@libdir@|$(LIBDIR)|' -e 's|@version@|$(version)|'
 
-.PHONY: all library program install install-library install-program uninstall test help FORCE
+.PHONY: all library programs install install-library install-programs uninstall test help FORCE
 # two provers would meet in target/
 .NOTPARALLEL:
 
-all: library program
+all: library programs
 library: $(static) $(shared)
-program: $(program)
 
-# tools/library knows whether the library is out of date, and the prover whether the program is
+# tools/library knows whether the library is out of date, and the prover whether the programs are
 $(static): FORCE
 	@tools/library >/dev/null
 
@@ -35,10 +34,10 @@ $(shared): $(static)
 	mkdir -p $(@D)
 	$(CC) -shared -Wl,-z,defs -Wl,-soname,$(soname) $(LDFLAGS) -Wl,--whole-archive $< -Wl,--no-whole-archive -o $@
 
-$(program): FORCE
-	rt check date_lines
+programs:
+	rt check $(programs)
 
-install: install-library install-program
+install: install-library install-programs
 
 install-library: library
 	install -d $(addprefix $(DESTDIR),$(INCLUDEDIR) $(LIBDIR)/pkgconfig $(MANDIR)/man3)
@@ -49,25 +48,25 @@ install-library: library
 	$(fill) larusqem.pc.in | install -m 644 /dev/stdin $(DESTDIR)$(LIBDIR)/pkgconfig/larusqem.pc
 	$(fill) man/larusqem.3 | install -m 644 /dev/stdin $(DESTDIR)$(MANDIR)/man3/larusqem.3
 
-install-program: program
+install-programs: programs
 	install -d $(addprefix $(DESTDIR),$(BINDIR) $(MANDIR)/man1)
-	install -m 755 $(program) $(DESTDIR)$(BINDIR)
-	$(fill) man/date_lines.1 | install -m 644 /dev/stdin $(DESTDIR)$(MANDIR)/man1/date_lines.1
+	install -m 755 $(addprefix target/bin/,$(programs)) $(DESTDIR)$(BINDIR)
+	for page in $(programs:=.1); do $(fill) man/$$page | install -m 644 /dev/stdin $(DESTDIR)$(MANDIR)/man1/$$page || exit; done
 
 uninstall:
-	rm -f $(DESTDIR)$(INCLUDEDIR)/larusqem.h $(DESTDIR)$(BINDIR)/date_lines
+	rm -f $(DESTDIR)$(INCLUDEDIR)/larusqem.h $(addprefix $(DESTDIR)$(BINDIR)/,$(programs))
 	rm -f $(addprefix $(DESTDIR)$(LIBDIR)/,liblarusqem.a liblarusqem.so $(soname) $(notdir $(shared)) pkgconfig/larusqem.pc)
-	rm -f $(DESTDIR)$(MANDIR)/man3/larusqem.3 $(DESTDIR)$(MANDIR)/man1/date_lines.1
+	rm -f $(DESTDIR)$(MANDIR)/man3/larusqem.3 $(addprefix $(DESTDIR)$(MANDIR)/man1/,$(programs:=.1))
 
 test:
 	tests/run
 
 help:
-	@echo 'make                   proves and builds the library, static and shared, and the program date_lines (minutes)'
+	@echo 'make                   proves and builds the library, static and shared, and the programs date_lines and quarrels (minutes)'
 	@echo 'make library           the library alone'
-	@echo 'make program           the program alone'
-	@echo 'make install           installs header, libraries, pkg-config file, program and manual pages under PREFIX ($(PREFIX));'
-	@echo '                       also install-library and install-program. A system library folder wants ldconfig after it.'
+	@echo 'make programs          the programs alone'
+	@echo 'make install           installs header, libraries, pkg-config file, programs and manual pages under PREFIX ($(PREFIX));'
+	@echo '                       also install-library and install-programs. A system library folder wants ldconfig after it.'
 	@echo 'make uninstall         removes them'
-	@echo 'make test              all tests (half an hour)'
+	@echo 'make test              all tests (an hour)'
 	@echo 'Variables: PREFIX, BINDIR, INCLUDEDIR, LIBDIR, MANDIR, DESTDIR, CC, LDFLAGS. The version is $(version).'
