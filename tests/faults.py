@@ -1,5 +1,5 @@
 #!/usr/bin/env python3
-"""Runs the program under faults: python3 tests/faults.py PROGRAM
+"""Runs the programs in a folder, date_lines and quarrels, under faults: python3 tests/faults.py FOLDER
 
 What cannot be read to its end gets no report, and what cannot be written whole is said: one line on standard error. A call that is
 interrupted, moves few bytes or would block changes nothing. faults.c, beside this file, makes single calls fail.
@@ -15,19 +15,43 @@ import threading
 import time
 
 HERE = os.path.dirname(os.path.abspath(__file__))
-LIST = b"%F\n1934-03-15\n1934-03-16\n"
-REPORT = b"number place date time\n0 10 1934-03-15 --:--:--\n0 10 1934-03-16 --:--:--\n"
-HEADER = b"number place date time\n"
-NOT_READ = b"date_lines: the list could not be read to its end: "
-NOT_WRITTEN = b"date_lines: the report could not be written whole: "
-USAGE = b"usage: date_lines "
+LIST = b"%F\n1934-03-15\n1934-02-30\n"
+# what each program writes first, and then of each kind of text; # is the number of its line
+SAYS = {
+    "date_lines": {
+        "first": b"number place date time\n",
+        "read": b"0 10 1934-03-15 --:--:--\n",
+        "impossible": b"9 1 - --:--:--\n",
+        "ended": b"6 0 - --:--:--\n",
+        "other": b"6 0 - --:--:--\n",
+        "long": b"5 0 - --:--:--\n",
+    },
+    "quarrels": {
+        "first": b"",
+        "read": b"",
+        "impossible": b"1934-02-30\n     ^^ ^^\nline #: no day is month 02 and 30 together\n\n",
+        "ended": b"\n^\nline #: the text ends before the format does\n\n",
+        "other": b"x\n^\nline #: the text does not go on as the format wants\n\n",
+        "long": b"x" * 32765 + b"\nline #: the text has more than 1,024 bytes\n\n",
+    },
+}
 
 
 class Tests:
-    def __init__(self, program, folder):
-        self.program, self.folder, self.count, self.failed = program, folder, 0, 0
+    def __init__(self, programs, name, folder):
+        self.program, self.name, self.says = os.path.join(os.path.abspath(programs), name), name.encode(), SAYS[name]
+        self.folder, self.count, self.failed = folder, 0, 0
+        self.usage = b"usage: " + self.name + b" "
+        self.not_read = self.name + b": the list could not be read to its end: "
+        self.not_written = self.name + b": the report could not be written whole: "
+        self.report = self.report_on("read", "impossible")
         self.library = os.path.join(folder, "faults.so")
         subprocess.run(["cc", "-O1", "-shared", "-fPIC", os.path.join(HERE, "faults.c"), "-o", self.library, "-ldl"], check=True)
+
+    def report_on(self, *texts):
+        """The report on texts of these kinds."""
+        lines = (self.says[text].replace(b"#", b"%d" % line) for line, text in enumerate(texts, 2))
+        return self.says["first"] + b"".join(lines)
 
     def file(self, name, content):
         path = os.path.join(self.folder, name)
@@ -58,29 +82,29 @@ class Tests:
 
 def arguments(t):
     path = t.file("list", LIST)
-    t.expect("a file", t.run(path, stdin=subprocess.DEVNULL), REPORT)
-    t.expect("no such file", t.run(path + "x"), b"", b"date_lines: the file could not be opened: No such file or directory")
+    t.expect("a file", t.run(path, stdin=subprocess.DEVNULL), t.report)
+    t.expect("no such file", t.run(path + "x"), b"", t.name + b": the file could not be opened: No such file or directory")
     for words in [(path, path), ("-x",), ("--",), ("-",), ("",), ("--help", path), ("x" * 5000,)]:
-        t.expect(f"arguments {words!r:.40}", t.run(*words), b"", USAGE)
+        t.expect(f"arguments {words!r:.40}", t.run(*words), b"", t.usage)
     out, err = t.run("--help")
-    t.expect("--help", (out[: len(USAGE)], err), USAGE)
+    t.expect("--help", (out[: len(t.usage)], err), t.usage)
     out, err = t.run("--version")
-    t.expect("--version", (out[:11] + out[-1:], err), b"date_lines \n")
+    t.expect("--version", (out[: len(t.name) + 1] + out[-1:], err), t.name + b" \n")
 
 
 def inputs(t):
-    t.expect("nothing amiss", t.run(), REPORT)
-    t.expect("a directory as the file", t.run(t.folder), b"", NOT_READ + b"Is a directory")
+    t.expect("nothing amiss", t.run(), t.report)
+    t.expect("a directory as the file", t.run(t.folder), b"", t.not_read + b"Is a directory")
     with open(t.folder + "/list", "rb") as file:
         closed = t.run(stdin=file, preexec_fn=lambda: os.close(0))
-    t.expect("input closed", closed, b"", NOT_READ + b"Bad file descriptor")
+    t.expect("input closed", closed, b"", t.not_read + b"Bad file descriptor")
     fd = os.open(t.folder, os.O_RDONLY)
-    t.expect("a directory as input", t.run(stdin=fd), b"", NOT_READ + b"Is a directory")
+    t.expect("a directory as input", t.run(stdin=fd), b"", t.not_read + b"Is a directory")
     os.close(fd)
     for script in ["i", "iiii.i", "1", "1" * 30, "1i1a1", "aaa", ".iii", ".a"]:
-        t.expect(f"reads by {script}", t.run(faults={"FAULTS_READ": script}), REPORT)
+        t.expect(f"reads by {script}", t.run(faults={"FAULTS_READ": script}), t.report)
     for script in ["e", ".e", "1" * 20 + "e", "1" * len(LIST) + "e", "iae"]:
-        t.expect(f"reads by {script}", t.run(faults={"FAULTS_READ": script}), b"", NOT_READ + b"Input/output error")
+        t.expect(f"reads by {script}", t.run(faults={"FAULTS_READ": script}), b"", t.not_read + b"Input/output error")
 
 
 def slow_input(t):
@@ -97,27 +121,27 @@ def slow_input(t):
 
     feeder = threading.Thread(target=feed)
     feeder.start()
-    t.expect("half an input, then the rest", t.run(stdin=read), REPORT)
+    t.expect("half an input, then the rest", t.run(stdin=read), t.report)
     feeder.join()
     os.close(read)
 
 
 def outputs(t):
     with open("/dev/full", "wb") as full:
-        t.expect("a full disk", t.run(stdout=full), None, NOT_WRITTEN + b"No space left on device")
+        t.expect("a full disk", t.run(stdout=full), None, t.not_written + b"No space left on device")
         for option in ["--help", "--version"]:
-            said = b"date_lines: the text could not be written whole: No space left on device"
+            said = t.name + b": the text could not be written whole: No space left on device"
             t.expect(f"a full disk for {option}", t.run(option, stdout=full), None, said)
-    t.expect("output closed", t.run(preexec_fn=lambda: os.close(1)), b"", NOT_WRITTEN + b"Bad file descriptor")
+    t.expect("output closed", t.run(preexec_fn=lambda: os.close(1)), b"", t.not_written + b"Bad file descriptor")
     for script in ["i", "1i1a1", "1" * 70, "a", ".ii"]:
-        t.expect(f"writes by {script}", t.run(faults={"FAULTS_WRITE": script}), REPORT)
-    t.expect("writes by 10", t.run(faults={"FAULTS_WRITE": "10"}), HEADER[:1], NOT_WRITTEN)
-    t.expect("writes by 11e", t.run(faults={"FAULTS_WRITE": "11e"}), HEADER[:2], NOT_WRITTEN + b"Input/output error")
+        t.expect(f"writes by {script}", t.run(faults={"FAULTS_WRITE": script}), t.report)
+    t.expect("writes by 10", t.run(faults={"FAULTS_WRITE": "10"}), t.report[:1], t.not_written)
+    t.expect("writes by 11e", t.run(faults={"FAULTS_WRITE": "11e"}), t.report[:2], t.not_written + b"Input/output error")
 
     read, write = os.pipe()
     os.close(read)
     ignored = lambda: signal.signal(signal.SIGPIPE, signal.SIG_IGN)
-    t.expect("a closed pipe", t.run(stdout=write, preexec_fn=ignored), None, NOT_WRITTEN + b"Broken pipe")
+    t.expect("a closed pipe", t.run(stdout=write, preexec_fn=ignored), None, t.not_written + b"Broken pipe")
     os.close(write)
 
     def limited():
@@ -126,9 +150,9 @@ def outputs(t):
 
     path = t.file("out", b"")
     with open(path, "wb") as out:
-        t.expect("a file limit", t.run(stdout=out, preexec_fn=limited), None, NOT_WRITTEN + b"File too large")
+        t.expect("a file limit", t.run(stdout=out, preexec_fn=limited), None, t.not_written + b"File too large")
     with open(path, "rb") as out:
-        t.expect("as far as the limit", (out.read(), b""), REPORT[:30])
+        t.expect("as far as the limit", (out.read(), b""), t.report[:30])
 
 
 def slow_output(t):
@@ -149,31 +173,32 @@ def slow_output(t):
     _, said = t.run(input=b"%M\n" + b"\n" * texts, stdout=write)
     os.close(write)
     reader.join()
-    t.expect("a pipe that is full", (got[0], said), HEADER + b"6 0 - --:--:--\n" * texts)
+    t.expect("a pipe that is full", (got[0], said), t.report_on(*["ended"] * texts))
 
 
 def stack(t):
     """The longest lists, with as little stack as README says is enough."""
     def small():
-        resource.setrlimit(resource.RLIMIT_STACK, (512 * 1024, 512 * 1024))
+        resource.setrlimit(resource.RLIMIT_STACK, (256 * 1024, 256 * 1024))
 
-    line = b"6 0 - --:--:--\n"
-    t.expect("32,768 bytes, short lines", t.run(input=b"%M" + b"\n" * 32766, preexec_fn=small), HEADER + line * 32765)
-    t.expect("32,768 bytes, one line", t.run(input=b"%M\n" + b"x" * 32765, preexec_fn=small), HEADER + b"5 0 - --:--:--\n")
-    t.expect("a long format", t.run(input=b"%c" * 512 + b"\nx\n", preexec_fn=small), HEADER + line)
+    t.expect("32,768 bytes, short lines", t.run(input=b"%M" + b"\n" * 32766, preexec_fn=small), t.report_on(*["ended"] * 32765))
+    t.expect("32,768 bytes, one line", t.run(input=b"%M\n" + b"x" * 32765, preexec_fn=small), t.report_on("long"))
     t.expect("32,769 bytes", t.run(input=b"\n" * 32769, preexec_fn=small), b"too long\n")
+    t.expect("a long format", t.run(input=b"%c" * 512 + b"\nx\n", preexec_fn=small), t.report_on("other"))
+    t.expect("a day that is none", t.run(preexec_fn=small), t.report)
 
 
-def main(program):
+def failures(programs, name):
+    """Runs all tests on a program, and answers how many failed."""
     with tempfile.TemporaryDirectory() as folder:
-        t = Tests(os.path.abspath(program), folder)
+        t = Tests(programs, name, folder)
         for tests in [arguments, inputs, slow_input, outputs, slow_output, stack]:
             tests(t)
-    print(f"{t.count} runs under faults, {t.failed} not as they should be")
-    return 1 if t.failed else 0
+    print(f"{name}: {t.count} runs under faults, {t.failed} not as they should be")
+    return t.failed
 
 
 if __name__ == "__main__":
-    if len(sys.argv) != 2 or not os.access(sys.argv[1], os.X_OK):
-        sys.exit("usage: python3 tests/faults.py PROGRAM")
-    sys.exit(main(sys.argv[1]))
+    if len(sys.argv) != 2:
+        sys.exit("usage: python3 tests/faults.py FOLDER")
+    sys.exit(1 if sum(failures(sys.argv[1], name) for name in SAYS) else 0)

@@ -1,7 +1,7 @@
 #!/usr/bin/env python3
-"""Checks that the version is the same everywhere: python3 tests/version.py PROGRAM
+"""Checks that the version is the same everywhere: python3 tests/version.py FOLDER
 
-crates/version/src/lib.rt says it; the Rust manifests, the newest entry of CHANGELOG.md and PROGRAM --version must agree. (The
+crates/version/src/lib.rt says it; the Rust manifests, the newest entry of CHANGELOG.md and the programs in the folder must agree. (The
 library's own word for it is compared with the manifest by the Rust crate's tests; pkg-config file and manual pages take it from there.)
 """
 import os
@@ -10,6 +10,7 @@ import subprocess
 import sys
 
 ROOT = os.path.dirname(os.path.dirname(os.path.abspath(__file__)))
+PROGRAMS = ["date_lines", "quarrels"]
 
 
 def found(path, pattern):
@@ -18,14 +19,18 @@ def found(path, pattern):
     return match.group(1) if match else f"no version in {path}"
 
 
-def main(program):
-    source = "crates/version/src/lib.rt"
+def said_by(program):
     said = subprocess.run([program, "--version"], capture_output=True, text=True, check=True).stdout
+    return said.removeprefix(os.path.basename(program) + " ").strip()
+
+
+def main(folder):
+    source = "crates/version/src/lib.rt"
     version = ".".join(found(source, rf"^pub const {part}: u32 = (\d+);$") for part in ["MAJOR", "MINOR", "PATCH"])
     others = {
         **{path: found(path, r'^version = "(.*)"$') for path in ["bindings/rust/Cargo.toml", "compare/Cargo.toml"]},
         "CHANGELOG.md": found("CHANGELOG.md", r"^## (\S+)"),
-        "--version": said.removeprefix("date_lines ").strip(),
+        **{f"{name} --version": said_by(os.path.join(folder, name)) for name in PROGRAMS},
     }
     wrong = {place: said for place, said in others.items() if said != version}
     for place, said in wrong.items():
@@ -35,6 +40,6 @@ def main(program):
 
 
 if __name__ == "__main__":
-    if len(sys.argv) != 2 or not os.access(sys.argv[1], os.X_OK):
-        sys.exit("usage: python3 tests/version.py PROGRAM")
+    if len(sys.argv) != 2:
+        sys.exit("usage: python3 tests/version.py FOLDER")
     sys.exit(main(sys.argv[1]))
