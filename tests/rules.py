@@ -1,11 +1,12 @@
 #!/usr/bin/env python3
-"""Runs the readings, forms, counts and writings that docs/RULES.md shows: python3 tests/rules.py PROGRAM PREFIX
+"""Runs the lists, readings, forms, counts, reasons, sentences and writings that docs/RULES.md shows: python3 tests/rules.py FOLDER PREFIX
 
-Each row of its tables of texts, formats and answers is run as a list of one text; the number, the place and, with 0, the date must be the
-program's. The input and the report of the section on the program must be what the program makes of it. Each row of its table of moments,
-formats and answers is run by the library that is installed under PREFIX; all of the buffer must be as the row says. Each row of its table
-of days examined is run there too, by both engines, and with the smallest budget that is enough and the largest that is not; and each row of
-its table of the forms of names, by both engines.
+The list and the report of the section on each program must be what the program in FOLDER makes of it. Each row of its tables of texts,
+formats and answers is run as a list of one text; the number, the place and, with 0, the date must be those of date_lines. Each row of its
+table of moments, formats and answers is run by the library that is installed under PREFIX; all of the buffer must be as the row says. Each
+row of its table of days examined is run there too, by both engines, and with the smallest budget that is enough and the largest that is
+not; each row of its table of the forms of names, by both engines; and each row of its table of reasons. For each sentence of quarrels there
+is a list of one text that must get it.
 """
 import ctypes
 import itertools
@@ -18,8 +19,25 @@ ROOT = os.path.dirname(os.path.dirname(os.path.abspath(__file__)))
 COUNTS = r"(?m)^\| `([^`|]*)` \| `([^`|]*)` \| (\d+) \| (\d+) \|"
 ROW = r"(?m)^\| (`[^|]*`|any text[^|`]*?)(?: \*)? \| (`[^|]*`|empty) \| (\d+), place (\d+)([^|\n]*)"
 NAMED = r"(?m)^\| `([^`|]*)` \| `([^`|]*)` \| [^|]* \| (none|full|middle|short) \| (none|full|middle|short) \|"
+EXAMPLE = r"(?ms)^### 9\.\d `(\w+)`$.*?^```\n(.*?)^```\n\ngets[^`]*```\n(.*?)^```$"
 FORMS = ["none", "full", "middle", "short"]
+PARTS = ["", "year", "month", "day"]
 BLANKS = {"": 0, "a blank and ": 1, "two blanks and ": 2, "three blanks and ": 3, "seven blanks and ": 7}
+# a format and a text for each sentence of quarrels, in the order of their table
+REFUSED = [
+    ("%" * 1025, "5"),
+    ("%d %Q", "5"),
+    ("%d", "5" * 1025),
+    ("%a", "5"),
+    ("%d %b", "5"),
+    ("%H", "24"),
+    ("%d %e", "5 6"),
+    ("%a %d %b %Y", "Tue 5 Mar 1934"),
+    ("%H %p", "7 PM"),
+    ("%d %b", "5 mar"),
+    ("%I:%M", "07:08"),
+    ("%p", "PM"),
+]
 
 
 def rows(rules, head):
@@ -33,8 +51,7 @@ def reported(program, text):
 
 
 def readings(rules):
-    """Lists, each with its report."""
-    yield re.search(r"(?ms)^The input\n\n```\n(.*?)^```\n\ngets the report\n\n```\n(.*?)^```$", rules).groups()
+    """Lists of one text, each with its report."""
     for text, form, number, place, rest in re.findall(ROW, rules):
         text, form = (quoted[1:-1] if quoted[0] == "`" else "" for quoted in (text, form))
         date = re.search(r"\d{4}-\d\d-\d\d", rest) if number == "0" else None
@@ -98,30 +115,75 @@ def forms(library, rules):
             yield (form, text, engine), [weekday, month], [FORMS[number] for number in given]
 
 
-def main(program, prefix):
+def shown(words):
+    """The two days or hours of a 10, in the words of the tables; nothing for another number."""
+    if words[0] != 10:
+        return ""
+    if words[1] == 2:
+        return f"hours {words[6]} and {words[14]}"
+    return "days %04d-%02d-%02d and %04d-%02d-%02d" % (*words[2:5], *words[11:14])
+
+
+def named(library, kinds, form, text):
+    """The part or the kinds of a reason, in the words of its table. No word of it may stay as it was."""
+    words = (ctypes.c_uint32 * 33)(*[1024] * 33)
+    library.larusqem_explain_words(form.encode(), ctypes.c_size_t(len(form)), text.encode(), ctypes.c_size_t(len(text)), words)
+    extents = zip(kinds, words[1::2], words[2::2])
+    return PARTS[words[0]] + ", ".join(f"{kind} {start} to {end}" for kind, start, end in extents if start or end)
+
+
+def reasons(library, rules):
+    """A text and a format, each with the answer and the reason that they shall get and that they get."""
+    kinds = ["none"] + [row.split(" | ")[1] for row in rows(rules, "| kind | | said by")]
+    for row in rows(rules, "| text | format | answer | reason"):
+        text, form = re.findall(r"`([^`]*)`", row)
+        answer, reason = row.strip("|").split("|")[2:]
+        words = words_of(library, form, text, 0, 0)
+        given = f"{words[0]}, place {words[1]}, {shown(words)}".strip(", "), named(library, kinds, form, text) or shown(words)
+        yield (form, text), (answer.strip(), re.split("[:;]", reason)[0].strip()), given
+
+
+def sentences(program, rules):
+    """A format and a text for each sentence, with the sentence and, where the program does not say it, what it says. In a sentence .. is
+    any words; one that is only the end of another follows a semicolon."""
+    spans = [span for row in rows(rules, "| number | sentence") for span in re.findall(r"`([^`]*)`", row)]
+    for (form, text), sentence in zip(REFUSED, spans, strict=True):
+        said = reported(program, f"{form}\n{text}\n")
+        pattern = re.escape(sentence).replace(r"\.\.", ".*")
+        yield (form, text), sentence, sentence if re.search(rf"\nline 2: (.*; )?{pattern}\n\n\Z", said) else said
+
+
+def main(folder, prefix):
     with open(os.path.join(ROOT, "docs", "RULES.md"), encoding="utf-8") as file:
         rules = file.read()
     library = ctypes.CDLL(os.path.join(os.path.abspath(prefix), "lib", "liblarusqem.so"))
     library.larusqem_strftime_words.restype = ctypes.c_uint64
-    read, wrote = list(readings(rules)), list(writings(rules))
-    counted, named = list(counts(library, rules)), list(forms(library, rules))
-    wrong = [(text, expected, reported(program, text)) for text, expected in read]
-    wrong += [(asked, expected, written(library, *asked)) for asked, expected in wrote] + counted + named
-    wrong = [case for case in wrong if case[1] != case[2]]
+    library.larusqem_explain_words.restype = None
+    date_lines, quarrels = (os.path.join(folder, name) for name in ("date_lines", "quarrels"))
+    cases = {
+        "lists": [(text, report, reported(os.path.join(folder, name), text)) for name, text, report in re.findall(EXAMPLE, rules)],
+        "readings": [(text, report, reported(date_lines, text)) for text, report in readings(rules)],
+        "forms": list(forms(library, rules)),
+        "counts": list(counts(library, rules)),
+        "reasons": list(reasons(library, rules)),
+        "sentences": list(sentences(quarrels, rules)),
+        "writings": [(asked, expected, written(library, *asked)) for asked, expected in writings(rules)],
+    }
+    wrong = [case for tried in cases.values() for case in tried if case[1] != case[2]]
     for asked, expected, got in wrong:
         print(f"docs/RULES.md says of\n{asked}\nthat the answer is\n{expected}\nand it is\n{got}")
-    tried = f"{len(read)} readings, {len(named)} forms, {len(counted)} counts and {len(wrote)} writings"
+    tried = ", ".join(f"{len(tried)} {name}" for name, tried in cases.items())
     print(f"{tried} of docs/RULES.md tried, {len(wrong)} not as it says")
-    rows_read = len(rows(rules, "| text | format | answer")) == len(read) - 1
+    rows_read = len(rows(rules, "| text | format | answer")) == len(cases["readings"])
     rows_counted = len(rows(rules, "| said | by")) == len(re.findall(COUNTS, rules))
     rows_named = len(rows(rules, "| text | format | answer | weekday | month")) == len(re.findall(NAMED, rules))
-    if not (rows_read and rows_counted and rows_named and wrote and counted and named):
+    if not (rows_read and rows_counted and rows_named and all(cases.values())):
         print("docs/RULES.md has a row of a text, a format and an answer that was not understood")
         return 1
     return 1 if wrong else 0
 
 
 if __name__ == "__main__":
-    if len(sys.argv) != 3 or not os.access(sys.argv[1], os.X_OK):
-        sys.exit("usage: python3 tests/rules.py PROGRAM PREFIX")
+    if len(sys.argv) != 3:
+        sys.exit("usage: python3 tests/rules.py FOLDER PREFIX")
     sys.exit(main(*sys.argv[1:]))
