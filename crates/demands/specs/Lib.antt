@@ -10,7 +10,8 @@
 --      how a matched text is answered, `Answered` of Demand (`answered` in proofs/Demand);
 --      that it is answered alike by every engine, and what a budget does, in Engines (`one-verdict`, `engines` in proofs/Engines);
 --      how many days each engine examines, `Counts` of Counts (`counts` in proofs/Counts), with cases in one table, Examined
---      (`all-examined` in proofs/Examined); which kinds bear on what, by their numbers, in Bearing (`bearing` in proofs/Bearing)
+--      (`all-examined` in proofs/Examined); which kinds bear on what, by their numbers, in Bearing (`bearing` in proofs/Bearing);
+--      why a reading is refused by 9 or 10, `Reasons` of Reasons (`reasons` in proofs/Reasons)
 pub mod Bearing
 pub mod Columns
 pub mod Counts
