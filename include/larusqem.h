@@ -16,9 +16,9 @@
  * anything. Where a length is 0 nothing is read or written, and the pointer may be NULL (not so for the functions on words, below).
  *
  * The functions are pure: they keep nothing, allocate nothing, read no locale, no time zone and no clock, and have no state of their own.
- * Any number of threads may call them at once, on arrays of their own. A call takes at most 40 KB of stack (2 KB by opened elements), with
- * a reason asked for 64 KB (3 KB), and it always returns. What takes longest is a reading by the plain engine, which examines up to
- * 3,652,059 days one by one (see "Engines").
+ * Any number of threads may call them at once, on arrays of their own. A call takes at most 40 KB of stack (2 KB by opened elements, 4 KB
+ * where a reason is asked for), and it always returns. What takes longest is a reading by the plain engine, which examines up to 3,652,059
+ * days one by one (see "Engines").
  *
  * The calendar is Gregorian from 0001-01-01 to 9999-12-31. The conversions of a format are
  *   %Y %C %y %m %b %h %B %d %e %j %u %w %a %A %U %W %G %g %V %H %k %I %l %p %P %M %S
