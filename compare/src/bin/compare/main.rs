@@ -321,10 +321,8 @@ fn main() {
             let kinds = facts::drawn(&mut random);
             facts::compare_set(&mut random, &cal, &mut tally, &kinds);
         }
-        for _ in 0..2 {
-            let kind = 1 + random.below(12);
-            quarrels::compare_changed(&mut random, &cal, &mut tally, kind, 500);
-        }
+        let kind = 1 + random.below(12);
+        quarrels::compare_changed(&mut random, &cal, &mut tally, kind, 200);
     }
     println!("{:6.1} s  {formats} random formats, and with flags and widths", began.elapsed().as_secs_f64());
 
