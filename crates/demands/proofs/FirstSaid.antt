@@ -29,11 +29,11 @@ module _ (k : ℕ) (s : List ℕ) where
   -- by the item of the first element, where the others do
   module _ (es : List ℕ) (n : ℕ)
       (rest : (p : ℕ) → p ≤ length s → Says (factsFrom es s p) k n → Stands (factsFrom es s p) (firstSaid k es s p)) where
-    stands-by : (i : Item) → Sound s i → Words s i → Says (saying (λ next. factsFrom es s next) i) k n
+    stands-by : (i : Item) → Sound s i → (p : ℕ) → Words s p i → Says (saying (λ next. factsFrom es s next) i) k n
         → Stands (saying (λ next. factsFrom es s next) i) (saidAt k (λ next. firstSaid k es s next) i)
     unfolding saying saidAt Says Finds Words
-    stands-by (Skip next) h w x = rest next h x
-    stands-by (Reads j m f from next) h w x = go (eqb j k) refl
+    stands-by (Skip next) h p w x = rest next h x
+    stands-by (Reads j m f from next) h p w x = go (eqb j k) refl
       where
         own : Fact
         own = record { kind = j; number = m; form = f; from = from; next = next }
@@ -43,19 +43,19 @@ module _ (k : ℕ) (s : List ℕ) where
             record {
               fact = own;
               first = here (eqb-true j k e);
-              spelled = record { some = h .1; within = h .2; bytes = w };
+              spelled = record { some = h .1; within = h .2; bytes = w .1 };
               at = refl;
             }
         go false e =
             let away = eqb-false j k e in
             let r = rest next (h .2) (⊎-elim (λ z. absurd (away (z .0))) (λ z. z) x) in
             record { fact = r .fact; first = later away (r .first); spelled = r .spelled; at = r .at }
-    stands-by (NoMatch p) h w x = absurd x
-    stands-by (OutOfRange p) h w x = absurd x
+    stands-by (NoMatch q) h p w x = absurd x
+    stands-by (OutOfRange q) h p w x = absurd x
 
   pub stands : (es : List ℕ) (p : ℕ) → p ≤ length s → (n : ℕ) → Says (factsFrom es s p) k n
       → Stands (factsFrom es s p) (firstSaid k es s p)
   unfolding factsFrom firstSaid Says
   stands [] p h n x = absurd x
   stands (e ∷ es) p h n x =
-      stands-by es n (λ q l y. stands es q l n y) (readElement e s p) (sound s p h e) (element-words s e p) x
+      stands-by es n (λ q l y. stands es q l n y) (readElement e s p) (sound s p h e) p (element-words s e p) x

@@ -9,6 +9,7 @@ pub mod Matched
 pub mod NameCases
 pub mod Names
 pub mod Quarrels
+pub mod ReasonCases
 pub mod Reasons
 pub mod Rows
 pub mod Spelled

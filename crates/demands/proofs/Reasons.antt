@@ -1,6 +1,6 @@
 -- Why a reading is refused by 9 or 10: by every engine, for every format and text.
 -- Assumes nothing.
-use Prim.Native.Nat.{ℕ, _<_}
+use Prim.Native.Nat.{ℕ, _≤_, _<_}
 use mathlib.Core.Bool.{Bool, true, false, true≢false}
 use mathlib.Core.List.{List}
 use mathlib.Core.Logic.{_⊎_, inl, inr, ⊎-elim}
@@ -13,7 +13,7 @@ use Rattle.calendar.specs.Calendar.{date, dateOf, dayNumber}
 use Rattle.calendar.specs.declared.Date.{Date}
 use Rattle.calendar.proofs.Dates.{number-of-date}
 use Rattle.format.specs.Conversions.{among}
-use Rattle.format.specs.Opening.{opening, closed, opened, longest}
+use Rattle.format.specs.Opening.{Whole, opening, closed, opened, longest}
 use Rattle.format.specs.declared.opening.Side.the-variants.{Reader}
 use Rattle.judge.specs.Demand.{IsDay, IsHour}
 use Rattle.judge.specs.Verdicts.{dayVerdict, hourVerdict}
@@ -40,6 +40,7 @@ use Rattle.strptime.specs.declared.Day.{Day}
 use Rattle.strptime.specs.declared.Reading.{Reading}
 use Rattle.strptime.specs.declared.Shown.{Shown}
 use Rattle.strptime.specs.declared.Shown.the-variants.{Nothing, Days, Hours as TwoHours}
+use Rattle.strptime.proofs.Opened.{read-by-elements}
 use Rattle.demands.specs.Demand.{beforeNine}
 use Rattle.demands.specs.Engines.{SameBut}
 use Rattle.demands.specs.Facts.{Matched}
@@ -167,9 +168,12 @@ module _ (e : Engine) (f s : List ℕ) (b : Before f s) where
 -- ---- a matched text
 
 -- its format opens to its elements
-matched-elements : (f s : List ℕ) → Matched f s → formatElements f ≡ opening Reader f .elements
+whole-elements : (f : List ℕ) → length f ≤ longest → opening Reader f .ended ≡ Whole → formatElements f ≡ opening Reader f .elements
 unfolding formatElements opened closed
-matched-elements f s m = rw (le-leb (length f) longest (m .format-short), m .format-whole)
+whole-elements f short whole = rw (le-leb (length f) longest short, whole)
+
+matched-elements : (f s : List ℕ) → Matched f s → formatElements f ≡ opening Reader f .elements
+matched-elements f s m = whole-elements f (m .format-short) (m .format-whole)
 
 module _ (e : Engine) (f s : List ℕ) (m : Matched f s) where
   abbrev state : State
@@ -270,6 +274,7 @@ module _ (e : Engine) (f s : List ℕ) where
         two-days = λ x y p q. both-ways (λ m. differ-days e f s m x y p q) (λ b. absurd (early-not e f s b 10 refl p));
         two-hours = λ a b p q. reason-ten (readingBy e f s) p ∙ rw q;
         same = λ d. let x = same-reason (engines f s .same e d) in rw x;
+        by-elements = λ short bytes whole. rw (read-by-elements e f short bytes whole s, whole-elements f short whole);
       }
     where
       no-quarrel : (readingBy e f s .number ≡ 9 → ⊥) → (a : About) → reasonOf (readingBy e f s) ≡ Quarrel a → ⊥

@@ -1,4 +1,4 @@
--- The words of a fact are digits, or letters, from the first to the last.
+-- The words of a fact are digits, or letters, from the first to the last, and before them an element takes white space alone.
 -- Assumes nothing.
 use Prim.Native.Nat.{ℕ, zero, suc, _+_, _-_}
 use mathlib.Core.Bool.{Bool, true, false, cond, _&&_, and-eq-true-iff, false≢true}
@@ -19,6 +19,7 @@ use Rattle.laws.proofs.Cases.{picked, either}
 use Rattle.laws.proofs.Lists.{every-member}
 use Rattle.matching.specs.Elements.{ordinary, readByte, ranged, readNumber, fromSunday, named, readNamed, readForm}
 use Rattle.matching.specs.Elements.{readConversion, readElement}
+use Rattle.matching.specs.Extents.{between}
 use Rattle.matching.specs.declared.elements.Item.{Item}
 use Rattle.matching.specs.declared.elements.Item.the-variants.{Skip, Fact, NoMatch, OutOfRange}
 use Rattle.text.specs.Case.{fold}
@@ -31,7 +32,15 @@ use Rattle.text.specs.declared.names.NameRead.the-variants.{Found, Nothing}
 use Rattle.text.specs.declared.names.Names.{Names}
 use Rattle.text.specs.declared.names.Names.the-variants.{Weekdays, Months, Halves}
 use Rattle.text.proofs.Forms.{is-read}
-use Rattle.demands.specs.Reasons.{isLetter, part}
+use Rattle.demands.specs.Reasons.{isLetter, FromTheFirst}
+
+-- ---- white space
+
+spaces-first : (s : List ℕ) → every isSpace (take (spaces s) s) ≡ true
+unfolding spaces every
+spaces-first [] = refl
+spaces-first (b ∷ s) =
+    either (λ (n : ℕ). every isSpace (take n (b ∷ s)) ≡ true) (isSpace b) (λ e. rw e (spaces-first s)) (λ e. refl)
 
 -- ---- digits
 
@@ -75,69 +84,80 @@ goes-letters (a ∷ x) (b ∷ s) g e = go (eqb (fold a) (fold b)) refl g (λ h d
         (rw y at (t .0), rest h (t .1))
     go false p h rest = absurd (false≢true h)
 
--- ---- an item's words
+-- ---- an item's words, where the element stands at an offset
 module _ (s : List ℕ) where
+  abbrev Before : ℕ → ℕ → Type 0
+  Before at from = every isSpace (between s at from) ≡ true
+
   abbrev Bytes : ℕ → ℕ → Type 0
-  Bytes from next = (every isDigit (part s from next) ≡ true) ⊎ (every isLetter (part s from next) ≡ true)
+  Bytes from next = (every isDigit (between s from next) ≡ true) ⊎ (every isLetter (between s from next) ≡ true)
 
-  unfoldable pub Words : Item → Type 0
-  Words (Skip next) = Unit {0}
-  Words (Fact k n f from next) = Bytes from next
-  Words (NoMatch p) = Unit {0}
-  Words (OutOfRange p) = Unit {0}
+  unfoldable pub Words : ℕ → Item → Type 0
+  Words at (Skip next) = Unit {0}
+  Words at (Fact k n f from next) = Before at from × Bytes from next
+  Words at (NoMatch p) = Unit {0}
+  Words at (OutOfRange p) = Unit {0}
 
-  -- the part that is as long as something is that many bytes
-  part-is : (from n : ℕ) → part s from (from + n) ≡ take n (drop from s)
-  part-is from n = let e : from + n - from ≡ n = omega arith in rw e
+  -- as many bytes as lie between
+  between-is : (from n : ℕ) → between s from (from + n) ≡ take n (drop from s)
+  between-is from n = let e : from + n - from ≡ n = omega arith in rw e
 
-  number-words : (c : Conversion) (at : ℕ) → Words (readNumber c s at)
+  number-words : (c : Conversion) (at : ℕ) → Words at (readNumber c s at)
   unfolding readNumber ranged Words
   number-words c at =
       let from = at + spaces (drop at s) in
       let ds = digitRun (c .width) (drop from s) in
+      let blank : Before at from = rw (between-is at (spaces (drop at s))) (spaces-first (drop at s)) in
       let digits : Bytes from (from + length ds)
-      = inl (rw (part-is from (length ds), run-first (c .width) (drop from s)) (run-digits (c .width) (drop from s))) in
-      picked Words (eqb (length ds) 0) tt
-      (picked Words (leb (c .low) (decimal 0 ds) && leb (decimal 0 ds) (c .high)) digits tt)
+      = inl (rw (between-is from (length ds), run-first (c .width) (drop from s)) (run-digits (c .width) (drop from s))) in
+      picked (Words at) (eqb (length ds) 0) tt
+      (picked (Words at) (leb (c .low) (decimal 0 ds) && leb (decimal 0 ds) (c .high)) (blank, digits) tt)
 
-  sunday-words : (i : Item) → Words i → Words (fromSunday i)
+  sunday-words : (at : ℕ) (i : Item) → Words at i → Words at (fromSunday i)
   unfolding fromSunday Words
-  sunday-words (Skip n) w = tt
-  sunday-words (Fact k v f from n) w = w
-  sunday-words (NoMatch p) w = tt
-  sunday-words (OutOfRange p) w = tt
+  sunday-words at (Skip n) w = tt
+  sunday-words at (Fact k v f from n) w = w
+  sunday-words at (NoMatch p) w = tt
+  sunday-words at (OutOfRange p) w = tt
 
-  named-words : (t : Names) (c : Conversion) (at : ℕ) → Words (readNamed t c s at)
-  unfolding readNamed named Words readName
+  named-words : (t : Names) (c : Conversion) (at : ℕ) → Words at (readNamed t c s at)
+  unfolding readNamed named Words readName every
   named-words t c at = go (readName t (drop at s)) refl
     where
-      go : (r : NameRead) → readName t (drop at s) ≡ r → Words (named t (c .kind) r at)
+      go : (r : NameRead) → readName t (drop at s) ≡ r → Words at (named t (c .kind) r at)
       go (Found i n f) e =
           let r = is-read (formsOf t) (drop at s) e in
           let l = every-member (λ (x : names.Form). every isLetter (x .letters)) (formsOf t) (letters-all t) (r .form) (r .listed) in
-          inr (rw (part-is at n, ← r .long) (goes-letters (r .form .letters) (drop at s) (r .fits) l))
+          let none : Before at at = let z : at - at ≡ 0 = omega arith in rw z in
+          (none, inr (rw (between-is at n, ← r .long) (goes-letters (r .form .letters) (drop at s) (r .fits) l)))
       go Nothing e = tt
 
-  form-words : (f : Form) (c : Conversion) (at : ℕ) → Words (readForm f c s at)
+  form-words : (f : Form) (c : Conversion) (at : ℕ) → Words at (readForm f c s at)
   unfolding readForm Words
   form-words Zeros c at = number-words c at
   form-words Blanks c at = number-words c at
-  form-words FromSunday c at = sunday-words (readNumber c s at) (number-words c at)
+  form-words FromSunday c at = sunday-words at (readNumber c s at) (number-words c at)
   form-words (Short t) c at = named-words t c at
   form-words (Full t) c at = named-words t c at
   form-words (Lower t) c at = named-words t c at
   form-words Unknown c at = tt
 
-  byte-words : (b at : ℕ) → Words (readByte b s at)
+  byte-words : (b at : ℕ) → Words at (readByte b s at)
   unfolding readByte ordinary Words
-  byte-words b at = picked Words (isSpace b) tt (go (drop at s))
+  byte-words b at = picked (Words at) (isSpace b) tt (go (drop at s))
     where
-      go : (t : List ℕ) → Words (ordinary b t at)
+      go : (t : List ℕ) → Words at (ordinary b t at)
       go [] = tt
-      go (c ∷ t) = picked Words (eqb c b) tt tt
+      go (c ∷ t) = picked (Words at) (eqb c b) tt tt
 
-  pub element-words : (e at : ℕ) → Words (readElement e s at)
+  pub element-words : (e at : ℕ) → Words at (readElement e s at)
   unfolding readElement readConversion
   element-words e at =
       let c = conversionOf (letterOf e) in
-      picked Words (isByte e) (byte-words e at) (form-words (c .form) c at)
+      picked (Words at) (isByte e) (byte-words e at) (form-words (c .form) c at)
+
+pub from-the-first : FromTheFirst
+unfolding Words
+from-the-first e at k n from next s f r =
+    let w : Words s at (Fact k n f from next) = rw r at (element-words s e at) in
+    w .0

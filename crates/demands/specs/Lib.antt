@@ -11,7 +11,8 @@
 --      that it is answered alike by every engine, and what a budget does, in Engines (`one-verdict`, `engines` in proofs/Engines);
 --      how many days each engine examines, `Counts` of Counts (`counts` in proofs/Counts), with cases in one table, Examined
 --      (`all-examined` in proofs/Examined); which kinds bear on what, by their numbers, in Bearing (`bearing` in proofs/Bearing);
---      why a reading is refused by 9 or 10, `Reasons` of Reasons (`reasons` in proofs/Reasons)
+--      why a reading is refused by 9 or 10, `Reasons` of Reasons (`reasons` in proofs/Reasons), and that words begin with their first
+--      digit or letter (`from-the-first` in proofs/Spelled), with cases in one table, ReasonCases (`all-explained` in proofs/ReasonCases)
 pub mod Bearing
 pub mod Columns
 pub mod Counts
@@ -21,6 +22,7 @@ pub mod Examined
 pub mod Facts
 pub mod NameCases
 pub mod Names
+pub mod ReasonCases
 pub mod Reasons
 pub mod Rows
 pub mod Starred

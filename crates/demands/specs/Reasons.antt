@@ -1,21 +1,25 @@
 -- Why a reading is refused by 9 or 10 (RULES 8.5), by the facts that a text says and by what the writer would write. Days go by their day
 -- numbers.
-use Prim.Native.Nat.{ℕ, _-_, _≤_, _<_}
+use Prim.Native.Nat.{ℕ, _≤_, _<_}
 use mathlib.Core.Bool.{Bool, true, _&&_}
 use mathlib.Core.List.{List, _∷_, List·Memᴰ as Member}
 use mathlib.Core.Logic.{_⊎_, _↔_}
 use mathlib.Core.Path.{_≡_}
 use lib.Dec.{leb}
-use lib.ListN.{length, getD, take, drop}
+use lib.ListN.{length, getD}
 use Rattle.calendar.specs.declared.Date.{Date}
+use Rattle.format.specs.Opening.{Whole, isByte, opening, longest}
+use Rattle.format.specs.declared.opening.Side.the-variants.{Reader}
 use Rattle.judge.specs.Demand.{IsDay, IsHour}
 use Rattle.judge.specs.declared.Engine.{Engine}
 use Rattle.judge.specs.declared.Engine.the-variants.{Skipping}
 use Rattle.kinds.specs.Kinds.{dayKinds, hourKinds}
 use Rattle.laws.specs.Lists.{every}
-use Rattle.matching.specs.Extents.{extent, nowhere}
+use Rattle.matching.specs.Elements.{readElement}
+use Rattle.matching.specs.Extents.{extent, between, nowhere}
+use Rattle.matching.specs.declared.elements.Item.the-variants.{Fact as Reads}
 use Rattle.matching.specs.declared.extents.Extent.{Extent}
-use Rattle.reasons.specs.Reasons.{explainedBy}
+use Rattle.reasons.specs.Reasons.{explainedBy, elementsExplainedBy}
 use Rattle.reasons.specs.declared.About.the-variants.{Day as TheDay, Hour as TheHour}
 use Rattle.reasons.specs.declared.Part.{Part}
 use Rattle.reasons.specs.declared.Part.the-variants.{Year, Month, Day}
@@ -25,6 +29,8 @@ use Rattle.strptime.specs.Answers.{readingBy}
 use Rattle.strptime.specs.declared.Shown.the-variants.{Days, Hours as TwoHours}
 use Rattle.text.specs.Case.{fold}
 use Rattle.text.specs.Digits.{isDigit}
+use Rattle.text.specs.Space.{isSpace}
+use Rattle.text.specs.declared.names.NameForm.{NameForm}
 use Rattle.demands.specs.Facts.{Fact, Says, facts}
 use Rattle.demands.specs.Writes.{WouldWrite, onDay, atHour}
 
@@ -38,15 +44,17 @@ pub data FirstOf (k : ℕ) : List Fact → Fact → Type 0 where
 unfoldable pub isLetter : ℕ → Bool
 isLetter b = leb 97 (fold b) && leb (fold b) 122
 
--- the bytes of a text from an offset up to another
-abbrev pub part : List ℕ → ℕ → ℕ → List ℕ
-part s from next = take (next - from) (drop from s)
-
 -- a fact's words: one byte at least, all of them digits, or all letters
 pub record Spelled (s : List ℕ) (x : Fact) : Type 0 where
   pub some : x .from < x .next
   pub within : x .next ≤ length s
-  pub bytes : (every isDigit (part s (x .from) (x .next)) ≡ true) ⊎ (every isLetter (part s (x .from) (x .next)) ≡ true)
+  pub bytes : (every isDigit (between s (x .from) (x .next)) ≡ true) ⊎ (every isLetter (between s (x .from) (x .next)) ≡ true)
+
+-- an element that says a fact goes on from its offset over white space alone to the fact's first digit or letter
+abbrev pub FromTheFirst : Type 0
+FromTheFirst =
+    (e at k n from next : ℕ) (s : List ℕ) (f : NameForm) → readElement e s at ≡ Reads k n f from next
+    → every isSpace (between s at from) ≡ true
 
 -- ---- the part in which two dates differ first
 
@@ -100,3 +108,6 @@ module _ (e : Engine) (f s : List ℕ) where
         → explainedBy e f s .reason ≡ Hours a b
     -- it is the same by every engine that does not refuse the reading by 11
     pub same : (readingBy e f s .number ≡ 11 → ⊥) → explainedBy e f s ≡ explainedBy Skipping f s
+    -- and by the elements that the format opens to
+    pub by-elements : length f ≤ longest → every isByte f ≡ true → opening Reader f .ended ≡ Whole
+        → elementsExplainedBy e (opening Reader f .elements) s ≡ explainedBy e f s

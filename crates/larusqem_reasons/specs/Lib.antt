@@ -1,2 +1,3 @@
 -- The reasons of readings on numbers and slices, as C sees them.
+pub mod Cases
 pub mod Reasons

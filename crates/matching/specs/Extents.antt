@@ -1,8 +1,9 @@
 -- Where a kind of fact was first said in a text (RULES 8.5): from its first digit or letter up to the byte after its last.
-use Prim.Native.Nat.{ℕ}
+use Prim.Native.Nat.{ℕ, _-_}
 use mathlib.Core.Bool.{cond}
 use mathlib.Core.List.{List, [], _∷_}
 use lib.Dec.{eqb}
+use lib.ListN.{take, drop}
 use Rattle.matching.specs.Elements.{readElement}
 use Rattle.matching.specs.declared.elements.Item.{Item}
 use Rattle.matching.specs.declared.elements.Item.the-variants.{Skip, Fact, NoMatch, OutOfRange}
@@ -10,6 +11,10 @@ use Rattle.matching.specs.declared.extents.Extent.{Extent}
 
 abbrev pub extent : ℕ → ℕ → Extent
 extent from next = record { from = from; next = next }
+
+-- the bytes of a text from an offset up to another
+abbrev pub between : List ℕ → ℕ → ℕ → List ℕ
+between s from next = take (next - from) (drop from s)
 
 -- where nothing stands
 unfoldable pub nowhere : Extent

@@ -1,16 +1,13 @@
 -- What the functions of this crate hand each other.
 use Prim.Native.Nat.{ℕ}
-use mathlib.Core.Bool.{cond, not, _&&_}
+use mathlib.Core.Bool.{cond}
 use mathlib.Core.List.{List, map}
-use lib.Dec.{eqb}
-use Rattle.format.specs.Conversions.{among}
-use Rattle.judge.specs.Agreement.{said}
 use Rattle.judge.specs.declared.Facts.{Facts}
 use Rattle.kinds.specs.Kinds as kinds
 use Rattle.laws.specs.Lists.{range}
 use Rattle.matching.specs.Extents.{nowhere, firstSaid}
 use Rattle.matching.specs.declared.extents.Extent.{Extent}
-use Rattle.reasons.specs.Quarrels.{kindsOf}
+use Rattle.reasons.specs.Quarrels.{hasKind}
 use Rattle.reasons.specs.declared.About.{About}
 use Rattle.reasons.specs.declared.About.the-variants.{Day, Hour}
 
@@ -25,7 +22,7 @@ lastKind Hour = kinds.halfOfDay
 
 -- where a kind was first said, if it is among the facts that are left; and all of them
 unfoldable pub wordIn : About → Facts → List ℕ → List ℕ → ℕ → Extent
-wordIn a left es s k = cond (among k (kindsOf a) && not (eqb (said left k) 0)) (firstSaid k es s 0) nowhere
+wordIn a left es s k = cond (hasKind a left k) (firstSaid k es s 0) nowhere
 
 unfoldable pub wordsIn : About → Facts → List ℕ → List ℕ → List Extent
 wordsIn a left es s = map (wordIn a left es s) (range 0 kinds.kinds)

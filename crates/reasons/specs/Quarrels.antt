@@ -47,9 +47,13 @@ allTried a (k ∷ ks) f = allTried a ks (tried a k f)
 unfoldable pub quarrelling : About → Facts → Facts
 quarrelling a f = allTried a (kindsOf a) f
 
--- kind k is named: it bears on what is judged, and is left
+-- some facts have one of kind k, which bears on what is judged
+abbrev pub hasKind : About → Facts → ℕ → Bool
+hasKind a f k = among k (kindsOf a) && not (eqb (said f k) 0)
+
+-- kind k is named: it is left
 unfoldable pub isNamed : About → Facts → ℕ → Bool
-isNamed a f k = among k (kindsOf a) && not (eqb (said (quarrelling a f) k) 0)
+isNamed a f k = hasKind a (quarrelling a f) k
 
 -- everything here, for proofs that compute
 unfoldable pub computes : Unit {0}

@@ -46,7 +46,7 @@ use Rattle.refusals.specs.Sentences.{badConversion, mismatch, noun, quar
 use Rattle.refusals.specs.Sentences.{openSentence, sentence}
 use Rattle.refusals.specs.Shown.{shown}
 use Rattle.refusals.specs.Words.{labels, label, wordsAt, labelBefore, phrase, begins, beginsFrom, wordsFrom}
-use Rattle.refusals.specs.Words.{separator, saidAt, wordList}
+use Rattle.refusals.specs.Words.{separator, phraseAt, wordList}
 use Rattle.refusals.proofs.Labels.{no-label}
 use Rattle.refusals.proofs.Over.{tally-most, most-below}
 
@@ -114,8 +114,8 @@ separator-most n =
     picked (λ (x : List ℕ). length x ≤ 5) (eqb n 0) (lit≤ tt) (picked (λ (x : List ℕ). length x ≤ 5) (eqb n 1) (lit≤ tt) (lit≤ tt))
 
 module _ (xs : List Extent) (s : List ℕ) (h : (k : ℕ) → getD xs k nowhere .next ≤ longest) where
-  said-most : (at k : ℕ) → length (saidAt xs s at k) ≤ 1049 * one (begins xs at k)
-  unfolding saidAt
+  said-most : (at k : ℕ) → length (phraseAt xs s at k) ≤ 1049 * one (begins xs at k)
+  unfolding phraseAt
   said-most at k = go (begins xs at k)
     where
       x : Extent
@@ -133,13 +133,13 @@ module _ (xs : List Extent) (s : List ℕ) (h : (k : ℕ) → getD xs k nowhere 
           )
       go false = omega arith
 
-  at-most : (at n : ℕ) → length (each (saidAt xs s at) n) ≤ 1049 * tally (begins xs at) n
+  at-most : (at n : ℕ) → length (each (phraseAt xs s at) n) ≤ 1049 * tally (begins xs at) n
   unfolding each tally
   at-most at zero = omega arith
   at-most at (suc n) =
       omega (
         arith,
-        length-append (each (saidAt xs s at) n) (saidAt xs s at n),
+        length-append (each (phraseAt xs s at) n) (phraseAt xs s at n),
         at-most at n,
         said-most at n,
         tally-one (begins xs at) n,
@@ -149,13 +149,13 @@ module _ (xs : List Extent) (s : List ℕ) (h : (k : ℕ) → getD xs k nowhere 
   unfolding wordsFrom begins
   parted at = rw (← add-one at) (tally-parted _ _ _ (λ k. begins-parted (getD xs k nowhere) at) kinds)
 
-  from-most : (n : ℕ) → length (each (λ at. each (saidAt xs s at) kinds) n) + 1049 * wordsFrom xs n ≤ 1049 * wordsFrom xs 0
+  from-most : (n : ℕ) → length (each (λ at. each (phraseAt xs s at) kinds) n) + 1049 * wordsFrom xs n ≤ 1049 * wordsFrom xs 0
   unfolding each
   from-most zero = omega arith
   from-most (suc n) =
       omega (
         arith,
-        length-append (each (λ at. each (saidAt xs s at) kinds) n) (each (saidAt xs s n) kinds),
+        length-append (each (λ at. each (phraseAt xs s at) kinds) n) (each (phraseAt xs s n) kinds),
         from-most n,
         at-most n kinds,
         parted n,

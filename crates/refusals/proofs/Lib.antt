@@ -1,5 +1,6 @@
 -- Laws that the proofs of several functions cite.
 pub mod Answers
+pub mod Cases
 pub mod Labels
 pub mod Lengths
 pub mod Marked

@@ -44,11 +44,12 @@ refusalsOn (f ∷ ts) = blocks (blockBy f) 2 ts
 unfoldable pub refusalsOf : List ℕ → List ℕ
 refusalsOf s = onLines refusalsOn s
 
--- the number of the line that begins at a place of an input
+-- how many newlines some bytes have
 unfoldable pub newlines : List ℕ → ℕ
 newlines [] = 0
 newlines (b ∷ s) = let more = newlines s in cond (eqb b newline) (suc more) more
 
+-- the number of the line that begins at a place of an input
 unfoldable pub lineNumber : List ℕ → ℕ → ℕ
 lineNumber s at = suc (newlines (take at s))
 

@@ -5,4 +5,5 @@ pub mod Marks
 pub mod Words
 pub mod Sentences
 pub mod Blocks
+pub mod Cases
 pub mod Private

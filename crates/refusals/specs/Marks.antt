@@ -14,7 +14,7 @@ use Rattle.matching.specs.declared.extents.Extent.{Extent}
 use Rattle.strptime.specs.declared.Reading.{Reading}
 use Rattle.refusals.specs.Over.{some, most}
 
--- what is marked: the place of 6, 7 and 8, or the words that a reason names, by kind
+-- what is marked: the place of 6, 7 and 8, at 0, which is no kind, or the words that a reason names, by kind
 unfoldable pub marked : Reading → List Extent → List Extent
 marked r words = cond (among (r .number) (6 ∷ 7 ∷ 8 ∷ [])) (extent (r .place) (r .place + 1) ∷ []) words
 

@@ -11,7 +11,7 @@ ghost use lib.ListN.{length};
 ghost use Rattle.kinds.specs.Kinds.{kinds};
 ghost use Rattle.lists.specs.Putting.{Put, each};
 ghost use Rattle.refusals.specs.Private.{AllInside};
-ghost use Rattle.refusals.specs.Words.{label, labelBefore, phrase, begins, beginsFrom, wordsFrom, separator, saidAt, wordList};
+ghost use Rattle.refusals.specs.Words.{label, labelBefore, phrase, begins, beginsFrom, wordsFrom, separator, phraseAt, wordList};
 
 // What stands before a number of each kind, and its length: nothing before a year and a day.
 const LABELS: [[u8; 20]; 16] = [
@@ -126,7 +126,7 @@ fn put_separator(out: &mut [u8], at: usize, more: usize) -> usize
 }
 
 // The words of a kind, if they begin at an offset.
-fn put_said_at(
+fn put_phrase_at(
     out: &mut [u8],
     at: usize,
     text: &[u8],
@@ -136,7 +136,7 @@ fn put_said_at(
 ) -> usize
     requires { ⌜ (kind < kinds) × (offset < length (now text)) ⌝ }
     requires { ⌜ AllInside words (now text) ⌝ }
-    ensures { λ r. ⌜ Put (saidAt words (now (text .entry)) offset kind) (now (out .entry)) at (now (out .exit)) r ⌝ }
+    ensures { λ r. ⌜ Put (phraseAt words (now (text .entry)) offset kind) (now (out .entry)) at (now (out .exit)) r ⌝ }
 {
     if !begins(words, offset, kind) {
         return first_place(out, at);
@@ -158,12 +158,12 @@ fn put_words_at(
 ) -> usize
     requires { ⌜ offset < length (now text) ⌝ }
     requires { ⌜ AllInside words (now text) ⌝ }
-    ensures { λ r. ⌜ Put (each (saidAt words (now (text .entry)) offset) kinds) (now (out .entry)) at (now (out .exit)) r ⌝ }
+    ensures { λ r. ⌜ Put (each (phraseAt words (now (text .entry)) offset) kinds) (now (out .entry)) at (now (out .exit)) r ⌝ }
 {
     let mut end = first_place(out, at);
     let mut kind = 0;
     while kind < kinds::KINDS {
-        end = put_said_at(out, end, text, words, offset, kind);
+        end = put_phrase_at(out, end, text, words, offset, kind);
         kind += 1;
     }
     end

@@ -7,13 +7,13 @@ use lib.ListN.{length}
 use Rattle.kinds.specs.Kinds.{kinds}
 use Rattle.lists.specs.Putting.{Put, each}
 use Rattle.lists.proofs.Puts.{each-start, each-next, kept-length}
-use Rattle.refusals.specs.Words.{saidAt, wordList}
+use Rattle.refusals.specs.Words.{phraseAt, wordList}
 use Rattle.refusals.proofs.words.put_word_list.Statement.{statement}
 use Rattle.refusals.proofs.words.put_word_list.Tie as tie
 
 abbrev Inv-loop : tie.InvT-loop
 Inv-loop out₀ at text words end₀ offset₀ out end offset =
-    (offset ≤ length text) × Put (each (λ i. each (saidAt words text i) kinds) offset) out₀ at out end
+    (offset ≤ length text) × Put (each (λ i. each (phraseAt words text i) kinds) offset) out₀ at out end
 
 abbrev μ-loop : tie.MeasureT-loop
 μ-loop out₀ at text words end₀ offset₀ out end offset = length text - offset

@@ -5,13 +5,13 @@ use native.Mathlib.Omega.{arith}
 use Rattle.kinds.specs.Kinds.{kinds}
 use Rattle.lists.specs.Putting.{Put, each}
 use Rattle.lists.proofs.Puts.{each-start, each-next, kept-length}
-use Rattle.refusals.specs.Words.{saidAt}
+use Rattle.refusals.specs.Words.{phraseAt}
 use Rattle.refusals.proofs.words.put_words_at.Statement.{statement}
 use Rattle.refusals.proofs.words.put_words_at.Tie as tie
 
 abbrev Inv-loop : tie.InvT-loop
 Inv-loop out₀ at text words offset end₀ kind₀ out end kind =
-    (kind ≤ kinds) × Put (each (saidAt words text offset) kind) out₀ at out end
+    (kind ≤ kinds) × Put (each (phraseAt words text offset) kind) out₀ at out end
 
 abbrev μ-loop : tie.MeasureT-loop
 μ-loop out₀ at text words offset end₀ kind₀ out end kind = kinds - kind
@@ -22,8 +22,8 @@ first-place-requires c κs = tt
 loop-holds : tie.Need-loop-holds Inv-loop μ-loop
 loop-holds c = (omega arith, each-start _ (c .first-place .ensures))
 
-put-said-at-requires : tie.Need-put-said-at-requires Inv-loop μ-loop
-put-said-at-requires c κs =
+put-phrase-at-requires : tie.Need-put-phrase-at-requires Inv-loop μ-loop
+put-phrase-at-requires c κs =
     let s = c .before .before .before .before .before .before .before in
     ((omega arith, s .pre .0), s .pre .1)
 
@@ -36,7 +36,7 @@ loop-less c = omega arith
 loop-again : tie.Need-loop-again Inv-loop μ-loop
 loop-again c =
     let l = c .before .before .before .before .before .loop in
-    (omega arith, each-next _ (l .kind) (l .inv .1) (c .before .before .put-said-at .ensures))
+    (omega arith, each-next _ (l .kind) (l .inv .1) (c .before .before .put-phrase-at .ensures))
 
 same-length : tie.Need-same-length Inv-loop μ-loop
 same-length c = kept-length (c .before .loop .inv .1)
@@ -55,7 +55,7 @@ put-words-at-spec =
     μ-loop
     first-place-requires
     loop-holds
-    put-said-at-requires
+    put-phrase-at-requires
     add-kind
     loop-less
     loop-again

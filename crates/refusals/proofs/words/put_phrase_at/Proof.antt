@@ -1,4 +1,4 @@
--- `refusals::words::put_said_at` meets its contract. Assumes nothing.
+-- `refusals::words::put_phrase_at` meets its contract. Assumes nothing.
 use Prim.Native.Nat.{_<_}
 use mathlib.Core.Path.{sym, _∙_}
 use native.Mathlib.Omega.{arith}
@@ -6,11 +6,11 @@ use borrow.Author.Tests.{not-true, not-false}
 use lib.ListN.{getD}
 use Rattle.matching.specs.Extents.{nowhere}
 use Rattle.lists.proofs.Puts.{then}
-use Rattle.refusals.specs.Words.{begins, saidAt}
+use Rattle.refusals.specs.Words.{begins, phraseAt}
 use Rattle.refusals.proofs.Phrases.{some-words}
 use borrow.Author.Needs.{needs}
-use Rattle.refusals.proofs.words.put_said_at.Statement.{statement}
-use Rattle.refusals.proofs.words.put_said_at.Tie as tie
+use Rattle.refusals.proofs.words.put_phrase_at.Statement.{statement}
+use Rattle.refusals.proofs.words.put_phrase_at.Tie as tie
 
 begins-requires : tie.Need-begins-requires
 begins-requires c κs = search needs
@@ -22,7 +22,7 @@ same-length : tie.Need-same-length
 same-length c = search needs
 
 returns : tie.Need-returns
-unfolding saidAt
+unfolding phraseAt
 returns c =
     let b = c .before .before .before .begins .ensures in
     rw (sym b ∙ not-true _ (c .before .before .if1 .taken)) (c .first-place .ensures)
@@ -71,7 +71,7 @@ same-length-2 : tie.Need-same-length-2
 same-length-2 c = search needs
 
 returns-2 : tie.Need-returns-2
-unfolding saidAt nowhere
+unfolding phraseAt nowhere
 returns-2 c =
     let p = c .before .before in
     let w = p .before .words-from .ensures in
@@ -80,8 +80,8 @@ returns-2 c =
     rw (sym (e .before .begins .ensures) ∙ not-false _ (e .if1 .left))
     (then (f .put-phrase .ensures) (rw w at (p .put-separator .ensures)))
 
-pub put-said-at-spec : {M : Type 1} → statement M
-put-said-at-spec =
+pub put-phrase-at-spec : {M : Type 1} → statement M
+put-phrase-at-spec =
     tie.close
     (tie.spec
     begins-requires
