@@ -1,4 +1,4 @@
-// Reads a list, a format and texts, from standard input or from a file, and writes the report on it (RULES 9). An input that was not read
+// Reads a list, a format and texts, from standard input or from a file, and writes the report on it (RULES 9.1). An input that was not read
 // to its end gets no report; what could not be done is said on standard error.
 use console::Asked;
 use console::print;
@@ -75,8 +75,8 @@ fn print_help() -> bool {
         && print(b"  number place date time\n\n")
         && print(b"The number is 0 where the text was read; the place is then the offset after\n")
         && print(b"what was read, and what follows was not looked at. Any other number tells\n")
-        && print(b"why there is no answer. A date that is not fixed is -, an hour, a minute or\n")
-        && print(b"a second --. A list of more than 32,768 bytes gets the line: too long\n\n")
+        && print(b"why there is no answer; quarrels says it in words. A date that is not fixed\n")
+        && print(b"is -, an hour, minute or second --. A list over 32,768 bytes gets: too long\n\n")
         && print(b"README.md, or date_lines(1) and larusqem(3), have numbers and conversions.\n")
 }
 
