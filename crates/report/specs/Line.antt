@@ -1,4 +1,4 @@
--- A line of the report: `number place date time` (RULES 9).
+-- A line of the report: `number place date time` (RULES 9.1).
 use Prim.Native.Nat.{ℕ}
 use mathlib.Core.List.{List, _++_}
 use Rattle.laws.specs.Bytes.{bytes}

@@ -1,4 +1,4 @@
--- The whole report (RULES 9).
+-- The whole report (RULES 9.1).
 use Prim.Native.Nat.{ℕ}
 use mathlib.Core.List.{List, [], _∷_, _++_}
 use lib.ListN.{drop}

@@ -1,4 +1,4 @@
-// The report on a list of texts (RULES 9): a header, and a line for each text as it is read by the list's first line, the format. It is
+// The report on a list of texts (RULES 9.1): a header, and a line for each text as it is read by the list's first line, the format. It is
 // made in parts, so that a small buffer does: `first_part` once, then `next_part` while texts are left.
 use format::MOST_ELEMENTS;
 use format::Opened;

@@ -1,4 +1,4 @@
-//! Inputs for the program date_lines, and what it must write: each of its rules (RULES 9) at least once.
+//! Inputs for the program date_lines, and what it must write: each of its rules (RULES 9.1) at least once.
 //! For cases `example` and `returns` the output is typed, not computed.
 use crate::{cat, Counts};
 use compare::rules::{lines_of, read, Calendar, Engine, LONGEST_LIST};
