@@ -1,9 +1,8 @@
 // Reads a list, a format and texts, from standard input or from a file, and writes the report on it (RULES 9.1). An input that was not read
 // to its end gets no report; what could not be done is said on standard error.
 use console::Asked;
-use console::print;
+use console::print_help;
 use console::print_version;
-use console::put;
 use console::what_is_asked;
 use format::MOST_ELEMENTS;
 use libc::STDERR_FILENO;
@@ -60,43 +59,40 @@ fn report_on_file(name: &[u8]) {
     report_on(fd);
 }
 
-// Each of these answers whether all was written.
+const USAGE: [u8; 46] = *b"usage: date_lines [FILE] | --help | --version\n";
 
-fn put_usage(fd: i32) -> bool {
-    put(fd, b"usage: date_lines [FILE] | --help | --version\n")
+const NOT_PRINTED: [u8; 47] = *b"date_lines: the text could not be written whole";
+
+fn help() {
+    print_help(
+        &USAGE,
+        b"\n\
+Reads a list of texts, from FILE or standard input, and reports their dates.\n\
+The first line is the format, such as %d %b %Y, and each other one a text.\n\
+The report has a header and a line for each text:\n\n  \
+number place date time\n\n\
+The number is 0 where the text was read; the place is then the offset after\n\
+what was read, and what follows was not looked at. Any other number tells\n\
+why there is no answer; quarrels says it in words. A date that is not fixed\n\
+is -, an hour, minute or second --. A list over 32,768 bytes gets: too long\n\n\
+README.md, or date_lines(1) and larusqem(3), have numbers and conversions.\n",
+        &NOT_PRINTED,
+    );
 }
 
-fn print_help() -> bool {
-    put_usage(STDOUT_FILENO)
-        && print(b"\n")
-        && print(b"Reads a list of texts, from FILE or standard input, and reports their dates.\n")
-        && print(b"The first line is the format, such as %d %b %Y, and each other one a text.\n")
-        && print(b"The report has a header and a line for each text:\n\n")
-        && print(b"  number place date time\n\n")
-        && print(b"The number is 0 where the text was read; the place is then the offset after\n")
-        && print(b"what was read, and what follows was not looked at. Any other number tells\n")
-        && print(b"why there is no answer; quarrels says it in words. A date that is not fixed\n")
-        && print(b"is -, an hour, minute or second --. A list over 32,768 bytes gets: too long\n\n")
-        && print(b"README.md, or date_lines(1) and larusqem(3), have numbers and conversions.\n")
-}
-
-// Says so where a text was not written whole.
-fn tell(written: bool) {
-    if !written {
-        os::fail(b"date_lines: the text could not be written whole");
-    }
+fn refuse() {
+    write_all(STDERR_FILENO, &USAGE);
 }
 
 fn main() {
     let mut argument = io::buffer();
     let n = os::arg(1, &mut argument);
-    match what_is_asked(&argument[..n]) {
+    let fetched = os::errno() == 0;
+    match what_is_asked(os::arg_count(), fetched, &argument[..n]) {
         Asked::Standard => report_on(STDIN_FILENO),
         Asked::File => report_on_file(&argument[..n]),
-        Asked::Help => tell(print_help()),
-        Asked::Version => tell(print_version(b"date_lines")),
-        Asked::Unknown => {
-            put_usage(STDERR_FILENO);
-        }
+        Asked::Help => help(),
+        Asked::Version => print_version(b"date_lines", &NOT_PRINTED),
+        Asked::Unknown => refuse(),
     }
 }

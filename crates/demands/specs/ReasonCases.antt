@@ -48,7 +48,7 @@ unfoldable pub reasonCases : List Case
 reasonCases =
     -- from the first digit or letter, after white space, to the byte after the last
     (stand "Tue 5 Mar 1934" "%a %d %b %Y" (year ∷ month ∷ day ∷ weekday ∷ []), 10 ∷ 14 ∷ 6 ∷ 9 ∷ 4 ∷ 5 ∷ 0 ∷ 3 ∷ [])
-    ∷ (stand "  Tuesday  05\tMar1934" " %a%d %b%Y" (year ∷ month ∷ day ∷ weekday ∷ []), 17 ∷ 21 ∷ 14 ∷ 17 ∷ 11 ∷ 13 ∷ 2 ∷ 9 ∷ [])
+    ∷ (stand "  Tues  05\tMar1934" " %a%d %b%Y" (month ∷ day ∷ weekday ∷ []), 11 ∷ 14 ∷ 8 ∷ 10 ∷ 2 ∷ 6 ∷ [])
     -- where it was first said, in a composite too
     ∷ (stand "Tue 2 5 Mar 1934" "%a %u %d %b %Y" (weekday ∷ []), 0 ∷ 3 ∷ [])
     ∷ (stand "2 Tue 5 Mar 1934" "%u %a %d %b %Y" (weekday ∷ []), 0 ∷ 1 ∷ [])

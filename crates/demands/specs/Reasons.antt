@@ -93,7 +93,8 @@ module _ (e : Engine) (f s : List ℕ) where
 
   pub record Reasons : Type 0 where
     -- a reason is there exactly with 9 and 10
-    pub none : (explainedBy e f s .reason ≡ NoReason) ↔ ((readingBy e f s .number ≡ 9 → ⊥) × (readingBy e f s .number ≡ 10 → ⊥))
+    pub none : (explainedBy e f s .reason ≡ NoReason)
+        ↔ ((readingBy e f s .number ≡ 9 → ⊥) × (readingBy e f s .number ≡ 10 → ⊥))
     -- and words only with 9
     pub no-words : (readingBy e f s .number ≡ 9 → ⊥) → (k : ℕ) → wordsOf k ≡ nowhere
     -- 9, for the day and for the hour

@@ -25,7 +25,8 @@ reasonCases =
     -- Tue 5 Mar 1934: year 10 to 14, month 6 to 9, day 4 to 5, weekday 0 to 3
     (
       words (Quarrel TheDay)
-          (nowhere ∷ extent 10 14 ∷ nowhere ∷ nowhere ∷ extent 6 9 ∷ extent 4 5 ∷ nowhere ∷ extent 0 3 ∷ replicate 10 nowhere),
+          (nowhere ∷ extent 10 14 ∷ nowhere ∷ nowhere ∷ extent 6 9 ∷ extent 4 5 ∷ nowhere ∷ extent 0 3
+          ∷ replicate 10 nowhere),
       0 ∷ 0 ∷ 0 ∷ 10 ∷ 14 ∷ 0 ∷ 0 ∷ 0 ∷ 0 ∷ 6 ∷ 9 ∷ 4 ∷ 5 ∷ 0 ∷ 0 ∷ 0 ∷ 3 ∷ replicate 16 0,
     )
     -- 7 PM: hour 0 to 1, half of day 2 to 4

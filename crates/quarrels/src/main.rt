@@ -1,9 +1,8 @@
 // Reads a list, a format and texts, from standard input or from a file, and says what is wrong with each text that is refused (RULES 9.2).
 // Of an input that was not read to its end nothing is said; what could not be done is said on standard error.
 use console::Asked;
-use console::print;
+use console::print_help;
 use console::print_version;
-use console::put;
 use console::what_is_asked;
 use format::MOST_ELEMENTS;
 use libc::STDERR_FILENO;
@@ -60,53 +59,42 @@ fn report_on_file(name: &[u8]) {
     report_on(fd);
 }
 
-// Each of these answers whether all was written.
+const USAGE: [u8; 44] = *b"usage: quarrels [FILE] | --help | --version\n";
 
-fn put_usage(fd: i32) -> bool {
-    put(fd, b"usage: quarrels [FILE] | --help | --version\n")
+const NOT_PRINTED: [u8; 45] = *b"quarrels: the text could not be written whole";
+
+fn help() {
+    print_help(
+        &USAGE,
+        b"\n\
+Reads a list of texts, from FILE or standard input, and says what is wrong with\n\
+those that cannot be dated. The first line is the format, such as %a %d %b %Y,\n\
+and each other one a text. For each text that is refused it writes the text,\n\
+marks under the words that quarrel or where the reading stopped, the number of\n\
+its line with a sentence, and an empty line:\n\n  \
+Tue 5 Mar 1934\n  \
+^^^ ^ ^^^ ^^^^\n  \
+line 3: no day is Tue, 5, Mar and 1934 together\n\n\
+A text that is read gets nothing: date_lines gives its date. A list of more\n\
+than 32,768 bytes gets the line: too long\n\n\
+README.md, or quarrels(1) and larusqem(3), have the sentences and conversions.\n",
+        &NOT_PRINTED,
+    );
 }
 
-fn print_help() -> bool {
-    put_usage(STDOUT_FILENO)
-        && print(b"\n")
-        && print(
-            b"Reads a list of texts, from FILE or standard input, and says what is wrong with\n",
-        )
-        && print(
-            b"those that cannot be dated. The first line is the format, such as %a %d %b %Y,\n",
-        )
-        && print(b"and each other one a text. For each text that is refused it writes the text,\n")
-        && print(
-            b"marks under the words that quarrel or where the reading stopped, the number of\n",
-        )
-        && print(b"its line with a sentence, and an empty line:\n\n")
-        && print(b"  Tue 5 Mar 1934\n")
-        && print(b"  ^^^ ^ ^^^ ^^^^\n")
-        && print(b"  line 3: no day is Tue, 5, Mar and 1934 together\n\n")
-        && print(b"A text that is read gets nothing: date_lines gives its date. A list of more\n")
-        && print(b"than 32,768 bytes gets the line: too long\n\n")
-        && print(
-            b"README.md, or quarrels(1) and larusqem(3), have the sentences and conversions.\n",
-        )
-}
-
-// Says so where a text was not written whole.
-fn tell(written: bool) {
-    if !written {
-        os::fail(b"quarrels: the text could not be written whole");
-    }
+fn refuse() {
+    write_all(STDERR_FILENO, &USAGE);
 }
 
 fn main() {
     let mut argument = io::buffer();
     let n = os::arg(1, &mut argument);
-    match what_is_asked(&argument[..n]) {
+    let fetched = os::errno() == 0;
+    match what_is_asked(os::arg_count(), fetched, &argument[..n]) {
         Asked::Standard => report_on(STDIN_FILENO),
         Asked::File => report_on_file(&argument[..n]),
-        Asked::Help => tell(print_help()),
-        Asked::Version => tell(print_version(b"quarrels")),
-        Asked::Unknown => {
-            put_usage(STDERR_FILENO);
-        }
+        Asked::Help => help(),
+        Asked::Version => print_version(b"quarrels", &NOT_PRINTED),
+        Asked::Unknown => refuse(),
     }
 }

@@ -31,13 +31,13 @@ refusalCases =
     -- numbers of each kind
     ∷ (
       refuses 9 1
-          (extent 0 1 ∷ extent 1 2 ∷ extent 2 3 ∷ extent 3 4 ∷ extent 4 5 ∷ extent 5 6 ∷ extent 6 7 ∷ extent 7 8 ∷ extent 8 9
-          ∷ extent 9 10 ∷ extent 10 11 ∷ extent 11 12 ∷ [])
+          (extent 0 1 ∷ extent 1 2 ∷ extent 2 3 ∷ extent 3 4 ∷ extent 4 5 ∷ extent 5 6
+          ∷ extent 6 7 ∷ extent 7 8 ∷ extent 8 9 ∷ extent 9 10 ∷ extent 10 11 ∷ extent 11 12 ∷ [])
           "123456789123",
       bytes "123456789123\n^^^^^^^^^^^^\nline 3: no day is 1, century 2, year in century 3, month 4, 5, day of year 6, weekday 7, "
           ++ bytes "Sunday week 8, Monday week 9, ISO year 1, ISO year in century 2 and ISO week 3 together\n\n",
     )
-    -- nothing for a text that is read; no hour, 7, 8, 6, and 6 at the end
+    -- nothing for a text that is read; no hour, 7, 6, and 6 at the end
     ∷ (
       lists "%H:%M %p %I\n7:8 am 7\n7:08 PM 7\n7:08 AM 8\n7:60 am 7\n7:8 am 13\n7.8 am 7\n7:8 ",
       bytes "7:08 PM 7\n^    ^^\nline 3: no hour is hour 7 and PM together\n\n"

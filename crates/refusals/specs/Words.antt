@@ -17,8 +17,9 @@ use Rattle.refusals.specs.Shown.{shown}
 unfoldable pub labels : List (List ℕ)
 labels =
     map bytes
-    ("" ∷ "" ∷ "century " ∷ "year in century " ∷ "month " ∷ "" ∷ "day of year " ∷ "weekday " ∷ "Sunday week " ∷ "Monday week "
-    ∷ "ISO year " ∷ "ISO year in century " ∷ "ISO week " ∷ "hour " ∷ "hour of twelve " ∷ "" ∷ [])
+    ("" ∷ "" ∷ "century " ∷ "year in century " ∷ "month " ∷ "" ∷ "day of year " ∷ "weekday "
+    ∷ "Sunday week " ∷ "Monday week " ∷ "ISO year " ∷ "ISO year in century " ∷ "ISO week "
+    ∷ "hour " ∷ "hour of twelve " ∷ "" ∷ [])
 
 unfoldable pub label : ℕ → List ℕ
 label k = getD labels k []

@@ -81,7 +81,8 @@ fn put_text(
     elements: &[u32],
     text: &[u8],
 ) -> usize
-    ensures { λ r. ⌜ Put (openedBlock opened (now (elements .entry)) line (now (text .entry))) (now (out .entry)) at (now (out .exit)) r ⌝ }
+    ensures { λ r. ⌜ Put (openedBlock opened (now (elements .entry)) line (now (text .entry)))
+        (now (out .entry)) at (now (out .exit)) r ⌝ }
 {
     let answer = answer_to(opened, elements, text);
     let count = elements_of(opened, elements);
@@ -100,7 +101,8 @@ pub(crate) fn put_blocks(
     out: &mut [u8; PART],
 ) -> Next
     requires { ⌜ (length (now input) ≤ longestInput) × (first ≡ lineNumber (now input) from) ⌝ }
-    ensures { λ r. ⌜ NextPart blocksBy opened (now (elements .entry)) (now (input .entry)) from (now (out .entry)) (now (out .exit)) r ⌝ }
+    ensures { λ r. ⌜ NextPart blocksBy opened (now (elements .entry)) (now (input .entry)) from
+        (now (out .entry)) (now (out .exit)) r ⌝ }
 {
     let mut next = from;
     let mut line = first as u32;

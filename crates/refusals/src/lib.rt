@@ -68,7 +68,8 @@ pub fn next_part(
     from: usize,
     out: &mut [u8; PART],
 ) -> Next
-    ensures { λ r. ⌜ NextPart blocksBy opened (now (elements .entry)) (now (input .entry)) from (now (out .entry)) (now (out .exit)) r ⌝ }
+    ensures { λ r. ⌜ NextPart blocksBy opened (now (elements .entry)) (now (input .entry)) from
+        (now (out .entry)) (now (out .exit)) r ⌝ }
 {
     if LONGEST_INPUT < input.len() {
         return Next {

@@ -35,7 +35,8 @@ pub fn next_part(
     from: usize,
     out: &mut [u8; PART],
 ) -> Next
-    ensures { λ r. ⌜ NextPart linesBy opened (now (elements .entry)) (now (input .entry)) from (now (out .entry)) (now (out .exit)) r ⌝ }
+    ensures { λ r. ⌜ NextPart linesBy opened (now (elements .entry)) (now (input .entry)) from
+        (now (out .entry)) (now (out .exit)) r ⌝ }
 {
     let mut next = from;
     let mut count = 0;

@@ -1,0 +1,2 @@
+-- What the arguments of a program ask for.
+pub mod Arguments
