@@ -8,8 +8,8 @@ use Rattle.format.specs.declared.opening.Opened.the-variants.{Done, TooLong, Ba
 use Rattle.strptime.specs.Answers.{refused, unlessLong, elementsReading}
 use Rattle.strptime.specs.declared.Reading.{Reading}
 
--- how a text is read by what opening a format answered and stored: 1, or 5 and 3, or by the elements; what opening never answers is cut to
--- what it can: a count of elements to all that are there, an offset to the longest format's end
+-- how a text is read by what opening a format answered and stored: 1, or 5 and 3, or by the elements. No more are elements than there are
+-- entries, and no offset lies past the longest format; opening answers nothing else.
 unfoldable pub openedReading : Opened → List ℕ → List ℕ → Reading
 openedReading (Done n) es s = elementsReading (take n es) s
 openedReading TooLong es s = refused 1 0

@@ -24,12 +24,13 @@ unfoldable pub lineLength : List ℕ → ℕ
 lineLength [] = 0
 lineLength (b ∷ s) = let more = suc (lineLength s) in cond (eqb b newline) 0 more
 
--- a report on the lines of an input; a longer input gives the line `too long` alone
+-- the bytes of the longest input, and what a longer one gets
 abbrev pub longestInput : ℕ
 longestInput = 32768
 
 abbrev pub tooLong : List ℕ
 tooLong = bytes "too long\n"
 
+-- a report on the lines of an input
 unfoldable pub onLines : (List (List ℕ) → List ℕ) → List ℕ → List ℕ
 onLines report s = let all = report (lines s) in cond (leb (length s) longestInput) all tooLong
