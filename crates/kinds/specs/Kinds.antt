@@ -53,11 +53,14 @@ minute = 16
 abbrev pub second : ℕ
 second = 17
 
+abbrev pub zoneOffset : ℕ
+zoneOffset = 18
+
 -- how many entries a list has that is indexed by kind; there is no kind 0
 abbrev pub kinds : ℕ
-kinds = 18
+kinds = 19
 
--- which bear on the day, and which on the hour; minute and second bear on neither
+-- which bear on the day, and which on the hour; minute, second and zone offset bear on neither
 unfoldable pub dayKinds : List ℕ
 dayKinds =
     year

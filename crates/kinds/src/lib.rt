@@ -33,8 +33,10 @@ pub const MINUTE: u32 = 16;
 
 pub const SECOND: u32 = 17;
 
+pub const ZONE_OFFSET: u32 = 18;
+
 // How many entries an array has that is indexed by kind; there is no kind 0.
-pub const KINDS: usize = 18;
+pub const KINDS: usize = 19;
 
 // The kinds that bear on the day, and those that bear on the hour: the first and the last.
 pub const FIRST_DAY_KIND: u32 = YEAR;

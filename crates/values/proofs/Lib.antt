@@ -1,2 +1,4 @@
 -- Laws that callers may cite.
 pub mod Ranges
+pub mod Signed
+pub mod Seconds

@@ -17,18 +17,19 @@ use Rattle.calendar.proofs.Dates.{Valid, no-fault-valid, number-within}
 use Rattle.calendar.proofs.Months.{month-most}
 use Rattle.calendar.proofs.Ranges.{day-of-year-range, weekday-range, week-most, iso-year-range, iso-week-range}
 use Rattle.values.specs.Moments.{momentFault}
+use Rattle.values.specs.Offsets.{isOffset}
 use Rattle.values.specs.Values.{dayNumberOf, dateValue, dateValues, hourOfTwelve, halfOfDay, hourValue, value}
 use Rattle.values.specs.declared.Moment.{Moment}
 
--- the lowest value of each kind, by its number: Y C y m d j u U W G g V, H I p, M S; there is no kind 0
+-- the lowest value of each kind, by its number: Y C y m d j u U W G g V, H I p, M S, z; there is no kind 0
 unfoldable pub lowest : List ℕ
 lowest =
-    0 ∷ 1 ∷ 0 ∷ 0 ∷ 1 ∷ 1 ∷ 1 ∷ 1 ∷ 0 ∷ 0 ∷ 1 ∷ 0 ∷ 1 ∷ 0 ∷ 1 ∷ 0 ∷ 0 ∷ 0 ∷ []
+    0 ∷ 1 ∷ 0 ∷ 0 ∷ 1 ∷ 1 ∷ 1 ∷ 1 ∷ 0 ∷ 0 ∷ 1 ∷ 0 ∷ 1 ∷ 0 ∷ 1 ∷ 0 ∷ 0 ∷ 0 ∷ 0 ∷ []
 
 -- the highest, in the same order
 unfoldable pub highest : List ℕ
 highest =
-    0 ∷ 9999 ∷ 99 ∷ 99 ∷ 12 ∷ 31 ∷ 366 ∷ 7 ∷ 53 ∷ 53 ∷ 9999 ∷ 99 ∷ 53 ∷ 23 ∷ 12 ∷ 1 ∷ 59 ∷ 60 ∷ []
+    0 ∷ 9999 ∷ 99 ∷ 99 ∷ 12 ∷ 31 ∷ 366 ∷ 7 ∷ 53 ∷ 53 ∷ 9999 ∷ 99 ∷ 53 ∷ 23 ∷ 12 ∷ 1 ∷ 59 ∷ 60 ∷ 2878 ∷ []
 
 -- v lies in the range of kind k
 abbrev pub Ranged : ℕ → ℕ → Type 0
@@ -103,6 +104,7 @@ pub record ValidMoment (m : Moment) : Type 0 where
   pub hour : m .hour ≤ 23
   pub minute : m .minute ≤ 59
   pub second : m .second ≤ 60
+  pub offset : isOffset (m .offset) ≡ true
 
 no-fault : (b : Bool) (x f : ℕ) → (b ≡ false → 0 < f) → cond b x f ≡ 0 → (b ≡ true) × (x ≡ 0)
 no-fault true x f p e = (refl, e)
@@ -110,7 +112,7 @@ no-fault false x f p e = absurd (omega (arith, p refl, e))
 
 -- a moment without a bad field is valid
 pub no-fault-moment : (m : Moment)
-    → momentFault (m .date .year) (m .date .month) (m .date .day) (m .hour) (m .minute) (m .second) ≡ 0
+    → momentFault (m .date .year) (m .date .month) (m .date .day) (m .hour) (m .minute) (m .second) (m .offset) ≡ 0
     → ValidMoment m
 unfolding momentFault
 no-fault-moment m e =
@@ -118,11 +120,13 @@ no-fault-moment m e =
     let b = no-fault (leb (m .hour) 23) _ 4 (λ _. omega arith) (a .1) in
     let c = no-fault (leb (m .minute) 59) _ 5 (λ _. omega arith) (b .1) in
     let f = no-fault (leb (m .second) 60) _ 6 (λ _. omega arith) (c .1) in
+    let g = no-fault (isOffset (m .offset)) 0 7 (λ _. omega arith) (f .1) in
     record {
       date = no-fault-valid (m .date .year) (m .date .month) (m .date .day) (eqb-true _ _ (a .0));
       hour = leb-true (m .hour) 23 (b .0);
       minute = leb-true (m .minute) 59 (c .0);
       second = leb-true (m .second) 60 (f .0);
+      offset = g .0;
     }
 
 minute-second : (m : Moment) → ValidMoment m → (k : ℕ) → 16 ≤ k → k ≤ 17 → Ranged k (value k m)

@@ -1,17 +1,26 @@
 // Moments, and the value that each kind of fact has for one.
+mod offsets;
+
 use calendar::Date;
+use offsets::is_offset;
 ghost use mathlib.Core.Path.{_≡_};
 ghost use Rattle.values.specs.Moments.{momentOf};
+ghost use Rattle.values.specs.Offsets.{seconds};
 ghost use Rattle.values.specs.Values.{dateValue, hourOfTwelve, halfOfDay, hourValue, value};
+pub use offsets::Offset;
+pub use offsets::is_negative;
+pub use offsets::magnitude;
+pub use offsets::offset_of;
 
 pub struct Moment {
     pub date: Date,
     pub hour: u8,
     pub minute: u8,
     pub second: u8,
+    pub offset: Offset,
 }
 
-// What six fields give: a moment, or the first bad one: 1 year, 2 month, 3 day, 4 hour, 5 minute, 6 second.
+// What seven fields give: a moment, or the first bad one: 1 year, 2 month, 3 day, 4 hour, 5 minute, 6 second, 7 offset.
 pub enum MomentFields {
     Valid(Moment),
     Bad(u8),
@@ -25,8 +34,9 @@ impl Moment {
         hour: u32,
         minute: u32,
         second: u32,
+        offset: Offset,
     ) -> MomentFields
-        ensures { λ r. ⌜ r ≡ momentOf year month day hour minute second ⌝ }
+        ensures { λ r. ⌜ r ≡ momentOf year month day hour minute second offset ⌝ }
     {
         match Date::from_fields(year, month, day) {
             calendar::FromFields::Bad(field) => MomentFields::Bad(field),
@@ -40,11 +50,15 @@ impl Moment {
                 if 60 < second {
                     return MomentFields::Bad(6);
                 }
+                if !is_offset(offset) {
+                    return MomentFields::Bad(7);
+                }
                 MomentFields::Valid(Moment {
                     date,
                     hour: hour as u8,
                     minute: minute as u8,
                     second: second as u8,
+                    offset,
                 })
             }
         }
@@ -66,7 +80,19 @@ impl Moment {
             _ => 0,
         }
     }
+
+    // Whole seconds from 1970-01-01 00:00:00 UTC, where the moment is so many minutes east of UTC.
+    pub fn seconds(self, east: i32) -> i64
+        ensures { λ r. ⌜ r ≡ seconds self east ⌝ }
+    {
+        let days = self.date.day_number() as i64 - EPOCH;
+        let minutes = self.minute as i64 - east as i64;
+        86400 * days + 3600 * self.hour as i64 + 60 * minutes + self.second as i64
+    }
 }
+
+// The day number of 1970-01-01.
+const EPOCH: i64 = 719163;
 
 // The value of a kind that bears on the day.
 pub fn date_value(kind: u32, date: Date) -> u32
