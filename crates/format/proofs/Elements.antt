@@ -16,9 +16,9 @@ use Rattle.laws.proofs.Cases.{either, picked, clash}
 use Rattle.laws.proofs.Lists.{each, every-of, every-append}
 use Rattle.format.specs.Conversions.{Row, among, rows, isConversion, conversionOf, ownFormat, computes as rows-compute}
 use Rattle.format.specs.Opening.{Ended, Opening, longest, unstyled, conversionAt, isByte, letterOf, afterSign}
-use Rattle.format.specs.Opening.{conversion, flags, flagRun, widthRun, styleFrom, takesFlag, isUnstyled, withStyle}
+use Rattle.format.specs.Opening.{conversion, flags, flagRun, widthRun, styleFrom, takesStyle, isUnstyled, withStyle, isRead, toRead}
 use Rattle.format.specs.Opening.{styled, signed, pieceOf, nothing, before, composed, acted, signAt, openFrom, compositeTo}
-use Rattle.format.specs.Opening.{openTo, opening, mostElements, hasStyle, isElement, elementsIn}
+use Rattle.format.specs.Opening.{openTo, opening, mostElements, isTaken, isElement, elementsIn}
 use Rattle.format.specs.Opening.Ended.{Whole, BadAt}
 use Rattle.format.specs.declared.conversions.Form.the-variants.{Unknown}
 use Rattle.format.specs.declared.opening.Act.{Act}
@@ -52,8 +52,8 @@ byte-element side b e = rw e
 -- a flag and a width that a side takes with a letter
 abbrev Takes : Side → ℕ → Style → Type 0
 Takes Writer c y =
-    (y .width ≤ 99) × (among (y .flag) (0 ∷ flags) ≡ true) × (takesFlag (y .flag) (conversionOf c .form) ≡ true)
-Takes Reader c y = y ≡ unstyled
+    (y .width ≤ 99) × (among (y .flag) (0 ∷ flags) ≡ true) × (takesStyle y c ≡ true)
+Takes Reader c y = (y ≡ unstyled) × (isRead c ≡ true)
 
 -- the parts of an element
 module _ (sign c : ℕ) (y : Style) (h : sign + 1 < longest) (l : c < 256) (w : y .width < 128) where
@@ -74,7 +74,7 @@ module _ (sign c : ℕ) (y : Style) (h : sign + 1 < longest) (l : c < 256) (w : 
 
 conversion-element : (side : Side) (sign c : ℕ) (y : Style) → sign + 1 < longest → isConversion c ≡ true → Takes side c y
     → isElement side (conversionAt sign y c) ≡ true
-unfolding isElement hasStyle
+unfolding isElement isTaken
 conversion-element Writer sign c y h e t =
     let l = letter-below c e in
     let w : y .width < 128 = omega (arith, t .0) in
@@ -94,7 +94,7 @@ conversion-element Reader sign c y h e t =
     let l = letter-below c e in
     let m : letterOf (conversionAt sign unstyled c) ≡ c = element-letter sign c unstyled h l (lit< tt) in
     let a : afterSign (conversionAt sign unstyled c) ≡ sign + 1 = element-sign sign c unstyled h l (lit< tt) in
-    rw t
+    rw (t .0)
     (rw (
       le-ltb (conversionAt sign unstyled c) 256 (element-large sign c unstyled h l (lit< tt)),
       m,
@@ -102,6 +102,7 @@ conversion-element Reader sign c y h e t =
       e,
       le-leb 1 (sign + 1) (omega arith),
       lt-ltb (conversionAt sign unstyled c) 262144 (omega arith),
+      t .1,
     ))
 
 -- ---- what stands first stores such
@@ -118,12 +119,12 @@ style-stores : (y : Style) → y .width ≤ 99 → among (y .flag) (0 ∷ flags)
 unfolding withStyle
 style-stores y w k (Byte b) e = picked (Stores Writer) (isUnstyled y) e tt
 style-stores y w k (Convert c x) e =
-    either (Stores Writer) (takesFlag (y .flag) (conversionOf c .form)) (λ t. (e .0, (w, k, t))) (λ t. tt)
+    either (Stores Writer) (takesStyle y c) (λ t. (e .0, (w, k, t))) (λ t. tt)
 style-stores y w k (Open c) e = picked (Stores Writer) (isUnstyled y) tt tt
 style-stores y w k Refuse e = tt
 
 signed-stores : (side : Side) (s : List ℕ) → Stores side (signed side s .act)
-unfolding signed styled styleFrom
+unfolding signed styled styleFrom toRead
 signed-stores Writer s =
     let f = flagRun s in
     let w = widthRun (drop (length f) s) in
@@ -131,9 +132,9 @@ signed-stores Writer s =
     style-stores (styleFrom f w) (width-run (drop (length f) s) .most) (flag-run s .known) (conversion rest .act) (conversion-unstyled rest)
 signed-stores Reader s = go (conversion s .act) (conversion-unstyled s)
   where
-    go : (a : Act) → Unstyled a → Stores Reader a
+    go : (a : Act) → Unstyled a → Stores Reader (toRead a)
     go (Byte b) u = u
-    go (Convert c y) u = u
+    go (Convert c y) u = either (Stores Reader) (isRead c) (λ t. (u .0, (u .1, t))) (λ t. tt)
     go (Open c) u = u
     go Refuse u = u
 
@@ -213,11 +214,11 @@ are-bytes s f = every-of isByte 0 s (λ k h. lt-ltb (getD s k 0) 256 (f k h))
 -- ---- an entry that is an element and no byte is a conversion, with a flag and a width that the side takes
 
 pub element-conversion : (side : Side) (e : ℕ) → isElement side e ≡ true → 256 ≤ e
-    → (isConversion (letterOf e) ≡ true) × (hasStyle side e ≡ true)
+    → (isConversion (letterOf e) ≡ true) × (isTaken side e ≡ true)
 unfolding isElement
 element-conversion side e t h =
-    let u = and-eq-true-iff (isConversion (letterOf e)) (leb 1 (afterSign e) && hasStyle side e) .0 (rw (le-ltb e 256 h) at t) in
-    (u .0, and-eq-true-iff (leb 1 (afterSign e)) (hasStyle side e) .0 (u .1) .1)
+    let u = and-eq-true-iff (isConversion (letterOf e)) (leb 1 (afterSign e) && isTaken side e) .0 (rw (le-ltb e 256 h) at t) in
+    (u .0, and-eq-true-iff (leb 1 (afterSign e)) (isTaken side e) .0 (u .1) .1)
 
 pub element-known : (side : Side) (e : ℕ) → isElement side e ≡ true → 256 ≤ e → conversionOf (letterOf e) .form ≡ Unknown → ⊥
 element-known side e t h = conversion-known (letterOf e) (element-conversion side e t h .0)

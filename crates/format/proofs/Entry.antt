@@ -1,7 +1,7 @@
 -- Whether an entry is an element, by its parts.
 -- Assumes nothing.
 use Prim.Native.Nat.{ℕ, zero, suc, _/_, _%_, _-_, _≤_, _<_}
-use mathlib.Core.Bool.{Bool, true, false, not, cond, _&&_, and-eq-true-iff, and-true, and-false}
+use mathlib.Core.Bool.{Bool, true, false, not, cond, _&&_, and-eq-true-iff, and-false}
 use mathlib.Core.List.{List, [], _∷_}
 use mathlib.Core.Path.{_≡_, refl, sym, ap, _∙_}
 use native.Mathlib.Decide.{decLe}
@@ -10,10 +10,11 @@ use native.Mathlib.Omega.{arith}
 use borrow.Author.Tests.{lt-ltb, le-ltb, le-leb, lt-leb, not-true, not-false, leb-true, ltb-true}
 use lib.Dec.{leb}
 use lib.ListN.{length, getD, List·getD-eq-default}
-use Rattle.laws.proofs.Cases.{either}
-use Rattle.format.specs.Conversions.{among, isConversion, conversionOf}
-use Rattle.format.specs.Opening.{flags, letterOf, afterSign, isPlain, styleOf, takesFlag, hasStyle, isElement, elementsIn, entryPlace}
-use Rattle.format.specs.declared.conversions.Conversion.{Conversion}
+use Rattle.laws.proofs.Cases.{either, picked, clash}
+use Rattle.format.specs.Conversions.{among, isConversion}
+use Rattle.format.specs.Opening.{flags, letterOf, afterSign, isPlain, styleOf, takesFlag, isUnstyled, bare}
+use Rattle.format.specs.Opening.{takesStyle, isRead, isTaken, isElement, elementsIn, entryPlace}
+use Rattle.format.specs.Private.{takesLetter}
 use Rattle.format.specs.declared.opening.Side.{Side}
 use Rattle.format.specs.declared.opening.Side.the-variants.{Writer, Reader}
 use Rattle.format.specs.declared.opening.Style.{Style}
@@ -27,19 +28,18 @@ module _ (e : ℕ) {y : Style} (q : y ≡ styleOf e) where
   width-is : e / 262144 % 128 ≡ y .width
   width-is = sym (ap (λ (s : Style). s .width) q)
 
-  pub too-wide : 99 < y .width → false ≡ hasStyle Writer e
-  unfolding hasStyle
+  pub too-wide : 99 < y .width → false ≡ isTaken Writer e
+  unfolding isTaken
   too-wide h = rw (width-is, lt-leb (y .width) 99 h)
 
   module _ (w : y .width ≤ 99) {t : Bool} (k : t ≡ among (y .flag) (0 ∷ flags)) where
-    pub unknown-flag : not t ≡ true → false ≡ hasStyle Writer e
-    unfolding hasStyle
+    pub unknown-flag : not t ≡ true → false ≡ isTaken Writer e
+    unfolding isTaken
     unknown-flag n = rw (width-is, flag-is, le-leb (y .width) 99 w, ← k, not-true t n)
 
-    pub known-flag : not t ≡ false → {c : Conversion} {r : Bool} → c ≡ conversionOf (e % 256) → r ≡ takesFlag (y .flag) (c .form)
-        → r ≡ hasStyle Writer e
-    unfolding hasStyle
-    known-flag n p h = rw (width-is, flag-is, le-leb (y .width) 99 w, ← k, not-false t n, ← p) h
+    pub known-flag : not t ≡ false → {r : Bool} → r ≡ takesStyle y (letterOf e) → r ≡ isTaken Writer e
+    unfolding isTaken
+    known-flag n h = rw (width-is, flag-is, le-leb (y .width) 99 w, ← k, not-false t n) h
 
 -- ---- the whole entry
 
@@ -58,42 +58,40 @@ module _ (e : ℕ) (side : Side) where
       unfolding isElement
       no-sign z = rw (le-ltb e 256 h, ← c, not-false t n, z)
 
-      pub signed-is : (e / 256 % 1024 ≡ 0 → ⊥) → {r : Bool} → r ≡ hasStyle side e → r ≡ isElement side e
+      pub signed-is : (e / 256 % 1024 ≡ 0 → ⊥) → {r : Bool} → r ≡ isTaken side e → r ≡ isElement side e
       unfolding isElement
       signed-is z s = rw (le-ltb e 256 h, ← c, not-false t n, le-leb 1 (afterSign e) (omega arith)) s
 
--- without flag and width, alike for both sides
-plain-style : (side : Side) (e : ℕ) → e < 262144 → true ≡ hasStyle side e
-unfolding hasStyle among takesFlag
-plain-style Writer e h =
+-- without flag and width: what the side takes
+plain-taken : (side : Side) (e : ℕ) → e < 262144 → takesLetter side (letterOf e) ≡ isTaken side e
+unfolding isTaken takesLetter among takesStyle isUnstyled takesFlag
+plain-taken Writer e h =
     let f : e / 33554432 ≡ 0 = omega arith in
     let w : e / 262144 % 128 ≡ 0 = omega arith in
-    rw (f, w)
-plain-style Reader e h = rw (lt-ltb e 262144 h)
+    rw (f, w) (picked (λ (t : Bool). true ≡ t) (among (letterOf e) bare) refl refl)
+plain-taken Reader e h = rw (lt-ltb e 262144 h)
 
-pub plain-is : (e : ℕ) (side : Side) → 256 ≤ e → e < 262144 → {t : Bool} → t ≡ isConversion (letterOf e) → t ≡ isElement side e
+pub plain-is : (e : ℕ) (side : Side) → 256 ≤ e → e < 262144 → {t : Bool}
+    → t ≡ (isConversion (letterOf e) && takesLetter side (letterOf e)) → t ≡ isElement side e
 unfolding isElement
-plain-is e side h l c =
-    rw (le-ltb e 256 h, ← plain-style side e l, le-leb 1 (afterSign e) (omega arith)) (simp and-true c)
+plain-is e side h l c = rw (le-ltb e 256 h, ← plain-taken side e l, le-leb 1 (afterSign e) (omega arith)) c
 
 -- with one, none to the reader
 pub not-read : (e : ℕ) → 262144 ≤ e → isElement Reader e ≡ false
-unfolding isElement hasStyle
+unfolding isElement isTaken
 not-read e h = simp (le-ltb e 256 (omega arith), le-ltb e 262144 h, and-false)
-
-alike : (e : ℕ) → e < 262144 → isElement Writer e ≡ isElement Reader e
-unfolding isElement
-alike e h = rw (← plain-style Writer e h, ← plain-style Reader e h)
 
 -- what the reader takes, the writer takes
 pub reader-writer : (e : ℕ) → isElement Reader e ≡ true → isElement Writer e ≡ true
-unfolding isElement hasStyle
+unfolding isElement isTaken
 reader-writer e p =
     elim (decLe 256 e) [
       | yes h ↦
-          let u = and-eq-true-iff (isConversion (letterOf e)) (leb 1 (afterSign e) && isPlain e) .0 (rw (le-ltb e 256 h) at p) in
-          let l = ltb-true e 262144 (and-eq-true-iff (leb 1 (afterSign e)) (isPlain e) .0 (u .1) .1) in
-          sym (plain-is e Writer h l (sym (u .0)))
+          let u = and-eq-true-iff (isConversion (letterOf e)) (leb 1 (afterSign e) && (isPlain e && isRead (letterOf e))) .0
+          (rw (le-ltb e 256 h) at p) in
+          let v = and-eq-true-iff (leb 1 (afterSign e)) (isPlain e && isRead (letterOf e)) .0 (u .1) .1 in
+          let l = ltb-true e 262144 (and-eq-true-iff (isPlain e) (isRead (letterOf e)) .0 v .0) in
+          sym (plain-is e Writer h l (unfold takesLetter in rw (u .0)))
       | no h ↦ sym (byte-is e Writer (lt-of-not-le h))
     ]
 
@@ -116,28 +114,28 @@ module _ (es : List ℕ) (k : ℕ) where
   abbrev entry : ℕ
   entry = getD es k 0
 
-  -- one that both sides take, or neither
-  pub plain-entry : entry < 262144 → k ≡ entryPlace es k
-  unfolding entryPlace
-  plain-entry h = rw (alike entry h) (neither (isElement Reader entry))
-    where
-      neither : (t : Bool) → k ≡ cond (t && not t) (afterSign entry - 1) k
-      neither true = refl
-      neither false = refl
-
   module _ {t : Bool} (w : t ≡ isElement Writer entry) where
     pub no-entry : not t ≡ true → k ≡ entryPlace es k
     unfolding entryPlace
     no-entry n = rw (← w, not-true t n)
 
-    pub styled-entry : not t ≡ false → 262144 ≤ entry → afterSign entry - 1 ≡ entryPlace es k
-    unfolding entryPlace
-    styled-entry n h = rw (← w, not-false t n, not-read entry h)
+    module _ (n : not t ≡ false) {r : Bool} (d : r ≡ isElement Reader entry) where
+      pub read-entry : r ≡ true → k ≡ entryPlace es k
+      unfolding entryPlace
+      read-entry q = rw (← w, not-false t n, ← d, q)
+
+      pub written-entry : r ≡ false → afterSign entry - 1 ≡ entryPlace es k
+      unfolding entryPlace
+      written-entry q = rw (← w, not-false t n, ← d, q)
 
 -- such an entry has the offset of a %
-pub has-sign : (e : ℕ) {t : Bool} → t ≡ isElement Writer e → not t ≡ false → 256 ≤ e → 1 ≤ afterSign e
+pub has-sign : (e : ℕ) {t r : Bool} → t ≡ isElement Writer e → not t ≡ false → r ≡ isElement Reader e → r ≡ false → 1 ≤ afterSign e
 unfolding isElement
-has-sign e {t} w n h =
-    let p = rw (le-ltb e 256 h) at (sym w ∙ not-false t n) in
-    let q = and-eq-true-iff (isConversion (letterOf e)) (leb 1 (afterSign e) && hasStyle Writer e) .0 p .1 in
-    leb-true 1 (afterSign e) (and-eq-true-iff (leb 1 (afterSign e)) (hasStyle Writer e) .0 q .0)
+has-sign e {t} w n d z =
+    elim (decLe 256 e) [
+      | yes h ↦
+          let p = rw (le-ltb e 256 h) at (sym w ∙ not-false t n) in
+          let q = and-eq-true-iff (isConversion (letterOf e)) (leb 1 (afterSign e) && isTaken Writer e) .0 p .1 in
+          leb-true 1 (afterSign e) (and-eq-true-iff (leb 1 (afterSign e)) (isTaken Writer e) .0 q .0)
+      | no h ↦ let b = byte-is e Reader (lt-of-not-le h) in clash (cc)
+    ]

@@ -12,9 +12,9 @@ use lib.Seq.{take-all}
 use Rattle.laws.proofs.Cases.{picked, either}
 use Rattle.text.specs.Digits.{decimal}
 use Rattle.text.specs.declared.digits.Digits.{Digits}
-use Rattle.format.specs.Conversions.{among, isConversion, isComposite, conversionOf}
-use Rattle.format.specs.Opening.{after-E, after-O, letter, piece, paired, conversion, flagRun, widthRun, styleFrom, takesFlag}
-use Rattle.format.specs.Opening.{unstyled, isByte, isUnstyled, withStyle, styled, signed, pieceOf}
+use Rattle.format.specs.Conversions.{among, isConversion, isComposite}
+use Rattle.format.specs.Opening.{after-E, after-O, letter, piece, paired, conversion, flagRun, widthRun, styleFrom, takesStyle}
+use Rattle.format.specs.Opening.{unstyled, isByte, isUnstyled, withStyle, isRead, toRead, styled, signed, pieceOf}
 use Rattle.format.specs.declared.opening.Act.{Act}
 use Rattle.format.specs.declared.opening.Act.the-variants.{Byte, Convert, Open, Refuse}
 use Rattle.format.specs.declared.opening.Piece.{Piece}
@@ -83,7 +83,7 @@ signed-takes Writer s =
     (omega (arith, c), omega (arith, c, flag-run s .few, width-run (drop (length f) s) .few))
 signed-takes Reader s = omega-takes (conversion-takes s)
   where
-    omega-takes : Few 3 (conversion s) → Few 6 (conversion s)
+    omega-takes : Few 3 (conversion s) → Few 6 (signed Reader s)
     omega-takes h = (h .0, omega (arith, h .1))
 
 pub takes : (side : Side) (b : ℕ) (s : List ℕ) → Few 6 (pieceOf side b s)
@@ -163,9 +163,16 @@ module _ (n k m l : ℕ) (y : Style) (h : n ≤ m) (g : k ≤ l) (f : y .flag < 
   with-style-follows (Byte b) v = picked (Follows m l) (isUnstyled y) tt tt
   with-style-follows (Convert c x) v =
       let modest : Modest l y = record { flag = f; width = w; bytes = λ d. omega (arith, t d, v .1) } in
-      picked (Follows m l) (takesFlag (y .flag) (conversionOf c .form)) (omega (arith, v .0), omega (arith, v .1), modest) tt
+      picked (Follows m l) (takesStyle y c) (omega (arith, v .0), omega (arith, v .1), modest) tt
   with-style-follows (Open c) v = picked (Follows m l) (isUnstyled y) (omega (arith, v .0), omega (arith, v .1)) tt
   with-style-follows Refuse v = tt
+
+to-read-follows : (n k : ℕ) (a : Act) → Follows n k a → Follows n k (toRead a)
+unfolding toRead
+to-read-follows n k (Byte b) v = v
+to-read-follows n k (Convert c y) v = picked (Follows n k) (isRead c) v tt
+to-read-follows n k (Open c) v = v
+to-read-follows n k Refuse v = v
 
 signed-follows : (side : Side) (s : List ℕ) → let p = signed side s in Follows (length s) (p .length) (p .act)
 unfolding signed styled styleFrom
@@ -183,7 +190,7 @@ signed-follows Writer s =
     (λ d. omega (arith, digits .two d))
     (p .act)
     (conversion-follows rest)
-signed-follows Reader s = conversion-follows s
+signed-follows Reader s = let p = conversion s in to-read-follows (length s) (p .length) (p .act) (conversion-follows s)
 
 pub follows : (side : Side) (b : ℕ) (s : List ℕ) → let p = pieceOf side b s in Follows (length s) (p .length) (p .act)
 unfolding pieceOf

@@ -13,7 +13,7 @@ use Rattle.format.specs.Conversions.{Row, Composite, among, find, rows, 
 use Rattle.format.specs.Conversions.{composites, formatOf, ownFormat, computes}
 use Rattle.format.specs.declared.conversions.Conversion.{Conversion}
 use Rattle.format.specs.declared.conversions.Form.{Form}
-use Rattle.format.specs.declared.conversions.Form.the-variants.{Zeros, Blanks, FromSunday, Short, Full, Lower, Unknown}
+use Rattle.format.specs.declared.conversions.Form.the-variants.{Zeros, Blanks, FromSunday, Short, Full, Lower, Zone, Seconds, Unknown}
 
 -- A letter is none of some letters, as a `match` on these says it in its last arm: what held before, and that it is not this one, one after
 -- the other.
@@ -55,6 +55,8 @@ known FromSunday = true
 known (Short t) = true
 known (Full t) = true
 known (Lower t) = true
+known Zone = true
+known Seconds = true
 known Unknown = false
 
 -- a conversion's letter has a row

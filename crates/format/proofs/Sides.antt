@@ -1,14 +1,14 @@
--- A format opened for the writer and for the reader: the two are the same, or the reader's ends at the first flag or width.
+-- A format opened for the writer and for the reader: the two are the same, or the reader's ends at the first flag or width, or at %s.
 -- Assumes nothing.
 use Prim.Native.Char.{code}
 use Prim.Native.Nat.{ℕ, zero, suc, _+_, _-_, _≤_, _<_}
-use mathlib.Core.Bool.{Bool, true, false, cond, _||_, and-eq-true-iff}
+use mathlib.Core.Bool.{Bool, true, false, cond, _||_, _&&_, and-eq-true-iff, and-false}
 use mathlib.Core.List.{List, [], _∷_, _++_, map, append-assoc}
 use mathlib.Core.Path.{_≡_, refl, sym, ap, _∙_}
 use native.Mathlib.Decide.{decLe}
 use native.Mathlib.Nat.{zero-add, le-of-suc-le-suc, lt-of-not-le}
 use native.Mathlib.Omega.{arith}
-use borrow.Author.Tests.{lt-leb, le-leb, ne-eqb, eqb-true}
+use borrow.Author.Tests.{lt-leb, le-leb, le-ltb, ne-eqb, eqb-true}
 use lib.Dec.{T, eqb}
 use lib.ListN.{length, getD, drop, length-append}
 use lib.Seq.{getD-append-seam}
@@ -16,12 +16,12 @@ use Rattle.laws.specs.Lists.{every}
 use Rattle.laws.proofs.Cases.{either, picked, clash}
 use Rattle.laws.proofs.Table.{at}
 use Rattle.text.specs.Digits.{isDigit, digitRun, decimal}
-use Rattle.format.specs.Conversions.{Composite, among, isConversion, conversionOf, composites, formatOf, ownFormat}
+use Rattle.format.specs.Conversions.{Composite, among, isConversion, composites, formatOf, ownFormat}
 use Rattle.format.specs.Conversions.{computes as rows-compute}
 use Rattle.format.specs.Opening.{Ended, Opening, unstyled, conversionAt, letter, piece, conversion, flags, flagRun, widthRun}
-use Rattle.format.specs.Opening.{isUnstyled, withStyle, styled, signed, pieceOf, nothing, before, composed, acted, signAt}
+use Rattle.format.specs.Opening.{isUnstyled, bare, takesStyle, withStyle, isRead, toRead, styled, signed, pieceOf, nothing, before, composed, acted, signAt}
 use Rattle.format.specs.Opening.{openFrom, compositeTo, openTo, opening, longest, mostElements, isByte, letterOf, afterSign}
-use Rattle.format.specs.Opening.{styleFrom, takesFlag, isElement, elementsIn, entryPlace, computes}
+use Rattle.format.specs.Opening.{styleFrom, takesFlag, isTaken, isElement, elementsIn, entryPlace, computes}
 use Rattle.format.specs.Opening.Ended.{Whole, BadAt}
 use Rattle.format.specs.declared.opening.Act.{Act}
 use Rattle.format.specs.declared.opening.Act.the-variants.{Byte, Convert, Open, Refuse}
@@ -69,16 +69,21 @@ begins-none b s e =
 
 -- ---- what stands first
 
--- The writer's and the reader's: the same; refused by both; or a conversion with a flag or a width, which the reader refuses.
+-- what the reader takes: no flag, no width, and no %s
+abbrev reads : ℕ → Style → Bool
+reads c y = isUnstyled y && isRead c
+
+-- The writer's and the reader's: the same; refused by both; or a conversion that the reader refuses.
 data Pieces (w r : Piece) : Type 0 where
   same : w ≡ r → Pieces w r
   neither : w .act ≡ Refuse → r .act ≡ Refuse → Pieces w r
-  writer : (c : ℕ) (y : Style) → isUnstyled y ≡ false → isConversion c ≡ true → w .act ≡ Convert c y → r .act ≡ Refuse → Pieces w r
+  writer : (c : ℕ) (y : Style) → reads c y ≡ false → isConversion c ≡ true → w .act ≡ Convert c y → r .act ≡ Refuse → Pieces w r
 
 no-style : (a : Act) → Unstyled a → withStyle unstyled a ≡ a
-unfolding withStyle isUnstyled takesFlag
+unfolding withStyle isUnstyled takesStyle takesFlag
 no-style (Byte b) u = refl
-no-style (Convert c x) u = rw (u .1)
+no-style (Convert c x) u =
+    rw (u .1) (picked (λ (t : Bool). cond t (Convert c unstyled) Refuse ≡ Convert c unstyled) (among c bare) refl refl)
 no-style (Open c) u = refl
 no-style Refuse u = refl
 
@@ -110,7 +115,7 @@ marked-with : (y : Style) (w r : Piece) → isUnstyled y ≡ false → r .act �
 unfolding withStyle
 marked-with y w r e q (Byte b) u h = neither (rw e at h) q
 marked-with y w r e q (Convert c x) u h =
-    either (λ z. w .act ≡ z → Pieces w r) (takesFlag (y .flag) (conversionOf c .form)) (λ _ k. writer c y e (u .0) k q)
+    either (λ z. w .act ≡ z → Pieces w r) (takesStyle y c) (λ _ k. writer c y (rw e) (u .0) k q)
     (λ _ k. neither k q)
     h
 marked-with y w r e q (Open c) u h = neither (rw e at h) q
@@ -139,18 +144,45 @@ module _ (s : List ℕ) (q : conversion s .act ≡ Refuse) where
           neither (rw (m, n, q)) q
       go false e = marked-with (styleFrom flag width) (styled s) (conversion s) e q (conversion rest .act) (conversion-unstyled rest) refl
 
-pieces : (s : List ℕ) → Pieces (styled s) (conversion s)
+by-styles : (s : List ℕ) → Pieces (styled s) (conversion s)
 unfolding styled flagRun widthRun styleFrom withStyle conversion
-pieces [] = same refl
-pieces (b ∷ s) = go (begins b) refl
+by-styles [] = same refl
+by-styles (b ∷ s) = go (begins b) refl
   where
     go : (t : Bool) → begins b ≡ t → Pieces (styled (b ∷ s)) (conversion (b ∷ s))
     go true e = marked (b ∷ s) (begins-none b s e)
     go false e = same (unmarked b s e)
 
--- right after a %: nothing, or a letter, alike for both sides
+-- of what stands without flag and width the reader takes all but %s
+module _ (w : Piece) (n : ℕ) where
+  all-but : (a : Act) → Unstyled a → w ≡ piece a n → Pieces w (piece (toRead a) n)
+  unfolding toRead
+  all-but (Byte b) u e = same e
+  all-but (Convert c y) u e =
+      either (λ a. Pieces w (piece a n)) (isRead c) (λ t. same e)
+      (λ t. writer c y (unfold isUnstyled in rw (u .1, t)) (u .0) (ap (λ (p : Piece). p .act) e) refl)
+  all-but (Open c) u e = same e
+  all-but Refuse u e = same e
+
+  refused-still : (a : Act) → a ≡ Refuse → toRead a ≡ Refuse
+  unfolding toRead
+  refused-still a e = rw e
+
+pieces : (s : List ℕ) → Pieces (styled s) (signed Reader s)
+unfolding signed
+pieces s = go (by-styles s)
+  where
+    p : Piece
+    p = conversion s
+
+    go : Pieces (styled s) (conversion s) → Pieces (styled s) (piece (toRead (conversion s .act)) (conversion s .length))
+    go (same e) = all-but (styled s) (conversion s .length) (conversion s .act) (conversion-unstyled s) e
+    go (neither a b) = neither a (refused-still (styled s) 0 (conversion s .act) b)
+    go (writer c y u k a b) = writer c y u k a (refused-still (styled s) 0 (conversion s .act) b)
+
+-- right after a %: nothing, or a letter that is read, alike for both sides
 pub nothing-after : (side : Side) (s : List ℕ) → length s ≡ 0 → piece Refuse 1 ≡ signed side s
-unfolding signed styled flagRun widthRun styleFrom withStyle conversion
+unfolding signed styled flagRun widthRun styleFrom withStyle toRead conversion
 nothing-after Writer [] h = refl
 nothing-after Reader [] h = refl
 nothing-after side (b ∷ s) h = absurd (omega arith)
@@ -161,18 +193,30 @@ letter-alone b s n =
     let refused : (c : ℕ) → letter c ≡ Refuse → eqb b c ≡ false = λ c e. ne-eqb b c (λ q. n (ap letter q ∙ e)) in
     rw (refused (code "E") (unfold letter rows-compute in refl), refused (code "O") (unfold letter rows-compute in refl))
 
-pub letter-after : (side : Side) (s : List ℕ) {a : Act} → (length s ≡ 0 → ⊥) → a ≡ letter (getD s 0 0) → (a ≡ Refuse → ⊥)
+-- what is read is the letter itself
+read-same : (a : Act) → (toRead a ≡ Refuse → ⊥) → toRead a ≡ a
+unfolding toRead
+read-same (Byte b) n = refl
+read-same (Convert c y) n = either (λ x. (x ≡ Refuse → ⊥) → x ≡ Convert c y) (isRead c) (λ _ m. refl) (λ _ m. absurd (m refl)) n
+read-same (Open c) n = refl
+read-same Refuse n = refl
+
+pub letter-after : (side : Side) (s : List ℕ) {a : Act} → (length s ≡ 0 → ⊥) → a ≡ toRead (letter (getD s 0 0)) → (a ≡ Refuse → ⊥)
     → piece a 2 ≡ signed side s
 unfolding signed
 letter-after side [] h e n = absurd (h refl)
-letter-after Reader (b ∷ s) h e n = rw e (sym (letter-alone b s (λ q. n (e ∙ q))))
+letter-after Reader (b ∷ s) h e n =
+    let r = read-same (letter b) (λ q. n (e ∙ q)) in
+    rw (e, letter-alone b s (λ q. n (e ∙ r ∙ q)))
 letter-after Writer (b ∷ s) h e n =
-    let alone = letter-alone b s (λ q. n (e ∙ q)) in
-    rw e (sym (go (begins b) refl alone))
+    let r = read-same (letter b) (λ q. n (e ∙ q)) in
+    let alone = letter-alone b s (λ q. n (e ∙ r ∙ q)) in
+    rw (e, r) (sym (go (begins b) refl r alone))
   where
-    go : (t : Bool) → begins b ≡ t → conversion (b ∷ s) ≡ piece (letter b) 2 → styled (b ∷ s) ≡ piece (letter b) 2
-    go true q alone = absurd (n (e ∙ (sym (ap (λ (p : Piece). p .act) alone) ∙ begins-none b s q)))
-    go false q alone = unmarked b s q ∙ alone
+    go : (t : Bool) → begins b ≡ t → toRead (letter b) ≡ letter b → conversion (b ∷ s) ≡ piece (letter b) 2
+        → styled (b ∷ s) ≡ piece (letter b) 2
+    go true q r alone = absurd (n (e ∙ r ∙ (sym (ap (λ (p : Piece). p .act) alone) ∙ begins-none b s q)))
+    go false q r alone = unmarked b s q ∙ alone
 
 first : (b : ℕ) (s : List ℕ) → Pieces (pieceOf Writer b s) (pieceOf Reader b s)
 unfolding pieceOf signed
@@ -203,14 +247,14 @@ composites-alike sign c =
 
 -- ---- the whole format
 
--- the reader's opening ends at a conversion with a flag or a width, whose % is followed by a byte within n, and the writer's goes on
+-- the reader's opening ends at a conversion that it does not take, whose % is followed by a byte within n, and the writer's goes on
 pub record Apart (n : ℕ) (w r : Opening) : Type 0 where
   pub sign : ℕ
   pub style : Style
   pub letter : ℕ
   pub more : List ℕ
   pub within : sign + 1 < n
-  pub styled : isUnstyled style ≡ false
+  pub unread : reads letter style ≡ false
   pub known : isConversion letter ≡ true
   pub width : style .width ≤ 99
   pub ended : r .ended ≡ BadAt sign
@@ -230,7 +274,7 @@ sides-before n e {w} {r} (apart a) =
       letter = a .letter;
       more = a .more;
       within = a .within;
-      styled = a .styled;
+      unread = a .unread;
       known = a .known;
       width = a .width;
       ended = a .ended;
@@ -270,7 +314,7 @@ turn n m sign l w r h p q f (writer c y u k a b) =
       letter = c;
       more = w (p .length - 1) .elements;
       within = l (v .0);
-      styled = u;
+      unread = u;
       known = k;
       width = v .2 .width;
       ended = refl;
@@ -315,8 +359,8 @@ counted-before side (suc n) (x ∷ es) e more t f h =
     let u = and-eq-true-iff (isElement side x) (every (isElement side) es) .0 t in
     rw (u .0) (ap suc (counted-before side n es e more (u .1) f (le-of-suc-le-suc h)))
 
--- a conversion with a flag or a width is no element to the reader
-module _ (sign c : ℕ) (y : Style) (h : sign + 1 < longest) (k : isConversion c ≡ true) (w : y .width ≤ 99) (u : isUnstyled y ≡ false) where
+-- a conversion that the reader does not take is no element to it
+module _ (sign c : ℕ) (y : Style) (h : sign + 1 < longest) (k : isConversion c ≡ true) (w : y .width ≤ 99) (u : reads c y ≡ false) where
   abbrev element : ℕ
   element = conversionAt sign y c
 
@@ -326,21 +370,21 @@ module _ (sign c : ℕ) (y : Style) (h : sign + 1 < longest) (k : isConversion c
   letter-of : letterOf element ≡ c
   letter-of = omega (arith, letter-below c k)
 
-  large : 262144 ≤ element
+  -- below 2^18 it has neither flag nor width, and so its letter is not read
+  small : element < 262144 → isRead c ≡ false
   unfolding isUnstyled
-  large =
-      elim (decLe 262144 element) [
-        | yes l ↦ l
-        | no l ↦
-            let m = lt-of-not-le l in
-            let f : y .flag ≡ 0 = omega arith in
-            let d : y .width ≡ 0 = omega arith in
-            let v : true ≡ false = rw (f, d) at u in
-            clash (cc)
-      ]
+  small l =
+      let f : y .flag ≡ 0 = omega arith in
+      let d : y .width ≡ 0 = omega arith in
+      rw (f, d) at u
 
   no-element : isElement Reader element ≡ false
-  no-element = unread element large
+  unfolding isElement isTaken
+  no-element =
+      elim (decLe 262144 element) [
+        | yes l ↦ unread element l
+        | no l ↦ simp (le-ltb element 256 (omega arith), letter-of, small (lt-of-not-le l), and-false)
+      ]
 
 -- a format of bytes that is not too long
 module _ (f : List ℕ) (short : length f ≤ longest) (bytes : every isByte f ≡ true)
@@ -359,7 +403,7 @@ module _ (f : List ℕ) (short : length f ≤ longest) (bytes : every isByte f �
   in-time = omega (arith, a .within)
 
   not-read : isElement Reader styled-one ≡ false
-  not-read = no-element (a .sign) (a .letter) (a .style) in-time (a .known) (a .width) (a .styled)
+  not-read = no-element (a .sign) (a .letter) (a .style) in-time (a .known) (a .width) (a .unread)
 
   stands-there : getD all (length first-ones) 0 ≡ styled-one
   stands-there = rw (a .elements) (getD-append-seam first-ones styled-one (a .more) 0)
@@ -378,5 +422,5 @@ module _ (f : List ℕ) (short : length f ≤ longest) (bytes : every isByte f �
   unfolding entryPlace
   apart-place =
       let t = rw stands-there at (element-at Writer f short bytes (length first-ones) apart-longer) in
-      let p = sign-of (a .sign) (a .letter) (a .style) in-time (a .known) (a .width) (a .styled) in
+      let p = sign-of (a .sign) (a .letter) (a .style) in-time (a .known) (a .width) (a .unread) in
       rw (stands-there, t, not-read) (omega (arith, p))

@@ -11,7 +11,7 @@ use Rattle.kinds.specs.Kinds as kinds
 use Rattle.text.specs.declared.names.Names.the-variants.{Weekdays, Months, Halves}
 use Rattle.format.specs.declared.conversions.Conversion.{Conversion}
 use Rattle.format.specs.declared.conversions.Form.{Form}
-use Rattle.format.specs.declared.conversions.Form.the-variants.{Zeros, Blanks, FromSunday, Short, Full, Lower, Unknown}
+use Rattle.format.specs.declared.conversions.Form.the-variants.{Zeros, Blanks, FromSunday, Short, Full, Lower, Zone, Seconds, Unknown}
 
 -- a byte is one of these
 unfoldable pub among : ℕ → List ℕ → Bool
@@ -29,27 +29,27 @@ pub record Row : Type 0 where
 numeric : Char → ℕ → Form → ℕ → ℕ → ℕ → Row
 numeric c k f w l h = record { letter = code c; row = record { kind = k; form = f; width = w; low = l; high = h } }
 
--- a name
-named : Char → ℕ → Form → Row
-named c k f = numeric c k f 0 0 0
+-- any other, without a width and a range
+other : Char → ℕ → Form → Row
+other c k f = numeric c k f 0 0 0
 
 unfoldable pub rows : List Row
-unfolding numeric named
+unfolding numeric other
 rows =
     numeric "Y" kinds.year Zeros 4 1 9999
     ∷ numeric "C" kinds.century Zeros 2 0 99
     ∷ numeric "y" kinds.yearInCentury Zeros 2 0 99
     ∷ numeric "m" kinds.month Zeros 2 1 12
-    ∷ named "b" kinds.month (Short Months)
-    ∷ named "h" kinds.month (Short Months)
-    ∷ named "B" kinds.month (Full Months)
+    ∷ other "b" kinds.month (Short Months)
+    ∷ other "h" kinds.month (Short Months)
+    ∷ other "B" kinds.month (Full Months)
     ∷ numeric "d" kinds.day Zeros 2 1 31
     ∷ numeric "e" kinds.day Blanks 2 1 31
     ∷ numeric "j" kinds.dayOfYear Zeros 3 1 366
     ∷ numeric "u" kinds.weekday Zeros 1 1 7
     ∷ numeric "w" kinds.weekday FromSunday 1 0 6
-    ∷ named "a" kinds.weekday (Short Weekdays)
-    ∷ named "A" kinds.weekday (Full Weekdays)
+    ∷ other "a" kinds.weekday (Short Weekdays)
+    ∷ other "A" kinds.weekday (Full Weekdays)
     ∷ numeric "U" kinds.sundayWeek Zeros 2 0 53
     ∷ numeric "W" kinds.mondayWeek Zeros 2 0 53
     ∷ numeric "G" kinds.isoYear Zeros 4 1 9999
@@ -59,10 +59,12 @@ rows =
     ∷ numeric "k" kinds.hour Blanks 2 0 23
     ∷ numeric "I" kinds.hourOfTwelve Zeros 2 1 12
     ∷ numeric "l" kinds.hourOfTwelve Blanks 2 1 12
-    ∷ named "p" kinds.halfOfDay (Full Halves)
-    ∷ named "P" kinds.halfOfDay (Lower Halves)
+    ∷ other "p" kinds.halfOfDay (Full Halves)
+    ∷ other "P" kinds.halfOfDay (Lower Halves)
     ∷ numeric "M" kinds.minute Zeros 2 0 59
     ∷ numeric "S" kinds.second Zeros 2 0 60
+    ∷ other "z" kinds.zoneOffset Zone
+    ∷ other "s" 0 Seconds
     ∷ []
 
 -- the row of a letter among some rows; a byte that is no conversion's letter has the form Unknown
@@ -77,7 +79,7 @@ conversionOf c = find c rows
 unfoldable pub isConversion : ℕ → Bool
 isConversion b = among b (map (λ (r : Row). r .letter) rows)
 
--- a form of digits; the others, but Unknown, are of letters
+-- a form of digits that are filled
 unfoldable pub isNumber : Form → Bool
 isNumber Zeros = true
 isNumber Blanks = true
@@ -85,6 +87,8 @@ isNumber FromSunday = true
 isNumber (Short t) = false
 isNumber (Full t) = false
 isNumber (Lower t) = false
+isNumber Zone = false
+isNumber Seconds = false
 isNumber Unknown = false
 
 -- ---- composites

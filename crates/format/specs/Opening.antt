@@ -116,10 +116,18 @@ takesFlag flag f = cond (eqb flag 0) true (cond (eqb flag (code "^")) (not (isNu
 unfoldable pub isUnstyled : Style → Bool
 isUnstyled y = eqb (y .flag) 0 && eqb (y .width) 0
 
+-- the letters that take neither flag nor width
+unfoldable pub bare : List ℕ
+bare = bytes "zs"
+
+-- a conversion takes a flag and a width
+unfoldable pub takesStyle : Style → ℕ → Bool
+takesStyle y c = cond (among c bare) (isUnstyled y) (takesFlag (y .flag) (conversionOf c .form))
+
 -- what stands after a flag and a width: a conversion that takes them, else nothing may stand before it
 unfoldable pub withStyle : Style → Act → Act
 withStyle y (Byte b) = cond (isUnstyled y) (Byte b) Refuse
-withStyle y (Convert c x) = cond (takesFlag (y .flag) (conversionOf c .form)) (Convert c y) Refuse
+withStyle y (Convert c x) = cond (takesStyle y c) (Convert c y) Refuse
 withStyle y (Open c) = cond (isUnstyled y) (Open c) Refuse
 withStyle y Refuse = Refuse
 
@@ -132,10 +140,20 @@ styled s =
     let p = conversion (drop n s) in
     piece (withStyle (styleFrom flag width) (p .act)) (n + p .length)
 
--- what follows a %: the writer takes a flag and a width before the conversion, the reader takes none
+-- %s is written and not read
+unfoldable pub isRead : ℕ → Bool
+isRead c = not (eqb c (code "s"))
+
+unfoldable pub toRead : Act → Act
+toRead (Byte b) = Byte b
+toRead (Convert c y) = cond (isRead c) (Convert c y) Refuse
+toRead (Open c) = Open c
+toRead Refuse = Refuse
+
+-- what follows a %: the writer takes a flag and a width before the conversion; the reader takes none, and no %s
 unfoldable pub signed : Side → List ℕ → Piece
 signed Writer s = styled s
-signed Reader s = conversion s
+signed Reader s = let p = conversion s in piece (toRead (p .act)) (p .length)
 
 -- a byte, and what follows it
 unfoldable pub pieceOf : Side → ℕ → List ℕ → Piece
@@ -227,16 +245,16 @@ openedInto d s out =
 abbrev pub mostElements : ℕ
 mostElements = 6656
 
--- a flag and a width that an element can have with its letter: for the reader none
-unfoldable pub hasStyle : Side → ℕ → Bool
-hasStyle Writer e =
+-- what a side takes: for the writer a flag and a width that belong to the letter, for the reader none, and no %s
+unfoldable pub isTaken : Side → ℕ → Bool
+isTaken Writer e =
     let y = styleOf e in
-    leb (y .width) 99 && (among (y .flag) (0 ∷ flags) && takesFlag (y .flag) (conversionOf (letterOf e) .form))
-hasStyle Reader e = isPlain e
+    leb (y .width) 99 && (among (y .flag) (0 ∷ flags) && takesStyle y (letterOf e))
+isTaken Reader e = isPlain e && isRead (letterOf e)
 
--- what is an element: a byte, or a conversion, with a flag and a width that it takes, whose % has a letter after it in the longest format
+-- what is an element: a byte, or a conversion that the side takes, whose % has a letter after it in the longest format
 unfoldable pub isElement : Side → ℕ → Bool
-isElement d e = isByte e || (isConversion (letterOf e) && (leb 1 (afterSign e) && hasStyle d e))
+isElement d e = isByte e || (isConversion (letterOf e) && (leb 1 (afterSign e) && isTaken d e))
 
 -- how many entries, from the first on and at most n, are elements
 unfoldable pub elementsIn : Side → ℕ → List ℕ → ℕ
@@ -244,14 +262,13 @@ elementsIn d zero es = 0
 elementsIn d (suc n) [] = 0
 elementsIn d (suc n) (e ∷ es) = let more = suc (elementsIn d n es) in cond (isElement d e) more 0
 
--- the place of the entry k, at which reading is refused: the offset of its % where it has a flag or a width, as only the writer takes;
--- otherwise k itself
+-- the place of the entry k, at which reading is refused: the offset of its % where it is an element for writing, otherwise k itself
 unfoldable pub entryPlace : List ℕ → ℕ → ℕ
 entryPlace es k = let e = getD es k 0 in cond (isElement Writer e && not (isElement Reader e)) (afterSign e - 1) k
 
 -- everything here, for proofs that compute
 unfoldable pub computes : Unit {0}
-unfolding after-E after-O letter paired conversion flags flagRun widthRun styleFrom takesFlag isUnstyled withStyle styled signed pieceOf
-    nothing before composed acted signAt openFrom compositeTo openTo opening closed opened openedInto hasStyle isElement elementsIn
+unfolding after-E after-O letter paired conversion flags flagRun widthRun styleFrom takesFlag isUnstyled bare takesStyle withStyle styled isRead toRead signed
+    pieceOf nothing before composed acted signAt openFrom compositeTo openTo opening closed opened openedInto isTaken isElement elementsIn
     entryPlace isDigit digitRun decimal
 computes = tt

@@ -1,14 +1,15 @@
 -- What the private functions of the code ask and answer.
 use Prim.Native.Nat.{ℕ, _+_, _-_, _/_, _%_, _^_, _≤_, _<_}
-use mathlib.Core.Bool.{Bool, false, cond}
+use mathlib.Core.Bool.{Bool, true, false, cond}
 use mathlib.Core.List.{List}
 use mathlib.Core.Path.{_≡_}
 use lib.Dec.{eqb, ltb}
 use lib.ListN.{length}
 use Rattle.format.specs.Conversions.{among}
-use Rattle.format.specs.Opening.{Opening, longest, mostElements, signAt, openTo, closed}
+use Rattle.format.specs.Opening.{Opening, longest, mostElements, isRead, signAt, openTo, closed}
 use Rattle.format.specs.declared.opening.Opened.{Opened}
 use Rattle.format.specs.declared.opening.Side.{Side}
+use Rattle.format.specs.declared.opening.Side.the-variants.{Writer, Reader}
 use Rattle.format.specs.declared.opening.Sign.{Sign}
 
 -- a set of letters is a number whose bit at 64 less than its byte says whether a letter is in
@@ -18,6 +19,11 @@ holds set b = cond (ltb b 64) false (cond (ltb 127 b) false (eqb (set / 2 ^ (b -
 -- a number is the set of these letters
 abbrev pub SetOf : ℕ → List ℕ → Type 0
 SetOf set letters = (b : ℕ) → holds set b ≡ among b letters
+
+-- a letter is taken by a side without flag and width, if it is a conversion's
+unfoldable pub takesLetter : Side → ℕ → Bool
+takesLetter Writer c = true
+takesLetter Reader c = isRead c
 
 -- a format can be opened where n elements stand already: it is not too long, nor is the one that holds the composite's %, and the
 -- elements can be counted

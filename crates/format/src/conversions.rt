@@ -3,7 +3,7 @@ ghost use Rattle.format.specs.Conversions.{conversionOf};
 use text::Names;
 
 // How a conversion is written and read: numbers filled with zeros or blanks, the weekday counted from Sunday 0; names of a table
-// in three letters, in full, or in full with small letters; or no conversion at all.
+// in three letters, in full, or in full with small letters; a zone offset; the seconds of %s; or no conversion at all.
 pub enum Form {
     Zeros,
     Blanks,
@@ -11,6 +11,8 @@ pub enum Form {
     Short(Names),
     Full(Names),
     Lower(Names),
+    Zone,
+    Seconds,
     Unknown,
 }
 
@@ -35,7 +37,7 @@ fn number(kind: u32, form: Form, width: usize, low: u32, high: u32) -> Conversio
     }
 }
 
-fn name(kind: u32, form: Form) -> Conversion
+fn other(kind: u32, form: Form) -> Conversion
     ensures { λ r. ⌜ r ≡ record { kind = kind; form = form; width = 0; low = 0; high = 0 } ⌝ }
 {
     number(kind, form, 0, 0, 0)
@@ -50,16 +52,16 @@ pub fn conversion_of(letter: u8) -> Conversion
         b'C' => number(kinds::CENTURY, Form::Zeros, 2, 0, 99),
         b'y' => number(kinds::YEAR_IN_CENTURY, Form::Zeros, 2, 0, 99),
         b'm' => number(kinds::MONTH, Form::Zeros, 2, 1, 12),
-        b'b' => name(kinds::MONTH, Form::Short(Names::Months)),
-        b'h' => name(kinds::MONTH, Form::Short(Names::Months)),
-        b'B' => name(kinds::MONTH, Form::Full(Names::Months)),
+        b'b' => other(kinds::MONTH, Form::Short(Names::Months)),
+        b'h' => other(kinds::MONTH, Form::Short(Names::Months)),
+        b'B' => other(kinds::MONTH, Form::Full(Names::Months)),
         b'd' => number(kinds::DAY, Form::Zeros, 2, 1, 31),
         b'e' => number(kinds::DAY, Form::Blanks, 2, 1, 31),
         b'j' => number(kinds::DAY_OF_YEAR, Form::Zeros, 3, 1, 366),
         b'u' => number(kinds::WEEKDAY, Form::Zeros, 1, 1, 7),
         b'w' => number(kinds::WEEKDAY, Form::FromSunday, 1, 0, 6),
-        b'a' => name(kinds::WEEKDAY, Form::Short(Names::Weekdays)),
-        b'A' => name(kinds::WEEKDAY, Form::Full(Names::Weekdays)),
+        b'a' => other(kinds::WEEKDAY, Form::Short(Names::Weekdays)),
+        b'A' => other(kinds::WEEKDAY, Form::Full(Names::Weekdays)),
         b'U' => number(kinds::SUNDAY_WEEK, Form::Zeros, 2, 0, 53),
         b'W' => number(kinds::MONDAY_WEEK, Form::Zeros, 2, 0, 53),
         b'G' => number(kinds::ISO_YEAR, Form::Zeros, 4, 1, 9999),
@@ -69,10 +71,12 @@ pub fn conversion_of(letter: u8) -> Conversion
         b'k' => number(kinds::HOUR, Form::Blanks, 2, 0, 23),
         b'I' => number(kinds::HOUR_OF_TWELVE, Form::Zeros, 2, 1, 12),
         b'l' => number(kinds::HOUR_OF_TWELVE, Form::Blanks, 2, 1, 12),
-        b'p' => name(kinds::HALF_OF_DAY, Form::Full(Names::Halves)),
-        b'P' => name(kinds::HALF_OF_DAY, Form::Lower(Names::Halves)),
+        b'p' => other(kinds::HALF_OF_DAY, Form::Full(Names::Halves)),
+        b'P' => other(kinds::HALF_OF_DAY, Form::Lower(Names::Halves)),
         b'M' => number(kinds::MINUTE, Form::Zeros, 2, 0, 59),
         b'S' => number(kinds::SECOND, Form::Zeros, 2, 0, 60),
-        _ => name(0, Form::Unknown),
+        b'z' => other(kinds::ZONE_OFFSET, Form::Zone),
+        b's' => other(0, Form::Seconds),
+        _ => other(0, Form::Unknown),
     }
 }

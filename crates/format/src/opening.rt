@@ -3,19 +3,19 @@ use crate::conversions::conversion_of;
 use text::Digits;
 use text::read_digits;
 ghost use mathlib.Core.Path.{_≡_};
-ghost use mathlib.Core.Bool.{cond};
+ghost use mathlib.Core.Bool.{cond, _&&_};
 ghost use mathlib.Core.List.{List, _∷_};
 ghost use Prim.Native.Nat.{ℕ, min, _+_, _≤_, _<_};
 ghost use lib.Dec.{eqb};
 ghost use lib.ListN.{length, getD, take, drop, set};
 ghost use lib.Seq.{sets};
 ghost use Rattle.text.specs.Digits.{decimal};
-ghost use Rattle.format.specs.Conversions.{among, isNumber, ownFormat};
-ghost use Rattle.format.specs.Opening.{longest, conversionAt, letter, paired, conversion, flags, flagRun, widthRun, takesFlag};
+ghost use Rattle.format.specs.Conversions.{among, isConversion, isNumber, ownFormat};
+ghost use Rattle.format.specs.Opening.{longest, conversionAt, letter, paired, conversion, flags, flagRun, widthRun, takesFlag, takesStyle, isRead};
 ghost use Rattle.format.specs.Opening.{isUnstyled};
-ghost use Rattle.format.specs.Opening.{withStyle, styled, signed, pieceOf, signAt, openTo, opened, openedInto, mostElements};
+ghost use Rattle.format.specs.Opening.{withStyle, toRead, styled, signed, pieceOf, signAt, openTo, opened, openedInto, mostElements};
 ghost use Rattle.format.specs.Opening.{styleOf, isElement, elementsIn, entryPlace};
-ghost use Rattle.format.specs.Private.{holds, SetOf, CanOpen, answered};
+ghost use Rattle.format.specs.Private.{holds, SetOf, takesLetter, CanOpen, answered};
 
 // The most bytes of a format, and of a text.
 pub const LONGEST: usize = 1024;
@@ -70,8 +70,8 @@ struct Own([u8; 14], usize);
 
 // Sets of letters: the bit at 64 less than its byte says whether a letter is in. (An array would be copied at each use.)
 
-// ABCGHIMPSUVWY abdeghjklmpuwy
-const CONVERSIONS: u64 = 0x02a1_3db6_02e9_238e;
+// ABCGHIMPSUVWY abdeghjklmpsuwyz
+const CONVERSIONS: u64 = 0x06a9_3db6_02e9_238e;
 
 // DFRTX crx
 const COMPOSITES: u64 = 0x0104_0008_0114_0050;
@@ -212,6 +212,8 @@ fn is_number(form: Form) -> bool
         Form::Short(_) => false,
         Form::Full(_) => false,
         Form::Lower(_) => false,
+        Form::Zone => false,
+        Form::Seconds => false,
         Form::Unknown => false,
     }
 }
@@ -233,6 +235,21 @@ fn is_unstyled(style: Style) -> bool
     style.flag == 0 && style.width == 0
 }
 
+// Whether a conversion takes a flag and a width.
+fn takes_style(style: Style, letter: u8) -> bool
+    ensures { λ r. ⌜ r ≡ takesStyle style letter ⌝ }
+{
+    match letter {
+        b'z' => is_unstyled(style),
+        b's' => is_unstyled(style),
+        _ => {
+            let conversion = conversion_of(letter);
+            let form = conversion.form;
+            takes_flag(style.flag, form)
+        }
+    }
+}
+
 // What stands after a flag and a width.
 fn with_style(style: Style, act: Act) -> Act
     ensures { λ r. ⌜ r ≡ withStyle style act ⌝ }
@@ -245,9 +262,7 @@ fn with_style(style: Style, act: Act) -> Act
             Act::Refuse
         }
         Act::Convert { letter, style: _ } => {
-            let conversion = conversion_of(letter);
-            let form = conversion.form;
-            if takes_flag(style.flag, form) {
+            if takes_style(style, letter) {
                 return Act::Convert { letter, style };
             }
             Act::Refuse
@@ -289,17 +304,51 @@ fn styled(s: &[u8]) -> Piece
     }
 }
 
+// Whether a conversion is read: %s is not.
+fn is_read(letter: u8) -> bool
+    ensures { λ r. ⌜ r ≡ isRead letter ⌝ }
+{
+    letter != b's'
+}
+
+// What the reader takes of a conversion without flag and width.
+fn to_read(act: Act) -> Act
+    ensures { λ r. ⌜ r ≡ toRead act ⌝ }
+{
+    match act {
+        Act::Byte(b) => Act::Byte(b),
+        Act::Convert { letter, style } => {
+            if is_read(letter) {
+                return Act::Convert { letter, style };
+            }
+            Act::Refuse
+        }
+        Act::Open(c) => Act::Open(c),
+        Act::Refuse => Act::Refuse,
+    }
+}
+
+fn readable(piece: Piece) -> Piece
+    ensures { λ r. ⌜ r ≡ record { act = toRead (piece .act); length = piece .length } ⌝ }
+{
+    let act = piece.act;
+    Piece {
+        act: to_read(act),
+        length: piece.length,
+    }
+}
+
 // What stands after %.
 fn signed(side: Side, s: &[u8]) -> Piece
     ensures { λ r. ⌜ r ≡ signed side (now (s .entry)) ⌝ }
 {
     match side {
         Side::Writer => styled(s),
-        Side::Reader => conversion(s),
+        Side::Reader => readable(conversion(s)),
     }
 }
 
-// What stands at `at`. A letter right after % is looked at first: most conversions have nothing between.
+// What stands at `at`. A letter right after % that both sides take is looked at first: most conversions have nothing between.
 fn piece_at(side: Side, format: &[u8], at: usize) -> Piece
     requires { ⌜ at < length (now format) ⌝ }
     ensures { λ r. ⌜ r ≡ pieceOf side (getD (now (format .entry)) at 0) (drop (at + 1) (now (format .entry))) ⌝ }
@@ -318,7 +367,7 @@ fn piece_at(side: Side, format: &[u8], at: usize) -> Piece
             length: 1,
         };
     }
-    let act = letter(format[next]);
+    let act = to_read(letter(format[next]));
     let Act::Refuse = act else {
         return Piece { act, length: 2 };
     };
@@ -462,12 +511,23 @@ fn is_styled(e: u32) -> bool
     if !is_flag(style.flag) {
         return false;
     }
-    let conversion = conversion_of(letter);
-    let form = conversion.form;
-    takes_flag(style.flag, form)
+    takes_style(style, letter)
 }
 
-// Whether an entry is an element. One without flag and width is judged alike for both sides.
+// Whether a letter stands for a conversion that a side takes without flag and width.
+fn is_taken(side: Side, letter: u8) -> bool
+    ensures { λ r. ⌜ r ≡ (isConversion letter && takesLetter side letter) ⌝ }
+{
+    if !holds(CONVERSIONS, letter) {
+        return false;
+    }
+    match side {
+        Side::Writer => true,
+        Side::Reader => is_read(letter),
+    }
+}
+
+// Whether an entry is an element.
 fn is_element(side: Side, e: u32) -> bool
     ensures { λ r. ⌜ r ≡ isElement side e ⌝ }
 {
@@ -475,7 +535,7 @@ fn is_element(side: Side, e: u32) -> bool
         return true;
     }
     if e < PLAIN {
-        return holds(CONVERSIONS, (e % 256) as u8);
+        return is_taken(side, (e % 256) as u8);
     }
     match side {
         Side::Writer => is_styled(e),
@@ -504,7 +564,7 @@ pub fn elements_in(side: Side, elements: &[u32]) -> usize
     k
 }
 
-// The place of an entry that the reader refuses: the offset of its %, where it has a flag or a width, or its index.
+// The place of an entry that the reader refuses: the offset of its %, where it is an element for writing, or its index.
 pub fn entry_place(elements: &[u32], k: usize) -> usize
     ensures { λ r. ⌜ r ≡ entryPlace (now (elements .entry)) k ⌝ }
 {
@@ -512,10 +572,10 @@ pub fn entry_place(elements: &[u32], k: usize) -> usize
         return k;
     }
     let e = elements[k];
-    if e < PLAIN {
+    if !is_element(Side::Writer, e) {
         return k;
     }
-    if !is_styled(e) {
+    if is_element(Side::Reader, e) {
         return k;
     }
     (e / 256 % 1024 - 1) as usize

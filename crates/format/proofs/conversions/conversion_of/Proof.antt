@@ -5,9 +5,9 @@ use Rattle.format.proofs.Rows.{no-row}
 use Rattle.format.proofs.conversions.conversion_of.Statement.{statement}
 use Rattle.format.proofs.conversions.conversion_of.Tie as tie
 
-returns-28 : tie.Need-returns-28
+returns-30 : tie.Need-returns-30
 unfolding conversionOf find rows
-returns-28 c = c .name8 .ensures ∙ sym (no-row Unit _ rows (c .before .match .rest))
+returns-30 c = c .other10 .ensures ∙ sym (no-row Unit _ rows (c .before .match .rest))
 
 pub conversion-of-spec : {M : Type 1} → statement M
 unfolding conversionOf find rows
@@ -42,20 +42,22 @@ conversion-of-spec =
     (λ c κs. tt)
     (λ c κs. tt)
     (λ c κs. tt)
+    (λ c κs. tt)
+    (λ c κs. tt)
     (λ c. rw (c .before .match .keys1) (c .number .ensures))
     (λ c. rw (c .before .match .keys2) (c .number2 .ensures))
     (λ c. rw (c .before .match .keys3) (c .number3 .ensures))
     (λ c. rw (c .before .match .keys4) (c .number4 .ensures))
-    (λ c. rw (c .before .match .keys5) (c .name .ensures))
-    (λ c. rw (c .before .match .keys6) (c .name2 .ensures))
-    (λ c. rw (c .before .match .keys7) (c .name3 .ensures))
+    (λ c. rw (c .before .match .keys5) (c .other .ensures))
+    (λ c. rw (c .before .match .keys6) (c .other2 .ensures))
+    (λ c. rw (c .before .match .keys7) (c .other3 .ensures))
     (λ c. rw (c .before .match .keys8) (c .number5 .ensures))
     (λ c. rw (c .before .match .keys9) (c .number6 .ensures))
     (λ c. rw (c .before .match .keys10) (c .number7 .ensures))
     (λ c. rw (c .before .match .keys11) (c .number8 .ensures))
     (λ c. rw (c .before .match .keys12) (c .number9 .ensures))
-    (λ c. rw (c .before .match .keys13) (c .name4 .ensures))
-    (λ c. rw (c .before .match .keys14) (c .name5 .ensures))
+    (λ c. rw (c .before .match .keys13) (c .other4 .ensures))
+    (λ c. rw (c .before .match .keys14) (c .other5 .ensures))
     (λ c. rw (c .before .match .keys15) (c .number10 .ensures))
     (λ c. rw (c .before .match .keys16) (c .number11 .ensures))
     (λ c. rw (c .before .match .keys17) (c .number12 .ensures))
@@ -65,8 +67,10 @@ conversion-of-spec =
     (λ c. rw (c .before .match .keys21) (c .number16 .ensures))
     (λ c. rw (c .before .match .keys22) (c .number17 .ensures))
     (λ c. rw (c .before .match .keys23) (c .number18 .ensures))
-    (λ c. rw (c .before .match .keys24) (c .name6 .ensures))
-    (λ c. rw (c .before .match .keys25) (c .name7 .ensures))
+    (λ c. rw (c .before .match .keys24) (c .other6 .ensures))
+    (λ c. rw (c .before .match .keys25) (c .other7 .ensures))
     (λ c. rw (c .before .match .keys26) (c .number19 .ensures))
     (λ c. rw (c .before .match .keys27) (c .number20 .ensures))
-    returns-28)
+    (λ c. rw (c .before .match .keys28) (c .other8 .ensures))
+    (λ c. rw (c .before .match .keys29) (c .other9 .ensures))
+    returns-30)

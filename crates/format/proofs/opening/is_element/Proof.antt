@@ -1,32 +1,22 @@
--- `format::opening::is_element` meets its contract: the definition makes the same tests, and the set of the code is that of the
--- rows' letters.
-use mathlib.Core.Path.{_≡_, sym}
+-- `format::opening::is_element` meets its contract: the definition makes the same tests.
+use mathlib.Core.Path.{sym}
 use native.Mathlib.Omega.{arith}
 use borrow.Author.Needs.{needs}
-use Rattle.format.specs.Conversions.{isConversion, computes}
-use Rattle.format.specs.Opening.{letterOf}
-use Rattle.format.specs.Private.{holds}
 use Rattle.format.proofs.Entry.{byte-is, plain-is, not-read}
-use Rattle.format.proofs.Letters.{is-among}
 use Rattle.format.proofs.opening.is_element.Statement.{statement}
 use Rattle.format.proofs.opening.is_element.Tie as tie
-
--- the code's set
-conversions : (c : tie.After-holds) → c .holds .result ≡ isConversion (letterOf (c .before .before .before .args .e))
-unfolding isConversion
-conversions c = is-among _ _ _ (c .holds .ensures) (unfold holds computes in tt) (unfold computes in tt)
 
 returns : tie.Need-returns
 returns c = byte-is _ _ (c .if1 .taken)
 
-cast-holds : tie.Need-cast-holds
-cast-holds c = search needs
+cast-is-taken : tie.Need-cast-is-taken
+cast-is-taken c = search needs
 
-holds-requires : tie.Need-holds-requires
-holds-requires c κs = search needs
+is-taken-requires : tie.Need-is-taken-requires
+is-taken-requires c κs = search needs
 
 returns-2 : tie.Need-returns-2
-returns-2 c = plain-is _ _ (omega arith) (omega arith) (conversions c)
+returns-2 c = plain-is _ _ (omega arith) (omega arith) (c .is-taken .ensures)
 
 enum-told : tie.Need-enum-told
 enum-told c = search needs
@@ -48,8 +38,8 @@ is-element-spec =
     tie.close
     (tie.spec
     returns
-    cast-holds
-    holds-requires
+    cast-is-taken
+    is-taken-requires
     returns-2
     enum-told
     is-styled-requires

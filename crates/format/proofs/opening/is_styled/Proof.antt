@@ -5,7 +5,7 @@ use mathlib.Core.Path.{_≡_}
 use native.Mathlib.Omega.{arith}
 use borrow.Author.Needs.{needs}
 use Rattle.format.specs.Conversions.{isConversion, computes}
-use Rattle.format.specs.Opening.{letterOf, hasStyle, isElement}
+use Rattle.format.specs.Opening.{letterOf, isTaken, isElement}
 use Rattle.format.specs.declared.opening.Side.the-variants.{Writer}
 use Rattle.format.specs.Private.{holds}
 use Rattle.format.proofs.Entry.{no-letter, no-sign, signed-is, too-wide, unknown-flag, known-flag}
@@ -19,7 +19,7 @@ unfolding isConversion
 conversions c = is-among _ _ _ (c .holds .ensures) (unfold holds computes in tt) (unfold computes in tt)
 
 -- its letter and its offset passed: what is left are its flag and its width
-by-style : (c : tie.Else2) {r : Bool} → r ≡ hasStyle Writer (c .before .before .before .args .e)
+by-style : (c : tie.Else2) {r : Bool} → r ≡ isTaken Writer (c .before .before .before .args .e)
     → r ≡ isElement Writer (c .before .before .before .args .e)
 by-style c e =
     let l = c .before in
@@ -54,20 +54,16 @@ returns-4 c =
     by-style (w .before .before .before)
     (unknown-flag _ (w .before .before .style-of .ensures) (omega arith) (c .before .is-flag .ensures) (c .if4 .taken))
 
-conversion-of-requires : tie.Need-conversion-of-requires
-conversion-of-requires c κs = search needs
-
-takes-flag-requires : tie.Need-takes-flag-requires
-takes-flag-requires c κs = search needs
+takes-style-requires : tie.Need-takes-style-requires
+takes-style-requires c κs = search needs
 
 returns-5 : tie.Need-returns-5
 returns-5 c =
-    let f = c .before .before in
+    let f = c .before in
     let w = f .before .before in
     by-style (w .before .before .before)
     (known-flag _ (w .before .before .style-of .ensures) (omega arith) (f .before .is-flag .ensures) (f .if4 .left)
-    (c .before .conversion-of .ensures)
-    (c .takes-flag .ensures))
+    (c .takes-style .ensures))
 
 pub is-styled-spec : {M : Type 1} → statement M
 is-styled-spec =
@@ -81,6 +77,5 @@ is-styled-spec =
     returns-3
     is-flag-requires
     returns-4
-    conversion-of-requires
-    takes-flag-requires
+    takes-style-requires
     returns-5)

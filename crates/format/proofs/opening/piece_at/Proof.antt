@@ -1,4 +1,4 @@
--- `format::opening::piece_at` meets its contract: the definition makes the same tests, and a letter right after % is alike for both sides.
+-- `format::opening::piece_at` meets its contract: the definition makes the same tests, and a letter right after % that is read is alike for both sides.
 use Prim.Native.Nat.{_+_}
 use mathlib.Core.List.{[], _∷_}
 use mathlib.Core.Path.{_≡_, _∙_}
@@ -9,7 +9,7 @@ use borrow.Author.Needs.{needs}
 use borrow.Author.Tests.{eq-eqb, ne-eqb}
 use lib.ListN.{length, drop, length-drop}
 use lib.Seq.{getD-drop}
-use Rattle.format.specs.Opening.{letter, pieceOf}
+use Rattle.format.specs.Opening.{pieceOf}
 use Rattle.format.proofs.Pieces.{rest}
 use Rattle.format.proofs.Sides.{nothing-after, letter-after}
 use Rattle.format.proofs.opening.piece_at.Statement.{statement}
@@ -35,17 +35,20 @@ shared-slice-read-letter c = search needs
 letter-requires : tie.Need-letter-requires
 letter-requires c κs = search needs
 
+to-read-requires : tie.Need-to-read-requires
+to-read-requires c κs = search needs
+
 enum-told : tie.Need-enum-told
 enum-told c = search needs
 
 returns-3 : tie.Need-returns-3
 unfolding pieceOf
 returns-3 c =
-    let l = c .before .before .before .before in
+    let l = c .before .before .before .before .before in
     let a = l .before .before .before .args in
     rw (eq-eqb _ 37 (l .if1 .left))
     (letter-after _ _ (λ (z : length (drop (a .at + 1) (a .format .now)) ≡ 0). omega (arith, length-drop (a .at + 1) (a .format .now)))
-    (c .before .letter .ensures ∙ rw (getD-drop (a .at + 1) (a .format .now) 0 0, add-zero))
+    (c .before .to-read .ensures ∙ rw (c .before .before .letter .ensures, getD-drop (a .at + 1) (a .format .now) 0 0, add-zero))
     (λ q. miss (0 ∷ 1 ∷ 2 ∷ []) _ tt (rw q at (c .match .keys2))))
 
 sub-signed : tie.Need-sub-signed
@@ -63,7 +66,7 @@ signed-requires c κs = search needs
 returns-4 : tie.Need-returns-4
 unfolding pieceOf
 returns-4 c =
-    let l = c .before .before .before .before .before .before in
+    let l = c .before .before .before .before .before .before .before in
     rw (eq-eqb _ 37 (l .before .if1 .left)) (rw rest at (c .signed .ensures))
 
 pub piece-at-spec : {M : Type 1} → statement M
@@ -76,6 +79,7 @@ piece-at-spec =
     returns-2
     shared-slice-read-letter
     letter-requires
+    to-read-requires
     enum-told
     returns-3
     sub-signed

@@ -17,17 +17,14 @@ returns c = rw (c .before .before .before .act .given .1, ← c .before .is-unst
 enum-known-act-2 : tie.Need-enum-known-act-2
 enum-known-act-2 c = search needs
 
-conversion-of-requires : tie.Need-conversion-of-requires
-conversion-of-requires c κs = search needs
-
-takes-flag-requires : tie.Need-takes-flag-requires
-takes-flag-requires c κs = search needs
+takes-style-requires : tie.Need-takes-style-requires
+takes-style-requires c κs = search needs
 
 returns-2 : tie.Need-returns-2
 unfolding withStyle
 returns-2 c =
     let l = c .before .before in
-    rw (l .before .before .act2 .given .1, ← l .conversion-of .ensures, ← c .before .takes-flag .ensures, c .if2 .taken)
+    rw (l .before .act2 .given .1, ← c .before .takes-style .ensures, c .if2 .taken)
 
 enum-known-act-3 : tie.Need-enum-known-act-3
 enum-known-act-3 c = search needs
@@ -50,7 +47,7 @@ returns-5 : tie.Need-returns-5
 unfolding withStyle
 returns-5 c =
     let l = c .before .before in
-    rw (l .before .before .act2 .given .1, ← l .conversion-of .ensures, ← c .before .takes-flag .ensures, c .if2 .left)
+    rw (l .before .act2 .given .1, ← c .before .takes-style .ensures, c .if2 .left)
 
 returns-6 : tie.Need-returns-6
 unfolding withStyle
@@ -68,8 +65,7 @@ with-style-spec =
     is-unstyled-requires
     returns
     enum-known-act-2
-    conversion-of-requires
-    takes-flag-requires
+    takes-style-requires
     returns-2
     enum-known-act-3
     is-unstyled-requires-2
