@@ -2,7 +2,7 @@
 -- Assumes nothing.
 use Prim.Native.Char.{code}
 use Prim.Native.Nat.{ℕ, zero, suc, _+_, _-_, _/_, _%_, _≤_, _<_}
-use mathlib.Core.Bool.{Bool, true, false, _&&_, and-eq-true-iff}
+use mathlib.Core.Bool.{Bool, true, false, not, _&&_, and-eq-true-iff}
 use mathlib.Core.List.{List, [], _∷_, map}
 use mathlib.Core.Path.{_≡_, refl}
 use native.Mathlib.Decide.{decLe}
@@ -15,7 +15,7 @@ use Rattle.laws.specs.Lists.{every}
 use Rattle.laws.proofs.Cases.{either, picked, clash}
 use Rattle.laws.proofs.Lists.{each, every-of, every-append}
 use Rattle.format.specs.Conversions.{Row, among, rows, isConversion, conversionOf, ownFormat, computes as rows-compute}
-use Rattle.format.specs.Opening.{Ended, Opening, longest, unstyled, conversionAt, isByte, letterOf, afterSign}
+use Rattle.format.specs.Opening.{Ended, Opening, longest, unstyled, conversionAt, isByte, isPlain, letterOf, afterSign}
 use Rattle.format.specs.Opening.{conversion, flags, flagRun, widthRun, styleFrom, takesStyle, isUnstyled, withStyle, isRead, toRead}
 use Rattle.format.specs.Opening.{styled, signed, pieceOf, nothing, before, composed, acted, signAt, openFrom, compositeTo}
 use Rattle.format.specs.Opening.{openTo, opening, mostElements, isTaken, isElement, elementsIn}
@@ -219,6 +219,16 @@ unfolding isElement
 element-conversion side e t h =
     let u = and-eq-true-iff (isConversion (letterOf e)) (leb 1 (afterSign e) && isTaken side e) .0 (rw (le-ltb e 256 h) at t) in
     (u .0, and-eq-true-iff (leb 1 (afterSign e)) (isTaken side e) .0 (u .1) .1)
+
+-- to the reader it is no %s
+pub read-letter : (e : ℕ) → isElement Reader e ≡ true → 256 ≤ e → eqb (letterOf e) (code "s") ≡ false
+unfolding isTaken isRead
+read-letter e t h =
+    not-true-false (eqb (letterOf e) (code "s")) (and-eq-true-iff (isPlain e) (isRead (letterOf e)) .0 (element-conversion Reader e t h .1) .1)
+  where
+    not-true-false : (b : Bool) → not b ≡ true → b ≡ false
+    not-true-false false q = refl
+    not-true-false true q = clash cc
 
 pub element-known : (side : Side) (e : ℕ) → isElement side e ≡ true → 256 ≤ e → conversionOf (letterOf e) .form ≡ Unknown → ⊥
 element-known side e t h = conversion-known (letterOf e) (element-conversion side e t h .0)

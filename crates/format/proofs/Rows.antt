@@ -1,10 +1,11 @@
 -- The tables of conversions and of composites: a letter that stands in no row has none, and what holds of each row holds of what is found.
 -- Assumes nothing.
+use Prim.Native.Char.{code}
 use Prim.Native.Nat.{ℕ}
 use mathlib.Core.Bool.{Bool, true, false}
 use mathlib.Core.List.{List, [], _∷_, map}
 use mathlib.Core.Path.{_≡_, refl}
-use borrow.Author.Tests.{ne-eqb}
+use borrow.Author.Tests.{ne-eqb, eqb-true}
 use lib.Dec.{T, eqb}
 use Rattle.laws.specs.Lists.{every}
 use Rattle.laws.proofs.Cases.{either, picked, clash}
@@ -34,19 +35,20 @@ no-row before c (r ∷ rs) h =
     let both = before × (c ≡ r .letter → ⊥) in
     rw (ne-eqb c (r .letter) (earlier both c (map (λ (r : Row). r .letter) rs) h .1)) (no-row both c rs h)
 
--- a test that passes at each row, and at none where the letter stands in no row, passes at what is found
-found-passes : (p : Conversion → Bool) (c : ℕ) (rs : List Row) → T (every (λ (r : Row). p (r .row)) rs)
-    → (among c (map (λ (r : Row). r .letter) rs) ≡ false → T (p (find c []))) → T (p (find c rs))
+-- a test that passes at each letter with its row, and at none where the letter stands in no row, passes at what is found
+found-passes : (p : ℕ → Conversion → Bool) (c : ℕ) (rs : List Row) → T (every (λ (r : Row). p (r .letter) (r .row)) rs)
+    → (among c (map (λ (r : Row). r .letter) rs) ≡ false → T (p c (find c []))) → T (p c (find c rs))
 unfolding find every among
 found-passes p c [] t n = n refl
 found-passes p c (r ∷ rs) t n =
-    let u = both (p (r .row)) (every (λ (r : Row). p (r .row)) rs) t in
-    either (λ x. T (p x)) (eqb c (r .letter)) (λ e. u .0) (λ e. found-passes p c rs (u .1) (λ f. n (rw e f)))
+    let u = both (p (r .letter) (r .row)) (every (λ (r : Row). p (r .letter) (r .row)) rs) t in
+    either (λ x. T (p c x)) (eqb c (r .letter)) (λ e. rw (eqb-true c (r .letter) e) (u .0))
+    (λ e. found-passes p c rs (u .1) (λ f. n (rw e f)))
 
 pub conversion-passes : (p : Conversion → Bool) (c : ℕ) → T (every (λ (r : Row). p (r .row)) rows) → T (p (find c []))
     → T (p (conversionOf c))
 unfolding conversionOf
-conversion-passes p c t n = found-passes p c rows t (λ e. n)
+conversion-passes p c t n = found-passes (λ _ r. p r) c rows t (λ e. n)
 
 abbrev known : Form → Bool
 known Zeros = true
@@ -63,8 +65,30 @@ known Unknown = false
 pub conversion-known : (c : ℕ) → isConversion c ≡ true → conversionOf c .form ≡ Unknown → ⊥
 unfolding isConversion conversionOf
 conversion-known c e u =
-    let t = found-passes (λ r. known (r .form)) c rows (unfold computes every in tt) (λ f. clash (cc)) in
+    let t = found-passes (λ _ r. known (r .form)) c rows (unfold computes every in tt) (λ f. clash (cc)) in
     unfold find in rw u at t
+
+-- the seconds of %s are the form of one letter
+abbrev only-s : ℕ → Form → Bool
+only-s c Zeros = true
+only-s c Blanks = true
+only-s c FromSunday = true
+only-s c (Short t) = true
+only-s c (Full t) = true
+only-s c (Lower t) = true
+only-s c Zone = true
+only-s c Seconds = eqb c (code "s")
+only-s c Unknown = true
+
+pub seconds-letter : (c : ℕ) → conversionOf c .form ≡ Seconds → eqb c (code "s") ≡ true
+unfolding conversionOf
+seconds-letter c e =
+    let t = found-passes (λ l r. only-s l (r .form)) c rows (unfold computes every in tt) (λ f. unfold find in tt) in
+    T→eq (eqb c (code "s")) (rw e at t)
+  where
+    T→eq : (b : Bool) → T b → b ≡ true
+    T→eq true t = refl
+    T→eq false t = absurd t
 
 -- ---- composites
 

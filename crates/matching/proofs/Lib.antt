@@ -6,3 +6,4 @@ pub mod Sound
 pub mod Told
 pub mod Walk
 pub mod Ways
+pub mod Zoned

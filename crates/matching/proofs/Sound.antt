@@ -1,11 +1,11 @@
 -- What reading an element can find: offsets within the text, and facts that a text can say.
 -- Assumes nothing.
-use Prim.Native.Nat.{ℕ, _+_, _-_, _≤_, _<_}
-use mathlib.Core.Bool.{Bool, true, false, cond, _&&_}
+use Prim.Native.Nat.{ℕ, suc, _+_, _-_, _*_, _/_, _%_, _≤_, _<_}
+use mathlib.Core.Bool.{Bool, true, false, cond, _&&_, and-eq-true-iff}
 use mathlib.Core.List.{List, [], _∷_}
 use mathlib.Core.Path.{_≡_, refl}
 use native.Mathlib.Omega.{arith}
-use borrow.Author.Tests.{leb-true, eqb-false}
+use borrow.Author.Tests.{leb-true, eqb-true, eqb-false}
 use lib.Dec.{T, eqb, leb, leb→le, lit≤}
 use lib.ListN.{length, drop, length-drop}
 use Rattle.laws.proofs.Cases.{either, picked}
@@ -14,12 +14,12 @@ use Rattle.format.specs.Conversions.{conversionOf}
 use Rattle.format.specs.Opening.{isByte, letterOf}
 use Rattle.format.specs.declared.conversions.Conversion.{Conversion}
 use Rattle.format.specs.declared.conversions.Form.{Form}
-use Rattle.format.specs.declared.conversions.Form.the-variants.{Zeros, Blanks, FromSunday, Short, Full, Lower, Unknown}
+use Rattle.format.specs.declared.conversions.Form.the-variants.{Zeros, Blanks, FromSunday, Short, Full, Lower, Zone, Seconds, Unknown}
 use Rattle.matching.specs.Elements.{ordinary, readByte, ranged, readNumber, fromSunday, named, readNamed, readForm}
 use Rattle.matching.specs.Elements.{readConversion, readElement}
 use Rattle.matching.specs.declared.elements.Item.{Item}
 use Rattle.matching.specs.declared.elements.Item.the-variants.{Skip, Fact, NoMatch, OutOfRange}
-use Rattle.text.specs.Digits.{digitRun, decimal}
+use Rattle.text.specs.Digits.{digitRun, decimal, readDigits}
 use Rattle.text.specs.Names.{namesOf, readName}
 use Rattle.text.specs.Naming.{firstValue, valueAt}
 use Rattle.text.specs.Space.{isSpace, spaces}
@@ -28,7 +28,10 @@ use Rattle.text.specs.declared.names.NameForm.the-variants.{NoName}
 use Rattle.text.specs.declared.names.NameRead.{NameRead}
 use Rattle.text.specs.declared.names.NameRead.the-variants.{Found, Nothing}
 use Rattle.text.specs.declared.names.Names.{Names}
+use Rattle.values.specs.Offsets.{offsetNumber}
+use Rattle.matching.specs.Zones.{isSign, signedBy, offsetAt, signedAt, readZone}
 use Rattle.matching.proofs.Lengths.{spaces-most, run-most, name-named}
+use Rattle.matching.proofs.Zoned.{number-most, four-most}
 use Rattle.matching.proofs.Told.{Told, spans, spans-told, spansNames, spansForm, conversion-spans}
 
 -- what an element found: offsets of the text, and a fact of which P holds
@@ -98,6 +101,34 @@ module _ (s : List ℕ) (at : ℕ) (h : at ≤ length s) where
           )
       go Nothing e = h
 
+  sound-zone : (c : Conversion) → T (spans (c .kind) 0 2878) → Sound s (readZone c s at)
+  unfolding readZone signedAt Finds
+  sound-zone c m = go (drop at s) (length-drop at s)
+    where
+      told : (b v : ℕ) → v ≤ 1439 → Told (c .kind) (offsetNumber (signedBy b v))
+      told b v l = spans-told (c .kind) 0 2878 m (offsetNumber (signedBy b v)) (omega arith) (number-most b v l)
+
+      digits : (b : ℕ) (t : List ℕ) → suc (length t) ≡ length s - at → Sound s (offsetAt (c .kind) b (readDigits 4 t) at)
+      digits b t e =
+          let d = readDigits 4 t in
+          unfold offsetAt in
+          either (Sound s) (eqb (d .count) 4)
+          (λ q.
+          either (Sound s) (leb (d .value / 100) 23 && leb (d .value % 100) 59)
+          (λ r.
+          let u = and-eq-true-iff (leb (d .value / 100) 23) (leb (d .value % 100) 59) .0 r in (
+            told b (60 * (d .value / 100) + d .value % 100)
+                (omega (arith, leb-true (d .value / 100) 23 (u .0), leb-true (d .value % 100) 59 (u .1))),
+            omega arith,
+            omega (arith, e, eqb-true (d .count) 4 q, four-most t),
+          ))
+          (λ _. h))
+          (λ _. h)
+
+      go : (t : List ℕ) → length t ≡ length s - at → Sound s (signedAt (c .kind) t at)
+      go [] e = h
+      go (b ∷ t) e = picked (Sound s) (isSign b) (digits b t e) h
+
   sound-form : (f : Form) (c : Conversion) → T (spansForm f c) → Sound s (readForm f c s at)
   unfolding readForm Finds spansForm
   sound-form Zeros c m = finds-number Told c (spans-told (c .kind) (c .low) (c .high) m)
@@ -114,6 +145,8 @@ module _ (s : List ℕ) (at : ℕ) (h : at ≤ length s) where
   sound-form (Short t) c m = sound-named t c m
   sound-form (Full t) c m = sound-named t c m
   sound-form (Lower t) c m = sound-named t c m
+  sound-form Zone c m = sound-zone c m
+  sound-form Seconds c m = h
   sound-form Unknown c m = h
 
   pub sound : (e : ℕ) → Sound s (readElement e s at)

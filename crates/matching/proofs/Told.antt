@@ -12,7 +12,7 @@ use Rattle.format.specs.Conversions as rows
 use Rattle.format.specs.Conversions.{conversionOf}
 use Rattle.format.specs.declared.conversions.Conversion.{Conversion}
 use Rattle.format.specs.declared.conversions.Form.{Form}
-use Rattle.format.specs.declared.conversions.Form.the-variants.{Zeros, Blanks, FromSunday, Short, Full, Lower, Unknown}
+use Rattle.format.specs.declared.conversions.Form.the-variants.{Zeros, Blanks, FromSunday, Short, Full, Lower, Zone, Seconds, Unknown}
 use Rattle.format.proofs.Rows.{conversion-passes}
 use Rattle.values.proofs.Ranges.{lowest, highest}
 use Rattle.text.specs.Names as names
@@ -61,6 +61,8 @@ spansForm FromSunday c = spans (c .kind) 1 7 && leb (c .high) 7
 spansForm (Short t) c = spansNames t c
 spansForm (Full t) c = spansNames t c
 spansForm (Lower t) c = spansNames t c
+spansForm Zone c = spans (c .kind) 0 2878
+spansForm Seconds c = true
 spansForm Unknown c = true
 
 -- one computed test over the rows

@@ -8,7 +8,9 @@ use Rattle.format.specs.Conversions.{conversionOf}
 use Rattle.format.specs.Opening.{isByte, letterOf}
 use Rattle.format.specs.declared.conversions.Conversion.{Conversion}
 use Rattle.format.specs.declared.conversions.Form.{Form}
-use Rattle.format.specs.declared.conversions.Form.the-variants.{Zeros, Blanks, FromSunday, Short, Full, Lower, Unknown}
+use Rattle.format.specs.declared.conversions.Form.the-variants.{Zeros, Blanks, FromSunday, Short, Full, Lower, Zone, Seconds, Unknown}
+use Rattle.matching.specs.Zones as zones
+use Rattle.matching.specs.Zones.{readZone}
 use Rattle.matching.specs.declared.elements.Item.{Item}
 use Rattle.matching.specs.declared.elements.Item.the-variants.{Skip, Fact, NoMatch, OutOfRange}
 use Rattle.text.specs.Digits.{digitRun, decimal}
@@ -57,6 +59,7 @@ named t k Nothing at = NoMatch at
 unfoldable pub readNamed : Names → Conversion → List ℕ → ℕ → Item
 readNamed t c s at = named t (c .kind) (readName t (drop at s)) at
 
+-- by its form; %s is not read
 unfoldable pub readForm : Form → Conversion → List ℕ → ℕ → Item
 readForm Zeros c s at = readNumber c s at
 readForm Blanks c s at = readNumber c s at
@@ -64,6 +67,8 @@ readForm FromSunday c s at = fromSunday (readNumber c s at)
 readForm (Short t) c s at = readNamed t c s at
 readForm (Full t) c s at = readNamed t c s at
 readForm (Lower t) c s at = readNamed t c s at
+readForm Zone c s at = readZone c s at
+readForm Seconds c s at = NoMatch at
 readForm Unknown c s at = NoMatch at
 
 unfoldable pub readConversion : Conversion → List ℕ → ℕ → Item
@@ -75,5 +80,5 @@ readElement e s at = cond (isByte e) (readByte e s at) (readConversion (conversi
 
 -- everything here, for proofs that compute
 unfoldable pub computes : Unit {0}
-unfolding ordinary readByte ranged readNumber fromSunday named readNamed readForm readConversion readElement
+unfolding zones.computes ordinary readByte ranged readNumber fromSunday named readNamed readForm readConversion readElement
 computes = tt

@@ -1,4 +1,5 @@
 // Reading one element of a format.
+use crate::zones::read_zone;
 use format::Conversion;
 use format::Form;
 use format::conversion_of;
@@ -145,6 +146,8 @@ fn read_conversion(c: Conversion, s: &[u8], at: usize) -> Item
         Form::Short(names) => read_named(names, c, s, at),
         Form::Full(names) => read_named(names, c, s, at),
         Form::Lower(names) => read_named(names, c, s, at),
+        Form::Zone => read_zone(c, s, at),
+        Form::Seconds => Item::NoMatch { at },
         Form::Unknown => Item::NoMatch { at },
     }
 }

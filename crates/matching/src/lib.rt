@@ -5,6 +5,7 @@ use text::NameForm;
 mod elements;
 mod extents;
 mod steps;
+mod zones;
 
 pub use extents::Extent;
 pub use extents::first_said;

@@ -16,19 +16,21 @@ use Rattle.format.proofs.Elements.{all-elements}
 use Rattle.values.specs.Moments.{momentOf}
 use Rattle.values.specs.declared.Moment.{Moment}
 use Rattle.values.specs.declared.MomentFields.the-variants.{Valid}
-use Rattle.strftime.specs.Writing.{Result, text, numbered, put, byFormat, byElements, forMoment, forFields, writing, elementsWriting}
+use Rattle.strftime.specs.Writing.{Result, text, numbered, put, lacking, offered, byFormat, byElements, forMoment, forFields, writing, elementsWriting}
 use Rattle.strftime.specs.declared.Fields.{Fields}
+use Rattle.strftime.specs.declared.Lack.the-variants.{Nothing}
 
--- a format that opens whole, and fields that are a moment
+-- a format that opens whole, and fields that are a moment which lacks nothing
 module _ (f : List ℕ) (t : Fields) (b : List ℕ) {m : Moment} (short : length f ≤ longest) (whole : opening Writer f .ended ≡ Whole)
-    (valid : momentOf (t .year) (t .month) (t .day) (t .hour) (t .minute) (t .second) ≡ Valid m) where
+    (valid : momentOf (t .year) (t .month) (t .day) (t .hour) (t .minute) (t .second) (t .offset) ≡ Valid m)
+    (has : lacking (m .offset) (opening Writer f .elements) ≡ Nothing) where
   abbrev written : List ℕ
   written = text m (opening Writer f .elements)
 
   -- 4 or 0
   pub puts-text : writing f t b ≡ put written b
-  unfolding writing forFields forMoment byFormat
-  puts-text = rw (le-leb (length f) longest short, valid, whole)
+  unfolding writing forFields forMoment byFormat offered
+  puts-text = rw (le-leb (length f) longest short, valid, whole, has)
 
   -- where there is room: 0, the bytes written, and every other byte of the buffer as it came
   module _ (room : length written ≤ length b) where

@@ -6,3 +6,4 @@ pub mod Loops
 pub mod Order
 pub mod Parts
 pub mod Places
+pub mod Offsets

@@ -3,13 +3,13 @@
 -- Assumes nothing.
 use Prim.Native.Char.{code}
 use Prim.Native.Nat.{ℕ, zero, suc, max, _+_, _-_, _*_, _/_, _%_, _≤_, _<_}
-use mathlib.Core.Bool.{true}
+use mathlib.Core.Bool.{true, false}
 use mathlib.Core.List.{List, [], _∷_, _++_}
 use mathlib.Core.Path.{_≡_, refl}
 use native.Mathlib.Decide.{decLe}
 use native.Mathlib.Nat.{sub-zero, lt-of-not-le}
 use native.Mathlib.Omega.{arith}
-use borrow.Author.Tests.{eqb-true, leb-true, le-leb, lt-leb, ltb-true}
+use borrow.Author.Tests.{eqb-true, leb-true, le-leb, lt-leb, le-ltb, ltb-true}
 use lib.Dec.{T, eqb, leb, leb→le, ltb→lt}
 use lib.ListN.{length, drop, length-append, length-drop}
 use Rattle.laws.specs.Bytes.{bytes}
@@ -18,8 +18,8 @@ use Rattle.laws.proofs.Cases.{either, picked}
 use Rattle.laws.proofs.Table.{both}
 use Rattle.calendar.specs.Calendar.{date}
 use Rattle.text.proofs.Fill.{plain-most}
-use Rattle.format.specs.Conversions.{conversionOf, isNumber, ownFormat, computes as rows-compute}
-use Rattle.format.specs.Opening.{Ended, Opening, longest, conversionAt, isByte, letterOf, styleOf, flagRun, widthRun, styleFrom, takesFlag}
+use Rattle.format.specs.Conversions.{conversionOf, ownFormat, computes as rows-compute}
+use Rattle.format.specs.Opening.{Ended, Opening, longest, conversionAt, isByte, letterOf, styleOf, flagRun, widthRun, styleFrom, takesStyle}
 use Rattle.format.specs.Opening.{after-E, after-O, paired, conversion, isUnstyled, withStyle, styled, signed, pieceOf}
 use Rattle.format.specs.Opening.{nothing, before, composed, acted, signAt, openFrom, compositeTo, openTo, opening}
 use Rattle.format.specs.Opening.{mostElements, elementsIn, computes as opening-computes}
@@ -43,10 +43,15 @@ use Rattle.values.specs.declared.MomentFields.{MomentFields}
 use Rattle.values.specs.declared.MomentFields.the-variants.{Valid}
 use Rattle.strftime.specs.Private.{IsMoment}
 use Rattle.strftime.specs.Writing.{Result, longestWriting, numbered, placesBy, formed, converted, element, text}
-use Rattle.strftime.specs.Writing.{refused, put, byFormat, byElements, forMoment, forFields, writing, elementsWriting}
+use Rattle.strftime.specs.Writing.{refused, put, isSeconds, firstSeconds, lacking, offered, byFormat, byElements}
+use Rattle.strftime.specs.Writing.{forMoment, forFields, writing, elementsWriting}
+use Rattle.values.specs.declared.offsets.Offset.{Offset}
+use Rattle.values.specs.declared.offsets.Offset.the-variants.{Unsaid, Minutes}
 use Rattle.strftime.specs.declared.Fields.{Fields}
+use Rattle.strftime.specs.declared.Lack.{Lack}
+use Rattle.strftime.specs.declared.Lack.the-variants.{Nothing, ZoneOffset}
 use Rattle.strftime.proofs.Complete.{puts-text}
-use Rattle.strftime.proofs.Lengths.{formMost, number-length, has-room, converted-most, element-byte, element-styled}
+use Rattle.strftime.proofs.Lengths.{formMost, form-most, number-length, has-room, converted-most, element-byte, element-styled}
 
 -- ---- a conversion's letter and width, in its element
 
@@ -107,17 +112,39 @@ module _ (m : Moment) (i : IsMoment m) where
       rw (widest-opens inner n k, length-append)
       (omega (arith, ninety-nine k (omega arith), widest-text inner n (k + 1 + 1 + 1 + 1) (omega arith)))
 
+-- none of them is %s
+other-letter : (e : ℕ) → 256 ≤ e → letterOf e ≡ 100 → isSeconds e ≡ false
+unfolding isSeconds
+other-letter e h l = rw (le-ltb e 256 h, l)
+
+first-none : (inner : ℕ → ℕ → Opening) (n k : ℕ) → k + 4 * n ≤ longest
+    → firstSeconds (openFrom Writer inner Own k 0 (widest n) .elements) ≡ Nothing
+unfolding widest openFrom nothing before firstSeconds
+first-none inner zero k h = refl
+first-none inner (suc n) k h =
+    let e = conversionAt k ninetyNine 100 in
+    let l : letterOf e ≡ 100 = omega arith in
+    let s = other-letter e (omega arith) l in
+    rw (widest-opens inner n k, s) (first-none inner n (k + 1 + 1 + 1 + 1) (omega arith))
+
+widest-lacks : (o : Offset) (inner : ℕ → ℕ → Opening) (n k : ℕ) → k + 4 * n ≤ longest
+    → lacking o (openFrom Writer inner Own k 0 (widest n) .elements) ≡ Nothing
+unfolding lacking
+widest-lacks Unsaid inner n k h = first-none inner n k h
+widest-lacks (Minutes z) inner n k h = refl
+
 -- whatever the moment, and every shorter buffer is too small
-pub longest-needed : (t : Fields) (b : List ℕ) → momentFault (t .year) (t .month) (t .day) (t .hour) (t .minute) (t .second) ≡ 0
+pub longest-needed : (t : Fields) (b : List ℕ) → momentFault (t .year) (t .month) (t .day) (t .hour) (t .minute) (t .second) (t .offset) ≡ 0
     → length b < longestWriting → writing (widest 256) t b .answer ≡ numbered 4 longestWriting
 unfolding momentOf put refused opening openTo
 longest-needed t b v h =
-    let m : Moment = record { date = date (t .year) (t .month) (t .day); hour = t .hour; minute = t .minute; second = t .second } in
+    let m : Moment = record { date = date (t .year) (t .month) (t .day); hour = t .hour; minute = t .minute; second = t .second; offset = t .offset } in
     let inner = compositeTo Writer 2 in
-    let valid : momentOf (t .year) (t .month) (t .day) (t .hour) (t .minute) (t .second) ≡ Valid m = rw v in
+    let valid : momentOf (t .year) (t .month) (t .day) (t .hour) (t .minute) (t .second) (t .offset) ≡ Valid m = rw v in
     let needed : length (text m (opening Writer (widest 256) .elements)) ≡ longestWriting = widest-text m v inner 256 0 (omega arith) in
     let all : writing (widest 256) t b ≡ put (text m (opening Writer (widest 256) .elements)) b =
-    puts-text (widest 256) t b (omega (arith, widest-length 256)) (widest-whole inner 256 0) valid in
+    puts-text (widest 256) t b (omega (arith, widest-length 256)) (widest-whole inner 256 0) valid
+    (widest-lacks (t .offset) inner 256 0 (omega arith)) in
     rw (all, needed, lt-leb longestWriting (length b) h)
 
 -- ---- no more: what each piece of a format can write
@@ -132,7 +159,7 @@ Lettered Refuse = Unit {0}
 style-lettered : (y : Style) (a : Act) → Unstyled a → Lettered (withStyle y a)
 unfolding withStyle
 style-lettered y (Byte b) u = picked Lettered (isUnstyled y) (ltb-true b 256 u) tt
-style-lettered y (Convert c x) u = picked Lettered (takesFlag (y .flag) (conversionOf c .form)) (letter-below c (u .0)) tt
+style-lettered y (Convert c x) u = picked Lettered (takesStyle y c) (letter-below c (u .0)) tt
 style-lettered y (Open c) u = picked Lettered (isUnstyled y) tt tt
 style-lettered y Refuse u = tt
 
@@ -269,8 +296,7 @@ module _ (inner : ℕ → ℕ) (few : (c : ℕ) → inner c ≤ 49) where
   act-bound n k more l h (Byte b) f = omega arith
   act-bound n k more l h (Convert c y) f =
       let r = conversionOf c in
-      let own : formMost (r .form) (r .width) ≤ 9 =
-      picked (λ w. w ≤ 9) (isNumber (r .form)) (conversion-small c .width) (omega arith) in
+      let own : formMost (r .form) (r .width) ≤ 13 = form-most (r .form) (r .width) (conversion-small c .width) in
       elim (decLe 10 (y .width)) [
         | yes w ↦ omega (arith, own, f .2 .bytes w)
         | no w ↦ omega (arith, own, lt-of-not-le w)
@@ -290,7 +316,7 @@ module _ (inner : ℕ → ℕ) (few : (c : ℕ) → inner c ≤ 49) where
 
 -- each composite's own format
 few : (c : ℕ) → compositeMost 2 c ≤ 49
-unfolding compositeMost
+unfolding compositeMost formMost
 few c =
     leb→le (compositeMost 2 c) 49
     (own-passes (λ s. leb (formatMost (compositeMost 1) 0 s) 49) c
@@ -316,11 +342,19 @@ put-enough : (s b : List ℕ) → length s ≤ length b → Enough (put s b)
 unfolding put
 put-enough s b h = rw (le-leb (length s) (length b) h) (λ e. omega arith)
 
+offered-enough : (es b : List ℕ) (m : Moment) → length (text m es) ≤ length b → Enough (offered es b m)
+unfolding offered refused
+offered-enough es b m h = go (lacking (m .offset) es) refl
+  where
+    go : (l : Lack) → lacking (m .offset) es ≡ l → Enough (offered es b m)
+    go Nothing e = rw e (put-enough (text m es) b h)
+    go (ZoneOffset p) e = rw e (λ z. omega arith)
+
 fields-enough : (rest : Moment → Result) (t : Fields) (b : List ℕ) → ((m : Moment) → IsMoment m → Enough (rest m))
     → Enough (forFields rest b t)
 unfolding forFields forMoment momentOf refused
 fields-enough rest t b f =
-    let fault = momentFault (t .year) (t .month) (t .day) (t .hour) (t .minute) (t .second) in
+    let fault = momentFault (t .year) (t .month) (t .day) (t .hour) (t .minute) (t .second) (t .offset) in
     either (λ (r : MomentFields). Enough (forMoment rest b r)) (eqb fault 0) (λ z. f _ (eqb-true fault 0 z)) (λ _ e. omega arith)
 
 -- by a format
@@ -335,7 +369,7 @@ longest-writing f t b all-bytes h =
     by-format : length f ≤ longest → (m : Moment) → IsMoment m → (d : Ended) → opening Writer f .ended ≡ d
         → Enough (byFormat f b m)
     by-format short m i Whole e =
-        rw e (put-enough (text m (opening Writer f .elements)) b (omega (arith, longest-text f short all-bytes m i)))
+        rw e (offered-enough (opening Writer f .elements) b m (omega (arith, longest-text f short all-bytes m i)))
     by-format short m i (BadAt p) e = rw e (λ z. omega arith)
 
 -- and by the elements that it opens to
@@ -346,5 +380,5 @@ longest-elements f t b short all-bytes h =
     let es = opening Writer f .elements in
     fields-enough (byElements es b) t b
     (λ m i. either Enough (eqb (elementsIn Writer mostElements es) (length es))
-    (λ _. put-enough (text m es) b (omega (arith, longest-text f short all-bytes m i)))
+    (λ _. offered-enough es b m (omega (arith, longest-text f short all-bytes m i)))
     (λ _ e. omega arith))

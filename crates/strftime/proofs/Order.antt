@@ -1,12 +1,13 @@
--- The writer's order, 1, 2, 3, 4, and then 0: what each way out answers and leaves in the buffer.
+-- The writer's order, 1, 2, 3, 12, 4, and then 0: what each way out answers and leaves in the buffer.
 -- Assumes nothing.
 use Prim.Native.Nat.{ℕ, min, _*_, _≤_, _<_}
-use mathlib.Core.Bool.{true}
-use mathlib.Core.List.{List}
+use mathlib.Core.Bool.{true, false, and-eq-true-iff}
+use mathlib.Core.List.{List, [], _∷_}
 use mathlib.Core.Path.{_≡_, refl, sym, ap, _∙_}
-use native.Mathlib.Nat.{zero-add}
+use native.Mathlib.Decide.{decLe}
+use native.Mathlib.Nat.{zero-add, lt-of-not-le}
 use native.Mathlib.Omega.{arith}
-use borrow.Author.Tests.{le-leb, lt-leb, eq-eqb, ne-eqb, eqb-true}
+use borrow.Author.Tests.{le-leb, lt-leb, le-ltb, lt-ltb, eq-eqb, ne-eqb, eqb-true}
 use lib.Dec.{eqb}
 use lib.ListN.{length, getD, take, length-take}
 use Rattle.laws.specs.Lists.{every}
@@ -19,8 +20,8 @@ use Rattle.format.specs.declared.opening.Opened.the-variants.{Done as Opened-to
 use Rattle.format.specs.declared.opening.Side.{Side}
 use Rattle.format.specs.declared.opening.Side.the-variants.{Writer, Reader}
 use Rattle.format.proofs.Bound.{bound}
-use Rattle.format.proofs.Elements.{elements, are-bytes}
-use Rattle.format.proofs.Entries.{counted-within}
+use Rattle.format.proofs.Elements.{elements, are-bytes, read-letter}
+use Rattle.format.proofs.Entries.{counted-within, counted-all}
 use Rattle.format.proofs.Entry.{all-plain}
 use Rattle.format.proofs.Opened.{Opens, Breaks, opened-done, stored}
 use Rattle.format.proofs.Sides.{same-opening}
@@ -29,11 +30,15 @@ use Rattle.values.specs.declared.Moment.{Moment}
 use Rattle.values.specs.declared.MomentFields.{MomentFields}
 use Rattle.values.specs.declared.MomentFields.the-variants.{Valid, Bad}
 use Rattle.strftime.specs.Private.{momentWriting, IsMoment}
-use Rattle.strftime.specs.Writing.{Result, text, writingOf, refused, put, byFormat, byElements}
+use Rattle.strftime.specs.Writing.{Result, text, writingOf, refused, put, isSeconds, firstSeconds, lacking, offered, byFormat, byElements}
 use Rattle.strftime.specs.Writing.{forMoment, forFields, writing, elementsWriting}
+use Rattle.values.specs.declared.offsets.Offset.{Offset}
+use Rattle.values.specs.declared.offsets.Offset.the-variants.{Unsaid, Minutes}
 use Rattle.strftime.specs.declared.Fields.{Fields}
+use Rattle.strftime.specs.declared.Lack.{Lack}
+use Rattle.strftime.specs.declared.Lack.the-variants.{Nothing, ZoneOffset}
 use Rattle.strftime.specs.declared.Writing.{Writing}
-use Rattle.strftime.specs.declared.Written.the-variants.{Done, FormatTooLong, BadMoment, BadConversion, BufferTooSmall}
+use Rattle.strftime.specs.declared.Written.the-variants.{Done, FormatTooLong, BadMoment, BadConversion, NoOffset, BufferTooSmall}
 
 -- the answer is a, and the buffer is left as c
 abbrev pub Gives : Writing → List ℕ → Result → Type 0
@@ -73,6 +78,30 @@ pub all-unstyled : (f : List ℕ) {n : ℕ} {ys : List ℕ} → ((k : ℕ) → g
 all-unstyled f b h =
     rw (h .first) (omega (arith, h .opens .few, h .opens .count), elements Reader f (h .opens .short) (are-bytes f (λ k l. b k)))
 
+-- elements that are read have no %s, and so a moment lacks nothing to be written by them
+plain-first : (es : List ℕ) → every (isElement Reader) es ≡ true → firstSeconds es ≡ Nothing
+unfolding firstSeconds every
+plain-first [] p = refl
+plain-first (e ∷ es) p =
+    let u = and-eq-true-iff (isElement Reader e) (every (isElement Reader) es) .0 p in
+    rw (not-seconds e (u .0)) (plain-first es (u .1))
+  where
+    not-seconds : (e : ℕ) → isElement Reader e ≡ true → isSeconds e ≡ false
+    not-seconds e q =
+        elim (decLe 256 e) [
+          | yes h ↦ unfold isSeconds in rw (le-ltb e 256 h) (read-letter e q h)
+          | no h ↦ unfold isSeconds in rw (lt-ltb e 256 (lt-of-not-le h))
+        ]
+
+plain-lacking : (o : Offset) (es : List ℕ) → every (isElement Reader) es ≡ true → lacking o es ≡ Nothing
+unfolding lacking
+plain-lacking Unsaid es p = plain-first es p
+plain-lacking (Minutes z) es p = refl
+
+plain-offered : (es b : List ℕ) (m : Moment) → every (isElement Reader) es ≡ true → offered es b m ≡ put (text m es) b
+unfolding offered
+plain-offered es b m p = rw (plain-lacking (m .offset) es p)
+
 module _ (f : List ℕ) (m : Moment) (b : List ℕ) where
   pub long-format : longest < length f → Gives (writingOf FormatTooLong) b (momentWriting f m b)
   unfolding momentWriting refused writingOf
@@ -82,40 +111,52 @@ module _ (f : List ℕ) (m : Moment) (b : List ℕ) where
   unfolding momentWriting byFormat refused writingOf
   bad-format h = rw (le-leb (length f) longest (h .short), h .bad) (refl, refl)
 
-  pub whole-format : {a : Writing} {c ys : List ℕ} {n : ℕ} → Stored Writer f n ys → Gives a c (put (text m (take n ys)) b)
+  pub whole-format : {a : Writing} {c ys : List ℕ} {n : ℕ} → Stored Writer f n ys → Gives a c (offered (take n ys) b m)
       → Gives a c (momentWriting f m b)
   unfolding momentWriting byFormat
   whole-format h g = rw (le-leb (length f) longest (h .opens .short), h .opens .whole) (rw (h .first) at g)
 
   -- opened as for the reader, whose elements are the writer's
-  pub plain-format : {a : Writing} {c ys : List ℕ} {n : ℕ} → Stored Reader f n ys → Gives a c (put (text m (take n ys)) b)
-      → Gives a c (momentWriting f m b)
+  pub plain-format : {a : Writing} {c ys : List ℕ} {n : ℕ} → ((k : ℕ) → getD f k 0 < 256) → Stored Reader f n ys
+      → Gives a c (put (text m (take n ys)) b) → Gives a c (momentWriting f m b)
   unfolding momentWriting byFormat
-  plain-format h g =
+  plain-format k h g =
       let same = same-opening f (h .opens .whole) in
-      rw (le-leb (length f) longest (h .opens .short), same, h .opens .whole, same) (rw (h .first) at g)
+      let all = rw (h .first) at (all-unstyled f k h .1) in
+      rw (le-leb (length f) longest (h .opens .short), same, h .opens .whole, same, plain-offered _ b m all) (rw (h .first) at g)
+
+-- ---- 12, then what is put
+
+module _ (es b : List ℕ) (m : Moment) {l : Lack} (e : l ≡ lacking (m .offset) es) where
+  pub no-offset : {p : ℕ} → l ≡ ZoneOffset p → Gives (writingOf (NoOffset p)) b (offered es b m)
+  unfolding offered refused writingOf
+  no-offset q = rw (← e, q) (refl, refl)
+
+  pub lacks-nothing : {a : Writing} {c : List ℕ} → l ≡ Nothing → Gives a c (put (text m es) b) → Gives a c (offered es b m)
+  unfolding offered
+  lacks-nothing q g = rw (← e, q) g
 
 -- ---- the fields: 2
 
-valid-moment : (y n d h i s : ℕ) {m : Moment} → momentOf y n d h i s ≡ Valid m → IsMoment m
+valid-moment : (y n d h i s : ℕ) (o : Offset) {m : Moment} → momentOf y n d h i s o ≡ Valid m → IsMoment m
 unfolding momentOf
-valid-moment y n d h i s {m} =
-    either (λ (r : MomentFields). r ≡ Valid m → IsMoment m) (eqb (momentFault y n d h i s) 0) (λ z q. good z q) (λ z q. clash (cc))
+valid-moment y n d h i s o {m} =
+    either (λ (r : MomentFields). r ≡ Valid m → IsMoment m) (eqb (momentFault y n d h i s o) 0) (λ z q. good z q) (λ z q. clash (cc))
   where
-    good : eqb (momentFault y n d h i s) 0 ≡ true
-        → Valid (record { date = date y n d; hour = h; minute = i; second = s }) ≡ Valid m → IsMoment m
+    good : eqb (momentFault y n d h i s o) 0 ≡ true
+        → Valid (record { date = date y n d; hour = h; minute = i; second = s; offset = o }) ≡ Valid m → IsMoment m
     good z q =
-        let e : record { date = date y n d; hour = h; minute = i; second = s } ≡ m = cc in
-        rw (← e) (eqb-true (momentFault y n d h i s) 0 z)
+        let e : record { date = date y n d; hour = h; minute = i; second = s; offset = o } ≡ m = cc in
+        rw (← e) (eqb-true (momentFault y n d h i s o) 0 z)
 
-module _ (t : Fields) {r : MomentFields} (e : r ≡ momentOf (t .year) (t .month) (t .day) (t .hour) (t .minute) (t .second)) where
+module _ (t : Fields) {r : MomentFields} (e : r ≡ momentOf (t .year) (t .month) (t .day) (t .hour) (t .minute) (t .second) (t .offset)) where
   with-fields : (rest : Moment → Result) (b : List ℕ) {s : MomentFields} → r ≡ s → forFields rest b t ≡ forMoment rest b s
   unfolding forFields
   with-fields rest b q = rw (← e, q)
 
   -- where they are a moment, that is valid
   pub is-moment : {m : Moment} → r ≡ Valid m → IsMoment m
-  is-moment q = valid-moment _ _ _ _ _ _ (sym e ∙ q)
+  is-moment q = valid-moment _ _ _ _ _ _ _ (sym e ∙ q)
 
   module _ (f b : List ℕ) where
     pub too-long : longest < length f → Gives (writingOf FormatTooLong) b (writing f t b)
@@ -142,7 +183,7 @@ module _ (t : Fields) {r : MomentFields} (e : r ≡ momentOf (t .year) (t .month
       unfolding elementsWriting forMoment byElements
       plain-elements g =
           let all = eq-eqb (elementsIn Writer mostElements es) (length es) (all-plain mostElements es (sym k)) in
-          rw (with-fields (byElements es b) b q, all) g
+          rw (with-fields (byElements es b) b q, all, plain-offered es b m (counted-all Reader mostElements es (sym k))) g
 
     module _ {m : Moment} {good : ℕ} (q : r ≡ Valid m) (k : good ≡ elementsIn Writer mostElements es) where
       pub bad-entry : good < length es → Gives (writingOf (BadConversion good)) b (elementsWriting es t b)
@@ -150,7 +191,7 @@ module _ (t : Fields) {r : MomentFields} (e : r ≡ momentOf (t .year) (t .month
       bad-entry h =
           rw (with-fields (byElements es b) b q, ← k, ne-eqb good (length es) (λ (e : good ≡ length es). omega arith)) (refl, refl)
 
-      pub all-elements : {a : Writing} {c : List ℕ} → length es ≤ good → Gives a c (put (text m es) b)
+      pub all-elements : {a : Writing} {c : List ℕ} → length es ≤ good → Gives a c (offered es b m)
           → Gives a c (elementsWriting es t b)
       unfolding elementsWriting forMoment byElements
       all-elements h g =

@@ -3,13 +3,13 @@
 -- Assumes nothing.
 use Prim.Native.Nat.{ℕ, _≤_, _<_, _^_}
 use mathlib.Core.Bool.{true}
-use mathlib.Core.List.{List}
+use mathlib.Core.List.{List, [], _∷_}
 use mathlib.Core.Path.{_≡_, refl}
 use native.Mathlib.Omega.{arith}
 use borrow.Author.Tests.{leb-true, eqb-true}
 use lib.Dec.{eqb, leb, lit≤}
 use lib.ListN.{length}
-use Rattle.laws.proofs.Cases.{either}
+use Rattle.laws.proofs.Cases.{either, picked}
 use Rattle.calendar.specs.Calendar.{within, dateFault, lastYear, monthLength}
 use Rattle.format.specs.Opening.{Ended, opening, longest, mostElements, elementsIn}
 use Rattle.format.specs.Opening.Ended.{Whole, BadAt}
@@ -20,8 +20,14 @@ use Rattle.values.specs.Moments.{momentFault, momentOf}
 use Rattle.values.specs.declared.Moment.{Moment}
 use Rattle.values.specs.declared.MomentFields.{MomentFields}
 use Rattle.strftime.specs.Private.{IsMoment}
-use Rattle.strftime.specs.Writing.{Result, text, refused, put, byFormat, byElements, forMoment, forFields, writing, elementsWriting}
+use Rattle.strftime.specs.Writing.{Result, text, refused, put, isSeconds, firstSeconds, lacking, offered, byFormat}
+use Rattle.strftime.specs.Writing.{byElements, forMoment, forFields, writing, elementsWriting}
+use Rattle.values.specs.Offsets.{isOffset}
+use Rattle.values.specs.declared.offsets.Offset.{Offset}
+use Rattle.values.specs.declared.offsets.Offset.the-variants.{Unsaid, Minutes}
 use Rattle.strftime.specs.declared.Fields.{Fields}
+use Rattle.strftime.specs.declared.Lack.{Lack}
+use Rattle.strftime.specs.declared.Lack.the-variants.{Nothing, ZoneOffset}
 use Rattle.format.proofs.Entries.{counted-few}
 use Rattle.strftime.proofs.Lengths.{text-any}
 
@@ -45,13 +51,15 @@ date-fault y m d =
     (λ _. lit≤ tt))
     (λ _. lit≤ tt)
 
-moment-fault : (y m d h n s : ℕ) → momentFault y m d h n s ≤ 6
+moment-fault : (y m d h n s : ℕ) (o : Offset) → momentFault y m d h n s o ≤ 7
 unfolding momentFault
-moment-fault y m d h n s =
-    either (λ k. k ≤ 6) (eqb (dateFault y m d) 0)
-    (λ _. either (λ k. k ≤ 6) (leb h 23)
-    (λ _. either (λ k. k ≤ 6) (leb n 59)
-    (λ _. either (λ k. k ≤ 6) (leb s 60) (λ _. lit≤ tt) (λ _. lit≤ tt))
+moment-fault y m d h n s o =
+    either (λ k. k ≤ 7) (eqb (dateFault y m d) 0)
+    (λ _. either (λ k. k ≤ 7) (leb h 23)
+    (λ _. either (λ k. k ≤ 7) (leb n 59)
+    (λ _. either (λ k. k ≤ 7) (leb s 60)
+    (λ _. either (λ k. k ≤ 7) (isOffset o) (λ _. lit≤ tt) (λ _. lit≤ tt))
+    (λ _. lit≤ tt))
     (λ _. lit≤ tt))
     (λ _. lit≤ tt))
     (λ _. omega (arith, date-fault y m d))
@@ -59,12 +67,35 @@ moment-fault y m d h n s =
 fields-place : (rest : Moment → Result) (t : Fields) (b : List ℕ) → ((m : Moment) → IsMoment m → Fits (rest m)) → Fits (forFields rest b t)
 unfolding forFields forMoment momentOf refused
 fields-place rest t b f =
-    let fault = momentFault (t .year) (t .month) (t .day) (t .hour) (t .minute) (t .second) in
+    let fault = momentFault (t .year) (t .month) (t .day) (t .hour) (t .minute) (t .second) (t .offset) in
     either (λ (r : MomentFields). Fits (forMoment rest b r)) (eqb fault 0)
     (λ z. f _ (eqb-true _ 0 z))
-    (λ _. omega (arith, moment-fault (t .year) (t .month) (t .day) (t .hour) (t .minute) (t .second)))
+    (λ _. omega (arith, moment-fault (t .year) (t .month) (t .day) (t .hour) (t .minute) (t .second) (t .offset)))
 
--- ---- 3, 4 and 0
+-- ---- 3, 12, 4 and 0
+
+-- the offset of a %, as an element has it
+abbrev Short : Lack → Type 0
+Short Nothing = Unit {0}
+Short (ZoneOffset p) = p < longest
+
+first-short : (es : List ℕ) → Short (firstSeconds es)
+unfolding firstSeconds
+first-short [] = tt
+first-short (e ∷ es) = picked Short (isSeconds e) (omega arith) (first-short es)
+
+lacking-short : (o : Offset) (es : List ℕ) → Short (lacking o es)
+unfolding lacking
+lacking-short Unsaid es = first-short es
+lacking-short (Minutes z) es = tt
+
+offered-place : (es b : List ℕ) (m : Moment) → IsMoment m → length es ≤ mostElements → Fits (offered es b m)
+unfolding offered refused
+offered-place es b m i few = go (lacking (m .offset) es) refl (lacking-short (m .offset) es)
+  where
+    go : (l : Lack) → lacking (m .offset) es ≡ l → Short l → Fits (offered es b m)
+    go Nothing e h = rw e (omega (arith, put-place (text m es) b, text-any m i es))
+    go (ZoneOffset p) e h = rw e (omega arith)
 
 format-place : (f b : List ℕ) (m : Moment) → IsMoment m → length f ≤ longest → Fits (byFormat f b m)
 unfolding byFormat refused
@@ -73,7 +104,7 @@ format-place f b m i h = go (opening Writer f .ended) refl
     go : (d : Ended) → opening Writer f .ended ≡ d → Fits (byFormat f b m)
     go Whole e =
         let es = opening Writer f .elements in
-        rw e (omega (arith, put-place (text m es) b, text-any m i es, bound Writer f))
+        rw e (offered-place es b m i (omega (arith, bound Writer f)))
     go (BadAt p) e = rw e (omega (arith, bad-within Writer f e))
 
 entries-place : (es b : List ℕ) (m : Moment) → IsMoment m → Fits (byElements es b m)
@@ -82,8 +113,7 @@ entries-place es b m i =
     let good = elementsIn Writer mostElements es in
     let few = counted-few Writer mostElements es in
     either Fits (eqb good (length es))
-    (λ (e : eqb good (length es) ≡ true).
-    omega (arith, put-place (text m es) b, text-any m i es, few, eqb-true good (length es) e))
+    (λ (e : eqb good (length es) ≡ true). offered-place es b m i (omega (arith, few, eqb-true good (length es) e)))
     (λ _. omega (arith, few))
 
 -- ---- the whole

@@ -1,3 +1,4 @@
 -- What the writer means.
 pub mod Private
 pub mod Writing
+pub mod Zones

@@ -13,7 +13,7 @@ use Rattle.values.specs.Values.{value}
 use Rattle.values.specs.declared.Moment.{Moment}
 use Rattle.strftime.specs.Writing.{Result, refused, byFormat}
 
--- a valid moment written by a format: 1, 3, 4
+-- a valid moment written by a format: 1, 3, 12, 4
 unfoldable pub momentWriting : List ℕ → Moment → List ℕ → Result
 momentWriting f m b =
     let rest = byFormat f b m in
@@ -21,7 +21,7 @@ momentWriting f m b =
 
 -- a moment is valid
 abbrev pub IsMoment : Moment → Type 0
-IsMoment m = momentFault (m .date .year) (m .date .month) (m .date .day) (m .hour) (m .minute) (m .second) ≡ 0
+IsMoment m = momentFault (m .date .year) (m .date .month) (m .date .day) (m .hour) (m .minute) (m .second) (m .offset) ≡ 0
 
 -- where a conversion is a number, its value has no more digits than its width
 abbrev pub HasRoom : Conversion → Moment → Type 0

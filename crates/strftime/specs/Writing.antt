@@ -1,7 +1,7 @@
 -- The writer: what an element writes for a moment (RULES 5), and what a writing answers and leaves in the buffer (RULES 3).
 use Prim.Native.Char.{code}
-use Prim.Native.Nat.{ℕ, max, _%_}
-use mathlib.Core.Bool.{cond}
+use Prim.Native.Nat.{ℕ, max, _-_, _%_}
+use mathlib.Core.Bool.{Bool, false, cond}
 use mathlib.Core.List.{List, [], _∷_, _++_}
 use lib.Dec.{eqb, leb}
 use lib.ListN.{length}
@@ -14,10 +14,11 @@ use Rattle.text.specs.Naming.{nameFor}
 use Rattle.text.specs.declared.names.Case.{Case}
 use Rattle.text.specs.declared.names.Case.the-variants.{AsIs, Small, Capital}
 use Rattle.format.specs.Conversions.{conversionOf}
-use Rattle.format.specs.Opening.{Ended, Whole, BadAt, opening, longest, isByte, letterOf, styleOf, mostElements, elementsIn}
+use Rattle.format.specs.Opening.{Ended, Whole, BadAt, opening, longest, isByte, letterOf, afterSign, styleOf}
+use Rattle.format.specs.Opening.{mostElements, elementsIn}
 use Rattle.format.specs.declared.conversions.Conversion.{Conversion}
 use Rattle.format.specs.declared.conversions.Form.{Form}
-use Rattle.format.specs.declared.conversions.Form.the-variants.{Zeros, Blanks, FromSunday, Short, Full, Lower, Unknown}
+use Rattle.format.specs.declared.conversions.Form.the-variants.{Zeros, Blanks, FromSunday, Short, Full, Lower, Zone, Seconds, Unknown}
 use Rattle.format.specs.declared.opening.Side.the-variants.{Writer}
 use Rattle.format.specs.declared.opening.Style.{Style}
 use Rattle.values.specs.Moments.{momentOf}
@@ -25,10 +26,16 @@ use Rattle.values.specs.Values.{value}
 use Rattle.values.specs.declared.Moment.{Moment}
 use Rattle.values.specs.declared.MomentFields.{MomentFields}
 use Rattle.values.specs.declared.MomentFields.the-variants.{Valid, Bad}
+use Rattle.values.specs.declared.offsets.Offset.{Offset}
+use Rattle.values.specs.declared.offsets.Offset.the-variants.{Unsaid, Minutes}
+use Rattle.strftime.specs.Zones as zones
+use Rattle.strftime.specs.Zones.{zone, epochSeconds}
 use Rattle.strftime.specs.declared.Fields.{Fields}
+use Rattle.strftime.specs.declared.Lack.{Lack}
+use Rattle.strftime.specs.declared.Lack.the-variants.{Nothing, ZoneOffset}
 use Rattle.strftime.specs.declared.Writing.{Writing}
 use Rattle.strftime.specs.declared.Written.{Written}
-use Rattle.strftime.specs.declared.Written.the-variants.{Done, FormatTooLong, BadMoment, BadConversion, BufferTooSmall}
+use Rattle.strftime.specs.declared.Written.the-variants.{Done, FormatTooLong, BadMoment, BadConversion, NoOffset, BufferTooSmall}
 
 -- ---- what is written
 
@@ -52,18 +59,20 @@ caseBy flag own = cond (eqb flag (code "^")) Capital own
 unfoldable pub name : Style → Case → List ℕ → List ℕ
 name y own s = fill 32 (y .width) (cased (caseBy (y .flag) own) s)
 
--- a value written by a form and its width, with a flag and a width asked for
-unfoldable pub formed : Style → Form → ℕ → ℕ → List ℕ
-formed y Zeros w v = number y 48 w v
-formed y Blanks w v = number y 32 w v
-formed y FromSunday w v = number y 48 w (v % 7)
-formed y (Short t) w v = name y AsIs (short (nameFor t v))
-formed y (Full t) w v = name y AsIs (nameFor t v)
-formed y (Lower t) w v = name y Small (nameFor t v)
-formed y Unknown w v = []
+-- a value of a moment written by a form and its width, with a flag and a width asked for; %z and %s take the moment's offset
+unfoldable pub formed : Moment → Style → Form → ℕ → ℕ → List ℕ
+formed m y Zeros w v = number y 48 w v
+formed m y Blanks w v = number y 32 w v
+formed m y FromSunday w v = number y 48 w (v % 7)
+formed m y (Short t) w v = name y AsIs (short (nameFor t v))
+formed m y (Full t) w v = name y AsIs (nameFor t v)
+formed m y (Lower t) w v = name y Small (nameFor t v)
+formed m y Zone w v = zone (m .offset)
+formed m y Seconds w v = epochSeconds m (m .offset)
+formed m y Unknown w v = []
 
 unfoldable pub converted : Style → Conversion → Moment → List ℕ
-converted y c m = formed y (c .form) (c .width) (value (c .kind) m)
+converted y c m = formed m y (c .form) (c .width) (value (c .kind) m)
 
 -- what an element writes: a byte itself, a conversion its value
 unfoldable pub element : Moment → ℕ → List ℕ
@@ -85,6 +94,7 @@ writingOf (Done n) = numbered 0 n
 writingOf FormatTooLong = numbered 1 0
 writingOf (BadMoment f) = numbered 2 f
 writingOf (BadConversion p) = numbered 3 p
+writingOf (NoOffset p) = numbered 12 p
 writingOf (BufferTooSmall n) = numbered 4 n
 
 -- what a writing answers, and what it leaves in the buffer
@@ -102,19 +112,42 @@ put s b =
     cond (leb (length s) (length b)) (record { answer = numbered 0 (length s); buffer = sets b 0 s })
     (refused 4 (length s) b)
 
--- 3, then 4: by a format
+-- an element is %s
+unfoldable pub isSeconds : ℕ → Bool
+isSeconds e = cond (isByte e) false (eqb (letterOf e) (code "s"))
+
+-- the first %s among some elements, by the offset of its %
+unfoldable pub firstSeconds : List ℕ → Lack
+firstSeconds [] = Nothing
+firstSeconds (e ∷ es) = let more = firstSeconds es in cond (isSeconds e) (ZoneOffset (afterSign e - 1)) more
+
+-- what a moment lacks to be written by some elements: its offset, where that is unsaid and %s is among them
+unfoldable pub lacking : Offset → List ℕ → Lack
+lacking Unsaid es = firstSeconds es
+lacking (Minutes z) es = Nothing
+
+-- 12, then 4: by elements
+unfoldable pub offered : List ℕ → List ℕ → Moment → Result
+offered es b m = go (lacking (m .offset) es)
+  where
+    go : Lack → Result
+    go Nothing = put (text m es) b
+    go (ZoneOffset p) = refused 12 p b
+
+-- 3 before them: by a format
 unfoldable pub byFormat : List ℕ → List ℕ → Moment → Result
 byFormat f b m = go (opening Writer f .ended)
   where
     go : Ended → Result
-    go Whole = put (text m (opening Writer f .elements)) b
+    go Whole = offered (opening Writer f .elements) b m
     go (BadAt p) = refused 3 p b
 
 -- the same by the elements of a format that was opened before: 3 at the first entry that is no element
 unfoldable pub byElements : List ℕ → List ℕ → Moment → Result
 byElements es b m =
     let good = elementsIn Writer mostElements es in
-    cond (eqb good (length es)) (put (text m es) b) (refused 3 good b)
+    let rest = offered es b m in
+    cond (eqb good (length es)) rest (refused 3 good b)
 
 -- 2 for fields that are no moment, else the rest of the order
 unfoldable pub forMoment : (Moment → Result) → List ℕ → MomentFields → Result
@@ -122,15 +155,15 @@ forMoment rest b (Valid m) = rest m
 forMoment rest b (Bad n) = refused 2 n b
 
 unfoldable pub forFields : (Moment → Result) → List ℕ → Fields → Result
-forFields rest b t = forMoment rest b (momentOf (t .year) (t .month) (t .day) (t .hour) (t .minute) (t .second))
+forFields rest b t = forMoment rest b (momentOf (t .year) (t .month) (t .day) (t .hour) (t .minute) (t .second) (t .offset))
 
--- the whole order: 1, 2, 3, 4, then 0
+-- the whole order: 1, 2, 3, 12, 4, then 0
 unfoldable pub writing : List ℕ → Fields → List ℕ → Result
 writing f t b =
     let rest = forFields (byFormat f b) b t in
     cond (leb (length f) longest) rest (refused 1 0 b)
 
--- elements written: 2, 3, 4
+-- elements written: 2, 3, 12, 4
 unfoldable pub elementsWriting : List ℕ → Fields → List ℕ → Result
 elementsWriting es t b = forFields (byElements es b) b t
 
@@ -140,6 +173,7 @@ longestWriting = 25344
 
 -- everything here, for proofs that compute
 unfoldable pub computes : Unit {0}
-unfolding fillBy placesBy number caseBy name formed converted element text writingOf refused put byFormat byElements
+unfolding zones.computes fillBy placesBy number caseBy name formed converted element text writingOf refused put isSeconds firstSeconds lacking
+    offered byFormat byElements
     forMoment forFields writing elementsWriting
 computes = tt

@@ -1,6 +1,7 @@
 // The writer (RULES 5): a format, a moment's fields and a buffer; all or nothing.
 mod measuring;
 mod putting;
+mod zones;
 
 use format::LONGEST;
 use format::MIDDLE_BYTES;
@@ -16,13 +17,14 @@ use measuring::measure;
 use putting::put_elements;
 use values::Moment;
 use values::MomentFields;
+use values::Offset;
 ghost use mathlib.Core.Path.{_≡_};
-ghost use Prim.Native.Nat.{min, _*_, _≤_};
+ghost use Prim.Native.Nat.{min, _-_, _*_, _≤_};
 ghost use lib.ListN.{length};
-ghost use Rattle.format.specs.Opening.{longest, mostElements};
+ghost use Rattle.format.specs.Opening.{longest, afterSign, mostElements};
 ghost use Rattle.values.specs.Moments.{momentOf};
 ghost use Rattle.strftime.specs.Private.{momentWriting, IsMoment};
-ghost use Rattle.strftime.specs.Writing.{text, put, writingOf, writing, elementsWriting};
+ghost use Rattle.strftime.specs.Writing.{text, put, isSeconds, firstSeconds, lacking, offered, writingOf, writing, elementsWriting};
 
 pub struct Fields {
     pub year: u32,
@@ -31,6 +33,7 @@ pub struct Fields {
     pub hour: u32,
     pub minute: u32,
     pub second: u32,
+    pub offset: Offset,
 }
 
 // The answer to a writing, in the order in which refusals are judged.
@@ -39,7 +42,14 @@ pub enum Written {
     FormatTooLong,
     BadMoment { field: u8 },
     BadConversion { at: usize },
+    NoOffset { at: usize },
     BufferTooSmall { needed: usize },
+}
+
+// What a moment lacks to be written by some elements: nothing, or its zone offset for the first %s, by the offset of its %.
+pub enum Lack {
+    Nothing,
+    ZoneOffset { at: usize },
 }
 
 // The number and place of an answer (RULES 3).
@@ -66,6 +76,10 @@ pub fn writing_of(w: Written) -> Writing
         },
         Written::BadConversion { at } => Writing {
             number: 3,
+            place: at,
+        },
+        Written::NoOffset { at } => Writing {
+            number: 12,
             place: at,
         },
         Written::BufferTooSmall { needed } => Writing {
@@ -123,16 +137,17 @@ pub fn write_elements(elements: &[u32], fields: Fields, out: &mut [u8]) -> Writt
             if good < elements.len() {
                 return Written::BadConversion { at: good };
             }
-            write_opened(elements, moment, out, WIDEST_STYLED * elements.len())
+            write_any(elements, moment, out)
         }
     }
 }
 
 // The moment with these fields, or the first bad one.
 fn moment_of(t: Fields) -> MomentFields
-    ensures { λ r. ⌜ r ≡ momentOf (t .year) (t .month) (t .day) (t .hour) (t .minute) (t .second) ⌝ }
+    ensures { λ r. ⌜ r ≡ momentOf (t .year) (t .month) (t .day) (t .hour) (t .minute) (t .second) (t .offset) ⌝ }
 {
-    Moment::from_fields(t.year, t.month, t.day, t.hour, t.minute, t.second)
+    let offset = t.offset;
+    Moment::from_fields(t.year, t.month, t.day, t.hour, t.minute, t.second, offset)
 }
 
 // Opens the format into `elements`, which has room for 13 to two bytes, and writes those where they have neither flags nor widths: such
@@ -175,11 +190,67 @@ fn write_into(format: &[u8], moment: Moment, elements: &mut [u32], out: &mut [u8
     ensures { λ _. ⌜ now (out .exit) ≡ momentWriting (now (format .entry)) moment (now (out .entry)) .buffer ⌝ }
 {
     match open(Side::Writer, format, elements) {
-        Opened::Done { count } => {
-            write_opened(&elements[..count], moment, out, WIDEST_STYLED * count)
-        }
+        Opened::Done { count } => { write_any(&elements[..count], moment, out) }
         Opened::TooLong => Written::FormatTooLong,
         Opened::Bad { at } => Written::BadConversion { at },
+    }
+}
+
+// The offset of the % of a conversion.
+fn sign_of(e: u32) -> usize
+    ensures { λ r. ⌜ r ≡ afterSign e - 1 ⌝ }
+{
+    let after = e / 256 % 1024;
+    if after == 0 {
+        return 0;
+    }
+    (after - 1) as usize
+}
+
+fn is_seconds(e: u32) -> bool
+    ensures { λ r. ⌜ r ≡ isSeconds e ⌝ }
+{
+    if e < 256 {
+        return false;
+    }
+    e % 256 == 115
+}
+
+// The first %s among some elements.
+fn first_seconds(elements: &[u32]) -> Lack
+    ensures { λ r. ⌜ r ≡ firstSeconds (now (elements .entry)) ⌝ }
+{
+    let mut i = 0;
+    while i < elements.len() {
+        let e = elements[i];
+        if is_seconds(e) {
+            return Lack::ZoneOffset { at: sign_of(e) };
+        }
+        i += 1;
+    }
+    Lack::Nothing
+}
+
+fn lacking(offset: Offset, elements: &[u32]) -> Lack
+    ensures { λ r. ⌜ r ≡ lacking offset (now (elements .entry)) ⌝ }
+{
+    match offset {
+        Offset::Unsaid => first_seconds(elements),
+        Offset::Minutes(_) => Lack::Nothing,
+    }
+}
+
+// Writes a moment by any elements, where it has what they want.
+fn write_any(elements: &[u32], moment: Moment, out: &mut [u8]) -> Written
+    requires { ⌜ length (now elements) ≤ mostElements ⌝ }
+    requires { ⌜ IsMoment moment ⌝ }
+    ensures { λ r. ⌜ writingOf r ≡ offered (now (elements .entry)) (now (out .entry)) moment .answer ⌝ }
+    ensures { λ _. ⌜ now (out .exit) ≡ offered (now (elements .entry)) (now (out .entry)) moment .buffer ⌝ }
+{
+    let offset = moment.offset;
+    match lacking(offset, elements) {
+        Lack::Nothing => write_opened(elements, moment, out, WIDEST_STYLED * elements.len()),
+        Lack::ZoneOffset { at } => Written::NoOffset { at },
     }
 }
 

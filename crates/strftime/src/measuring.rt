@@ -1,4 +1,6 @@
 // How many bytes elements write.
+use crate::zones::seconds_length;
+use crate::zones::zone_length;
 use format::Conversion;
 use format::Form;
 use format::PLAIN;
@@ -46,7 +48,7 @@ fn element_length(e: u32, moment: Moment) -> usize
     styled_length(style_of(e), conversion_of((e % 256) as u8), moment)
 }
 
-// Without flag and width a number is as long as its own width; only the length of a name depends on the moment.
+// Without flag and width a number is as long as its own width; only the lengths of names, of an offset and of seconds depend on the moment.
 fn converted_length(c: Conversion, moment: Moment) -> usize
     requires { ⌜ HasRoom c moment ⌝ }
     ensures { λ r. ⌜ r ≡ length (converted unstyled c moment) ⌝ }
@@ -60,6 +62,8 @@ fn converted_length(c: Conversion, moment: Moment) -> usize
         Form::Short(t) => short_length(t, moment.value(kind)),
         Form::Full(t) => full_length(t, moment.value(kind)),
         Form::Lower(t) => full_length(t, moment.value(kind)),
+        Form::Zone => zone_length(moment),
+        Form::Seconds => seconds_length(moment),
         Form::Unknown => 0,
     }
 }
@@ -79,6 +83,8 @@ fn styled_length(style: Style, c: Conversion, moment: Moment) -> usize
         Form::Short(t) => larger(width, short_length(t, value)),
         Form::Full(t) => larger(width, full_length(t, value)),
         Form::Lower(t) => larger(width, full_length(t, value)),
+        Form::Zone => zone_length(moment),
+        Form::Seconds => seconds_length(moment),
         Form::Unknown => 0,
     }
 }

@@ -2,6 +2,8 @@
 use crate::measuring::full_length;
 use crate::measuring::places_by;
 use crate::measuring::short_length;
+use crate::zones::put_seconds;
+use crate::zones::put_zone;
 use format::Conversion;
 use format::Form;
 use format::PLAIN;
@@ -73,6 +75,8 @@ fn put_converted(out: &mut [u8], at: usize, c: Conversion, moment: Moment) -> us
         Form::Short(t) => put_short(out, at, t, value, Case::AsIs),
         Form::Full(t) => put_full(out, at, t, value, Case::AsIs),
         Form::Lower(t) => put_full(out, at, t, value, Case::Small),
+        Form::Zone => put_zone(out, at, moment),
+        Form::Seconds => put_seconds(out, at, moment),
         Form::Unknown => at,
     }
 }
@@ -92,6 +96,8 @@ fn put_styled(out: &mut [u8], at: usize, style: Style, c: Conversion, moment: Mo
         Form::Short(t) => put_styled_short(out, at, style, t, value),
         Form::Full(t) => put_styled_full(out, at, style, Case::AsIs, t, value),
         Form::Lower(t) => put_styled_full(out, at, style, Case::Small, t, value),
+        Form::Zone => put_zone(out, at, moment),
+        Form::Seconds => put_seconds(out, at, moment),
         Form::Unknown => at,
     }
 }
@@ -178,7 +184,7 @@ fn case_by(flag: u8, own: Case) -> Case
 }
 
 // A number on exactly `width` places.
-fn put_number(out: &mut [u8], at: usize, width: usize, fill: u8, value: u32) -> usize
+pub(crate) fn put_number(out: &mut [u8], at: usize, width: usize, fill: u8, value: u32) -> usize
     requires { ⌜ at + width ≤ length (now out) ⌝ }
     ensures { λ r. ⌜ Puts (filled fill width value) (now (out .entry)) at (now (out .exit)) r ⌝ }
 {

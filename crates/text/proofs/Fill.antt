@@ -1,17 +1,20 @@
 -- Filling, once over width and fill; and numbers with no zeros before them: how many digits they have, and that digits over a width
 -- are such a number, filled.
 -- Assumes nothing.
-use Prim.Native.Nat.{ℕ, zero, suc, _+_, _-_, _/_, _%_, _^_, _≤_, _<_, max}
+use Prim.Native.Nat.{ℕ, zero, suc, _+_, _-_, _*_, _/_, _%_, _^_, _≤_, _<_, max}
 use mathlib.Core.Path.{_≡_, refl, sym, ap, _∙_}
-use mathlib.Core.List.{List, [], _∷_, _++_, append-assoc}
+use mathlib.Core.List.{List, [], _∷_, _++_, append-assoc, append-nil}
 use native.Mathlib.Decide.{decLt}
+use native.Mathlib.Nat.{div-one, div-div-eq-div-mul, pow-suc, pow-succ', pow-le-pow-right}
 use native.Mathlib.Numerals.{add-one}
 use native.Mathlib.Omega.{arith}
 use borrow.Author.Tests.{ne-eqb, lt-ltb, le-ltb}
+use lib.Arith.{mod-mul, digits-div, digits-mod}
+use lib.Dec.{lit<}
 use lib.ListN.{length, replicate, length-append, length-replicate, replicate-append-replicate}
 use Rattle.text.specs.Digits.{digit, leading, filled, digits, plain}
 use Rattle.text.specs.Fill.{fill}
-use Rattle.text.proofs.ReadBack.{filled-length}
+use Rattle.text.proofs.ReadBack.{filled-length, filled-last}
 
 -- ---- any text
 
@@ -119,3 +122,26 @@ pub plain-places : (f n : ℕ) → filled f (length (plain n)) n ≡ plain n
 plain-places f n =
     filled-is-fill f (length (plain n)) n (plain-some n) (plain-room (suc n) n (omega arith))
     ∙ fill-below f (length (plain n)) (plain n) (omega arith)
+
+-- a number with more than k digits: those before the last k, and these on k places
+pub plain-parts : (k n : ℕ) → 10 ^ k ≤ n → plain n ≡ plain (n / 10 ^ k) ++ filled 48 k (n % 10 ^ k)
+unfolding filled
+plain-parts zero n h = rw (div-one n, append-nil)
+plain-parts (suc k) n h =
+    let e : n % 10 ^ suc k ≡ n / 10 % 10 ^ k * 10 + n % 10 = rw (pow-suc 10 k) (mod-mul n (pow-pos k) (lit< tt)) in
+    let q : n / 10 ^ suc k ≡ n / 10 / 10 ^ k = rw (pow-succ' 10 k) (sym (div-div-eq-div-mul n 10 (10 ^ k))) in
+    let l : 10 ^ k ≤ n / 10 = omega (arith, pow-suc 10 k) in
+    let r : n % 10 < 10 = omega arith in
+    rw (
+      plain-more n (omega (arith, pow-suc 10 k, pow-pos k)),
+      plain-parts k (n / 10) l,
+      q,
+      filled-last k (n % 10 ^ suc k),
+      e,
+      digits-div (n / 10 % 10 ^ k) r,
+      digits-mod (n / 10 % 10 ^ k) r,
+      append-assoc,
+    )
+  where
+    pow-pos : (k : ℕ) → 0 < 10 ^ k
+    pow-pos k = omega (arith, pow-le-pow-right {n = 10} (lit< tt) {i = 0} {j = k} (omega arith))

@@ -129,21 +129,22 @@ no-fault-moment m e =
       offset = g .0;
     }
 
-minute-second : (m : Moment) → ValidMoment m → (k : ℕ) → 16 ≤ k → k ≤ 17 → Ranged k (value k m)
+-- kinds 16 to 18: the zone offset has no value, but is written and read by itself
+neither-ranged : (m : Moment) → ValidMoment m → (k : ℕ) → 16 ≤ k → k ≤ 18 → Ranged k (value k m)
 unfolding lowest highest value
-minute-second m v k p q =
-    each-at (λ i. Ranged i (value i m)) 16 2
-    ((omega arith, v .minute) ▸ (omega arith, v .second) ▸ end)
+neither-ranged m v k p q =
+    each-at (λ i. Ranged i (value i m)) 16 3
+    ((omega arith, v .minute) ▸ (omega arith, v .second) ▸ (omega arith, omega arith) ▸ end)
     k p (omega arith)
 
--- kinds 1 to 17, of a valid moment
-pub value-ranged : (m : Moment) → ValidMoment m → (k : ℕ) → k ≤ 17 → Ranged k (value k m)
+-- every kind, of a valid moment
+pub value-ranged : (m : Moment) → ValidMoment m → (k : ℕ) → k ≤ 18 → Ranged k (value k m)
 unfolding value
 value-ranged m v k h = day (decLe k 12)
   where
     hour : 12 < k → Dec (k ≤ 15) → Ranged k (value k m)
     hour l (yes p) = rw (lt-leb k 12 l, le-leb k 15 p) (hour-ranged (m .hour) (v .hour) k l p)
-    hour l (no p) = minute-second m v k (lt-of-not-le p) h
+    hour l (no p) = neither-ranged m v k (lt-of-not-le p) h
 
     day : Dec (k ≤ 12) → Ranged k (value k m)
     day (yes p) = rw (le-leb k 12 p) (date-ranged (m .date) (v .date) k p)

@@ -12,9 +12,11 @@ use mir.Syntax.{w32, w64}
 use mir.Val.{SFits, toZ, ofZ}
 use Rattle.calendar.specs.Calendar as calendar
 use Rattle.calendar.specs.Calendar.{dayNumber}
-use Rattle.values.specs.Offsets.{epoch, seconds}
+use Rattle.calendar.proofs.Dates.{number-within, last-day}
+use Rattle.values.specs.Offsets.{epoch, mostOffset, seconds}
 use Rattle.values.specs.Values.{dayNumberOf}
 use Rattle.values.specs.declared.Moment.{Moment}
+use Rattle.values.proofs.Ranges.{ValidMoment}
 use Rattle.values.proofs.Signed.{abs-add, abs-sub, abs-times, near-fits}
 
 -- what is worked out, x, is the number y, which lies at most k from zero
@@ -24,6 +26,9 @@ pub record Near (x y : ℤ) (k : ℕ) : Type 0 where
 
 pub fits : {x y : ℤ} {k : ℕ} → Near x y k → k < 2 ^ 63 → SFits w64 x
 fits {x} {y} {k} n h = rw (n .same) (near-fits y (omega (arith, n .most)))
+
+pub small : {x y : ℤ} {k n : ℕ} → Near x y k → k < n → natAbs x < n
+small a h = rw (a .same) (omega (arith, a .most))
 
 -- a number, stored and loaded
 pub kept : {x y : ℤ} {k : ℕ} → Near x y k → k < 2 ^ 63 → Near (toZ w64 (ofZ w64 x)) y k
@@ -104,6 +109,33 @@ sum-is m east e =
     ap
     (λ (d : ℕ). pos 86400 *ℤ (pos d -ℤ pos 719163) +ℤ pos 3600 *ℤ pos (m .hour) +ℤ pos 60 *ℤ (pos (m .minute) -ℤ east) +ℤ pos (m .second))
     e
+
+-- ---- how far it lies from zero, for a valid moment
+
+pub seconds-most : (m : Moment) → ValidMoment m → (east : ℤ) → natAbs east ≤ mostOffset → natAbs (seconds m east) < 10 ^ 12
+unfolding seconds
+seconds-most m v east h =
+    let n = number-within (m .date .year) (m .date .month) (m .date .day) (v .date) in
+    let past = pos (dayNumberOf (m .date)) -ℤ pos epoch in
+    let minutes = pos (m .minute) -ℤ east in
+    let a = pos 86400 *ℤ past in
+    let b = pos 3600 *ℤ pos (m .hour) in
+    let c = pos 60 *ℤ minutes in
+    omega (
+      arith,
+      n .1,
+      last-day .0,
+      v .hour,
+      v .minute,
+      v .second,
+      abs-sub (pos (dayNumberOf (m .date))) (pos epoch),
+      abs-sub (pos (m .minute)) east,
+      abs-times 86400 past,
+      abs-times 60 minutes,
+      abs-add a b,
+      abs-add (a +ℤ b) c,
+      abs-add (a +ℤ b +ℤ c) (pos (m .second)),
+    )
 
 -- the day number of 1970-01-01
 pub epoch-is : dayNumber 1970 1 1 ≡ epoch

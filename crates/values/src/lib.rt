@@ -4,6 +4,8 @@ mod offsets;
 use calendar::Date;
 use offsets::is_offset;
 ghost use mathlib.Core.Path.{_≡_};
+ghost use Prim.Native.Nat.{_<_, _^_};
+ghost use lib.IntN.{natAbs};
 ghost use Rattle.values.specs.Moments.{momentOf};
 ghost use Rattle.values.specs.Offsets.{seconds};
 ghost use Rattle.values.specs.Values.{dateValue, hourOfTwelve, halfOfDay, hourValue, value};
@@ -84,6 +86,7 @@ impl Moment {
     // Whole seconds from 1970-01-01 00:00:00 UTC, where the moment is so many minutes east of UTC.
     pub fn seconds(self, east: i32) -> i64
         ensures { λ r. ⌜ r ≡ seconds self east ⌝ }
+        ensures small { λ r. ⌜ natAbs r < 10 ^ 15 ⌝ }
     {
         let days = self.date.day_number() as i64 - EPOCH;
         let minutes = self.minute as i64 - east as i64;

@@ -4,7 +4,7 @@ use native.Mathlib.Omega.{arith}
 use Rattle.format.specs.Opening.{mostElements}
 use Rattle.format.specs.declared.opening.Side.the-variants.{Writer, Reader}
 use Rattle.format.proofs.Entries.{counted-few, counted-all}
-use Rattle.strftime.proofs.Lengths.{text-most, text-any}
+use Rattle.strftime.proofs.Lengths.{text-most}
 use Rattle.strftime.proofs.Order.{is-moment, bad-fields, bad-entry, plain-elements, all-elements}
 use borrow.Author.Needs.{needs}
 use Rattle.strftime.proofs.write_elements.Statement.{statement}
@@ -59,19 +59,13 @@ returns-2 c =
     bad-entry (a .fields) (m .before .before .moment-of .ensures) (a .elements .now) (a .out .now) (m .moment .given .1)
     (c .before .elements-in2 .ensures) (omega arith)
 
-write-opened-requires-2 : tie.Need-write-opened-requires-2
-write-opened-requires-2 c κs =
+write-any-requires : tie.Need-write-any-requires
+write-any-requires c κs =
     let e = c .before .before in
     let m = c .before .before .before .before .before .before in
     let es = c .before .before .before .before .before .before .before .before .before .before .before .args .elements .now in
     let i = is-moment _ (m .before .before .moment-of .ensures) (m .moment .given .1) in
-    let long = text-any (m .moment .given .0 .0) i es in
-    (omega (arith, counted-few Writer mostElements es, e .elements-in2 .ensures), (omega (arith, long), i))
-
-mul-write-opened-2 : tie.Need-mul-write-opened-2
-mul-write-opened-2 c =
-    let es = c .before .before .before .before .before .before .before .before .before .before .before .args .elements .now in
-    omega (arith, counted-few Writer mostElements es, c .before .before .elements-in2 .ensures)
+    (omega (arith, counted-few Writer mostElements es, e .elements-in2 .ensures), i)
 
 returns-3 : tie.Need-returns-3
 returns-3 c = bad-fields _ (c .before .before .before .moment-of .ensures) _ _ (c .before .field .given .1)
@@ -84,7 +78,7 @@ returns-4 c =
     let e = c .before .before .before .before .before in
     let m = e .before .before .before .before in
     all-elements _ (m .before .before .moment-of .ensures) _ _ (m .moment .given .1) (e .elements-in2 .ensures)
-    (omega arith) (c .before .before .write-opened2 .ensures)
+    (omega arith) (c .before .before .write-any .ensures)
 
 pub write-elements-spec : {M : Type 1} → statement M
 write-elements-spec =
@@ -100,8 +94,7 @@ write-elements-spec =
     returns
     elements-in-requires-2
     returns-2
-    mul-write-opened-2
-    write-opened-requires-2
+    write-any-requires
     returns-3
     same-length-2
     returns-4)

@@ -66,7 +66,9 @@ same-length-4 c = search needs
 
 returns-2 : tie.Need-returns-2
 returns-2 c =
-    plain-format _ _ _ (holds (c .before .before .before .before .before .before)) (c .before .before .write-opened .ensures)
+    let l = c .before .before .before .before .before .before in
+    let known = l .before .before .before .before .before .before .before .before .shared-slice-known .given in
+    plain-format _ _ _ (λ k. omega (arith, known k)) (holds l) (c .before .before .write-opened .ensures)
 
 pub write-format-spec : {M : Type 1} → statement M
 write-format-spec =

@@ -2,10 +2,8 @@
 use mathlib.Core.Path.{sym}
 use native.Mathlib.Omega.{arith}
 use lib.Seq.{length-take-le}
-use Rattle.format.specs.Opening.{opening}
 use Rattle.format.specs.declared.opening.Side.the-variants.{Writer}
 use Rattle.format.proofs.Opened.{opened-bad, opened-long}
-use Rattle.strftime.proofs.Lengths.{text-any}
 use Rattle.strftime.proofs.Order.{Stored, all-stored, long-format, bad-format, whole-format}
 use borrow.Author.Needs.{needs}
 use Rattle.strftime.proofs.write_into.Statement.{statement}
@@ -27,23 +25,17 @@ open-requires c κs = search needs
 enum-known-count : tie.Need-enum-known-count
 enum-known-count c = search needs
 
-slice-reshare-prefix-write-opened : tie.Need-slice-reshare-prefix-write-opened
-slice-reshare-prefix-write-opened c = holds (c .before) .room
+slice-reshare-prefix-write-any : tie.Need-slice-reshare-prefix-write-any
+slice-reshare-prefix-write-any c = holds (c .before) .room
 
-slice-aggregate-write-opened : tie.Need-slice-aggregate-write-opened
-slice-aggregate-write-opened c = sym (length-take-le _ _ (holds (c .before .before) .room))
+slice-aggregate-write-any : tie.Need-slice-aggregate-write-any
+slice-aggregate-write-any c = sym (length-take-le _ _ (holds (c .before .before) .room))
 
-mul-write-opened : tie.Need-mul-write-opened
-mul-write-opened c =
-    let h = holds (c .before .before .before) in
-    omega (arith, h .opens .few)
-
-write-opened-requires : tie.Need-write-opened-requires
-write-opened-requires c κs =
+write-any-requires : tie.Need-write-any-requires
+write-any-requires c κs =
     let h = holds (c .before .before .before) in
     let s = start (c .before .before .before) in
-    let long = text-any (s .args .moment) (s .pre .1) (opening Writer (s .args .format .now) .elements) in
-    (rw (h .first) (omega (arith, h .opens .few, h .opens .count)), (rw (h .first) (omega (arith, long, h .opens .count)), s .pre .1))
+    (rw (h .first) (omega (arith, h .opens .few, h .opens .count)), s .pre .1)
 
 enum-told : tie.Need-enum-told
 enum-told c = search needs
@@ -59,7 +51,7 @@ same-length-2 c = search needs
 
 returns : tie.Need-returns
 returns c =
-    whole-format _ _ _ (holds (c .before .before .before .before .before .before)) (c .before .before .write-opened .ensures)
+    whole-format _ _ _ (holds (c .before .before .before .before .before .before)) (c .before .before .write-any .ensures)
 
 same-length-3 : tie.Need-same-length-3
 same-length-3 c = search needs
@@ -83,10 +75,9 @@ write-into-spec =
     (tie.spec
     open-requires
     enum-known-count
-    slice-reshare-prefix-write-opened
-    slice-aggregate-write-opened
-    mul-write-opened
-    write-opened-requires
+    slice-reshare-prefix-write-any
+    slice-aggregate-write-any
+    write-any-requires
     enum-told
     enum-known-at
     same-length

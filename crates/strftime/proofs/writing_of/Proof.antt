@@ -13,14 +13,17 @@ enum-told c = search needs
 enum-known-w-2 : tie.Need-enum-known-w-2
 enum-known-w-2 c = search needs
 
-cast-t7 : tie.Need-cast-t7
-cast-t7 c = search needs
+cast-t8 : tie.Need-cast-t8
+cast-t8 c = search needs
 
 enum-known-w-3 : tie.Need-enum-known-w-3
 enum-known-w-3 c = search needs
 
 enum-known-w-4 : tie.Need-enum-known-w-4
 enum-known-w-4 c = search needs
+
+enum-known-w-5 : tie.Need-enum-known-w-5
+enum-known-w-5 c = search needs
 
 returns : tie.Need-returns
 unfolding writingOf
@@ -42,6 +45,10 @@ returns-5 : tie.Need-returns-5
 unfolding writingOf
 returns-5 c = rw (c .before .w4 .given .1)
 
+returns-6 : tie.Need-returns-6
+unfolding writingOf
+returns-6 c = rw (c .before .w5 .given .1)
+
 pub writing-of-spec : {M : Type 1} → statement M
 writing-of-spec =
     tie.close
@@ -49,11 +56,13 @@ writing-of-spec =
     enum-known-w
     enum-told
     enum-known-w-2
-    cast-t7
+    cast-t8
     enum-known-w-3
     enum-known-w-4
+    enum-known-w-5
     returns
     returns-2
     returns-3
     returns-4
-    returns-5)
+    returns-5
+    returns-6)

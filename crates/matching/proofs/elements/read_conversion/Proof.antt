@@ -48,6 +48,15 @@ read-named-requires-3 c κs = search needs
 enum-told-4 : tie.Need-enum-told-4
 enum-told-4 c = search needs
 
+read-zone-requires : tie.Need-read-zone-requires
+read-zone-requires c κs = search needs
+
+enum-told-5 : tie.Need-enum-told-5
+enum-told-5 c = search needs
+
+enum-told-6 : tie.Need-enum-told-6
+enum-told-6 c = search needs
+
 returns : tie.Need-returns
 unfolding readForm
 returns c = by-form _ _ _ (c .before .enum-told .given .1) (c .read-number .ensures)
@@ -76,7 +85,15 @@ returns-6 c = by-form _ _ _ (c .before .before .form3 .given .1) (c .read-named3
 
 returns-7 : tie.Need-returns-7
 unfolding readForm
-returns-7 c = by-form _ _ _ (c .enum-told4 .given .1) refl
+returns-7 c = by-form _ _ _ (c .before .enum-told4 .given .1) (c .read-zone .ensures)
+
+returns-8 : tie.Need-returns-8
+unfolding readForm
+returns-8 c = by-form _ _ _ (c .enum-told5 .given .1) refl
+
+returns-9 : tie.Need-returns-9
+unfolding readForm
+returns-9 c = by-form _ _ _ (c .enum-told6 .given .1) refl
 
 pub read-conversion-spec : {M : Type 1} → statement M
 read-conversion-spec =
@@ -96,10 +113,15 @@ read-conversion-spec =
     enum-known-form-3
     read-named-requires-3
     enum-told-4
+    read-zone-requires
+    enum-told-5
+    enum-told-6
     returns
     returns-2
     returns-3
     returns-4
     returns-5
     returns-6
-    returns-7)
+    returns-7
+    returns-8
+    returns-9)

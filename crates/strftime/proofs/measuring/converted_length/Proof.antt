@@ -48,6 +48,18 @@ full-length-requires-2 c κs = search needs
 enum-told-4 : tie.Need-enum-told-4
 enum-told-4 c = search needs
 
+zone-length-requires : tie.Need-zone-length-requires
+zone-length-requires c κs = search needs
+
+enum-told-5 : tie.Need-enum-told-5
+enum-told-5 c = search needs
+
+seconds-length-requires : tie.Need-seconds-length-requires
+seconds-length-requires c κs = search needs
+
+enum-told-6 : tie.Need-enum-told-6
+enum-told-6 c = search needs
+
 -- a number, whose width has room for it
 returns : tie.Need-returns
 unfolding formed isNumber
@@ -96,7 +108,15 @@ returns-6 c =
 
 returns-7 : tie.Need-returns-7
 unfolding converted formed
-returns-7 c = rw (c .enum-told4 .given .1)
+returns-7 c = rw (c .before .enum-told4 .given .1) (c .zone-length .ensures)
+
+returns-8 : tie.Need-returns-8
+unfolding converted formed
+returns-8 c = rw (c .before .enum-told5 .given .1) (c .seconds-length .ensures)
+
+returns-9 : tie.Need-returns-9
+unfolding converted formed
+returns-9 c = rw (c .enum-told6 .given .1)
 
 pub converted-length-spec : {M : Type 1} → statement M
 converted-length-spec =
@@ -115,10 +135,16 @@ converted-length-spec =
     value-requires-3
     full-length-requires-2
     enum-told-4
+    zone-length-requires
+    enum-told-5
+    seconds-length-requires
+    enum-told-6
     returns
     returns-2
     returns-3
     returns-4
     returns-5
     returns-6
-    returns-7)
+    returns-7
+    returns-8
+    returns-9)

@@ -16,10 +16,10 @@ start c = c .before .before
 
 module _ (c : tie.After-value) {f : Form} (e : start c .args .c .form ≡ f) where
   written : converted (start c .args .style) (start c .args .c) (start c .args .moment)
-      ≡ formed (start c .args .style) f (start c .args .c .width) (c .value .result)
+      ≡ formed (start c .args .moment) (start c .args .style) f (start c .args .c .width) (c .value .result)
   written = by-form (start c .args .style) (start c .args .c) (start c .args .moment) e (c .value .ensures)
 
-  room : start c .args .at + length (formed (start c .args .style) f (start c .args .c .width) (c .value .result))
+  room : start c .args .at + length (formed (start c .args .moment) (start c .args .style) f (start c .args .c .width) (c .value .result))
       ≤ length (start c .args .out .now)
   room = rw written at (start c .pre)
 
@@ -70,6 +70,20 @@ put-styled-full-requires-2 c κs = room (c .before .before .before .before) (c .
 
 enum-told-4 : tie.Need-enum-told-4
 enum-told-4 c = search needs
+
+put-zone-requires : tie.Need-put-zone-requires
+unfolding formed
+put-zone-requires c κs = room (c .before .before .before) (c .before .enum-told4 .given .1)
+
+enum-told-5 : tie.Need-enum-told-5
+enum-told-5 c = search needs
+
+put-seconds-requires : tie.Need-put-seconds-requires
+unfolding formed
+put-seconds-requires c κs = room (c .before .before .before) (c .before .enum-told5 .given .1)
+
+enum-told-6 : tie.Need-enum-told-6
+enum-told-6 c = search needs
 
 same-length : tie.Need-same-length
 same-length c = search needs
@@ -125,9 +139,27 @@ returns-6 c =
     let l = c .before .before .before .before .before in
     rw (written (l .before .before) (l .form3 .given .1)) (c .before .before .put-styled-full2 .ensures)
 
+same-length-7 : tie.Need-same-length-7
+same-length-7 c = search needs
+
 returns-7 : tie.Need-returns-7
 unfolding formed
-returns-7 c = rw (written (c .before .before) (c .enum-told4 .given .1)) record { ends = sym (add-zero _); stores = refl }
+returns-7 c =
+    let l = c .before .before .before .before in
+    rw (written (l .before .before) (l .enum-told4 .given .1)) (c .before .before .put-zone .ensures)
+
+same-length-8 : tie.Need-same-length-8
+same-length-8 c = search needs
+
+returns-8 : tie.Need-returns-8
+unfolding formed
+returns-8 c =
+    let l = c .before .before .before .before in
+    rw (written (l .before .before) (l .enum-told5 .given .1)) (c .before .before .put-seconds .ensures)
+
+returns-9 : tie.Need-returns-9
+unfolding formed
+returns-9 c = rw (written (c .before .before) (c .enum-told6 .given .1)) record { ends = sym (add-zero _); stores = refl }
 
 pub put-styled-spec : {M : Type 1} → statement M
 put-styled-spec =
@@ -147,6 +179,10 @@ put-styled-spec =
     enum-known-form-3
     put-styled-full-requires-2
     enum-told-4
+    put-zone-requires
+    enum-told-5
+    put-seconds-requires
+    enum-told-6
     same-length
     returns
     same-length-2
@@ -159,4 +195,8 @@ put-styled-spec =
     returns-5
     same-length-6
     returns-6
-    returns-7)
+    same-length-7
+    returns-7
+    same-length-8
+    returns-8
+    returns-9)

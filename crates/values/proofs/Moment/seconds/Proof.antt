@@ -4,7 +4,7 @@ use native.Mathlib.Omega.{arith}
 use borrow.Author.Needs.{needs}
 use lib.Dec.{lit<}
 use Rattle.values.proofs.Seconds.{fits, kept, widened, days-near, day-seconds, hour-seconds, minutes-near, minute-seconds}
-use Rattle.values.proofs.Seconds.{to-hours, to-minutes, to-seconds, sum-is}
+use Rattle.values.proofs.Seconds.{to-hours, to-minutes, to-seconds, sum-is, small}
 use Rattle.values.proofs.Moment.seconds.Statement.{statement}
 use Rattle.values.proofs.Moment.seconds.Tie as tie
 
@@ -85,15 +85,15 @@ returns : tie.Need-returns
 returns c =
     let a = c .before .before .before .before in
     let d = c .before .before .before .day-number in
-    kept
+    let sum = kept
     (to-seconds
     (day-seconds (d .result) (omega arith))
     (hour-seconds (a .args .self .hour) (omega arith))
     (minute-seconds (a .args .self .minute) (a .args .east) (omega arith) (a .fits .east))
     (a .args .self .second)
     (omega arith))
-    (lit< tt) .same
-    ∙ sum-is (a .args .self) (a .args .east) (d .ensures)
+    (lit< tt) in
+    (sum .same ∙ sum-is (a .args .self) (a .args .east) (d .ensures), small sum (lit< tt))
 
 pub seconds-spec : {M : Type 1} → statement M
 seconds-spec =

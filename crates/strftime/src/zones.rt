@@ -1,0 +1,153 @@
+// What %z and %s write: how long it is, and how it is put.
+use crate::putting::put_number;
+use text::digit_count;
+use values::Moment;
+use values::Offset;
+use values::is_negative;
+use values::magnitude;
+ghost use Prim.Native.Nat.{_+_, _^_, _≤_, _<_};
+ghost use mathlib.Core.Path.{_≡_};
+ghost use mathlib.Core.Bool.{cond};
+ghost use mathlib.Core.List.{[], _∷_};
+ghost use lib.IntN.{natAbs};
+ghost use lib.ListN.{length};
+ghost use Rattle.laws.specs.Stores.{Puts};
+ghost use Rattle.text.specs.Digits.{plain};
+ghost use Rattle.values.specs.Offsets.{isNegative};
+ghost use Rattle.strftime.specs.Zones.{hoursMinutes, east, zone, whole, epochSeconds};
+
+// One more than nine digits hold.
+const BILLION: u64 = 1000000000;
+
+// ---- Lengths
+
+pub(crate) fn zone_length(moment: Moment) -> usize
+    ensures { λ r. ⌜ r ≡ length (zone (moment .offset)) ⌝ }
+{
+    let offset = moment.offset;
+    match offset {
+        Offset::Unsaid => 0,
+        Offset::Minutes(_) => 5,
+    }
+}
+
+pub(crate) fn seconds_length(moment: Moment) -> usize
+    ensures { λ r. ⌜ r ≡ length (epochSeconds moment (moment .offset)) ⌝ }
+{
+    let offset = moment.offset;
+    match offset {
+        Offset::Unsaid => 0,
+        Offset::Minutes(east) => whole_length(moment.seconds(east)),
+    }
+}
+
+fn whole_length(z: i64) -> usize
+    requires { ⌜ natAbs z < 10 ^ 15 ⌝ }
+    ensures { λ r. ⌜ r ≡ length (whole z) ⌝ }
+{
+    let digits = long_count(magnitude(z));
+    if is_negative(z) {
+        return digits + 1;
+    }
+    digits
+}
+
+// How many digits a number has that may not fit 32 bits: nine, and those before them.
+fn long_count(n: u64) -> usize
+    requires { ⌜ n < 10 ^ 15 ⌝ }
+    ensures { λ r. ⌜ r ≡ length (plain n) ⌝ }
+{
+    if n < BILLION {
+        return digit_count(n as u32);
+    }
+    digit_count((n / BILLION) as u32) + 9
+}
+
+// ---- Putting
+
+pub(crate) fn put_zone(out: &mut [u8], at: usize, moment: Moment) -> usize
+    requires { ⌜ at + length (zone (moment .offset)) ≤ length (now out) ⌝ }
+    ensures { λ r. ⌜ Puts (zone (moment .offset)) (now (out .entry)) at (now (out .exit)) r ⌝ }
+{
+    let offset = moment.offset;
+    match offset {
+        Offset::Unsaid => at,
+        Offset::Minutes(minutes) => put_east(out, at, minutes as i64),
+    }
+}
+
+// An offset that is said: its sign, hours and minutes.
+fn put_east(out: &mut [u8], at: usize, minutes: i64) -> usize
+    requires { ⌜ natAbs minutes < 10 ^ 10 ⌝ }
+    requires { ⌜ at + length (east minutes) ≤ length (now out) ⌝ }
+    ensures { λ r. ⌜ Puts (east minutes) (now (out .entry)) at (now (out .exit)) r ⌝ }
+{
+    let next = put_byte(out, at, zone_sign(minutes));
+    put_hours(out, next, magnitude(minutes))
+}
+
+fn put_byte(out: &mut [u8], at: usize, b: u8) -> usize
+    requires { ⌜ at < length (now out) ⌝ }
+    ensures { λ r. ⌜ Puts (b ∷ []) (now (out .entry)) at (now (out .exit)) r ⌝ }
+{
+    out[at] = b;
+    at + 1
+}
+
+fn zone_sign(minutes: i64) -> u8
+    ensures { λ r. ⌜ r ≡ cond (isNegative minutes) 45 43 ⌝ }
+{
+    if is_negative(minutes) { b'-' } else { b'+' }
+}
+
+fn put_hours(out: &mut [u8], at: usize, minutes: u64) -> usize
+    requires { ⌜ minutes < 10 ^ 10 ⌝ }
+    requires { ⌜ at + 4 ≤ length (now out) ⌝ }
+    ensures { λ r. ⌜ Puts (hoursMinutes minutes) (now (out .entry)) at (now (out .exit)) r ⌝ }
+{
+    let middle = put_number(out, at, 2, b'0', (minutes / 60) as u32);
+    put_number(out, middle, 2, b'0', (minutes % 60) as u32)
+}
+
+pub(crate) fn put_seconds(out: &mut [u8], at: usize, moment: Moment) -> usize
+    requires { ⌜ at + length (epochSeconds moment (moment .offset)) ≤ length (now out) ⌝ }
+    ensures { λ r. ⌜ Puts (epochSeconds moment (moment .offset)) (now (out .entry)) at (now (out .exit)) r ⌝ }
+{
+    let offset = moment.offset;
+    match offset {
+        Offset::Unsaid => at,
+        Offset::Minutes(east) => put_whole(out, at, moment.seconds(east)),
+    }
+}
+
+fn put_whole(out: &mut [u8], at: usize, z: i64) -> usize
+    requires { ⌜ natAbs z < 10 ^ 15 ⌝ }
+    requires { ⌜ at + length (whole z) ≤ length (now out) ⌝ }
+    ensures { λ r. ⌜ Puts (whole z) (now (out .entry)) at (now (out .exit)) r ⌝ }
+{
+    if is_negative(z) {
+        let next = put_byte(out, at, b'-');
+        return put_long(out, next, magnitude(z));
+    }
+    put_long(out, at, magnitude(z))
+}
+
+// A number that may not fit 32 bits: the digits before the last nine, and these.
+fn put_long(out: &mut [u8], at: usize, n: u64) -> usize
+    requires { ⌜ n < 10 ^ 15 ⌝ }
+    requires { ⌜ at + length (plain n) ≤ length (now out) ⌝ }
+    ensures { λ r. ⌜ Puts (plain n) (now (out .entry)) at (now (out .exit)) r ⌝ }
+{
+    if n < BILLION {
+        return put_plain(out, at, n as u32);
+    }
+    let middle = put_plain(out, at, (n / BILLION) as u32);
+    put_number(out, middle, 9, b'0', (n % BILLION) as u32)
+}
+
+fn put_plain(out: &mut [u8], at: usize, n: u32) -> usize
+    requires { ⌜ at + length (plain n) ≤ length (now out) ⌝ }
+    ensures { λ r. ⌜ Puts (plain n) (now (out .entry)) at (now (out .exit)) r ⌝ }
+{
+    put_number(out, at, digit_count(n), b'0', n)
+}
