@@ -2,3 +2,4 @@
 pub mod Cases
 pub mod Engines
 pub mod Ways
+pub mod Signed

@@ -1,9 +1,14 @@
--- A moment and the reader's answer for C (RULES 10): six words and eighteen.
+-- A moment and the reader's answer for C (RULES 10): eight words and twenty.
+-- Those of a moment: year, month, day, hour, minute, second, whether the zone offset is said, and which it is.
 -- Those of an answer: 0 number, 1 place, 2 to 4 year, month and day, 5 and 6 whether the hour is said and which, 7 and 8 the minute,
 -- 9 and 10 the second, 11 to 13 the second of two days, 14 the second of two hours, 15 the days examined, 16 and 17 the form of the
--- last weekday name and of the last month name. What the row of the number does not name is 0.
-use Prim.Native.Nat.{ℕ}
+-- last weekday name and of the last month name, 18 and 19 whether the zone offset is said and which. What the row of the number does not
+-- name is 0. An offset is in two's complement.
+use Prim.Native.Nat.{ℕ, suc, _-_, _^_}
+use mathlib.Core.Bool.{cond}
 use mathlib.Core.List.{List, [], _∷_, _++_}
+use lib.Dec.{eqb, ltb}
+use lib.IntN.{ℤ, pos, negsuc, _-ℤ_}
 use lib.ListN.{getD}
 use Rattle.calendar.specs.Calendar.{date}
 use Rattle.calendar.specs.declared.Date.{Date}
@@ -17,6 +22,20 @@ use Rattle.strptime.specs.declared.Shown.{Shown}
 use Rattle.strptime.specs.declared.Shown.the-variants.{Nothing, Days, Hours}
 use Rattle.text.specs.declared.names.NameForm.{NameForm}
 use Rattle.text.specs.declared.names.NameForm.the-variants.{NoName, Full, Middle, Short}
+use Rattle.values.specs.declared.offsets.Offset.{Offset}
+use Rattle.values.specs.declared.offsets.Offset.the-variants.{Unsaid as NoOffset, Minutes}
+
+-- the number that a word is in two's complement, and its word
+unfoldable pub signedOf : ℕ → ℤ
+signedOf w = cond (ltb w (2 ^ 31)) (pos w) (pos w -ℤ pos (2 ^ 32))
+
+unfoldable pub wordOf : ℤ → ℕ
+wordOf (pos n) = n
+wordOf (negsuc n) = 2 ^ 32 - suc n
+
+-- an offset that is said unless the first word is 0
+unfoldable pub offsetFrom : ℕ → ℕ → Offset
+offsetFrom said w = cond (eqb said 0) NoOffset (Minutes (signedOf w))
 
 -- the fields of a moment's words
 abbrev pub fieldsOf : List ℕ → Fields
@@ -28,6 +47,7 @@ fieldsOf ws =
       hour = getD ws 3 0;
       minute = getD ws 4 0;
       second = getD ws 5 0;
+      offset = offsetFrom (getD ws 6 0) (getD ws 7 0);
     }
 
 -- an unsaid day is 0 0 0
@@ -51,6 +71,15 @@ formNumber Full = 1
 formNumber Middle = 2
 formNumber Short = 3
 
+-- whether an offset is said, and its word, or 0
+unfoldable pub offsetFlag : Offset → ℕ
+offsetFlag NoOffset = 0
+offsetFlag (Minutes z) = 1
+
+unfoldable pub offsetWord : Offset → ℕ
+offsetWord NoOffset = 0
+offsetWord (Minutes z) = wordOf z
+
 -- words 2 to 14, by what is shown: nothing, two days, or two hours
 unfoldable pub more : Reading → Shown → List ℕ
 more r Nothing =
@@ -66,4 +95,10 @@ more r (Hours a b) = 0 ∷ 0 ∷ 0 ∷ 0 ∷ a ∷ 0 ∷ 0 ∷ 0 ∷ 0 ∷ 0 ∷
 unfoldable pub wordsOf : Reading → List ℕ
 wordsOf r =
     r .number ∷ r .place
-    ∷ (more r (r .shown) ++ (r .examined ∷ formNumber (r .forms .weekday) ∷ formNumber (r .forms .month) ∷ []))
+    ∷ (more r (r .shown)
+    ++ (r .examined ∷ formNumber (r .forms .weekday) ∷ formNumber (r .forms .month) ∷ offsetFlag (r .offset) ∷ offsetWord (r .offset) ∷ []))
+
+-- everything here, for proofs that compute
+unfoldable pub computes : Unit {0}
+unfolding signedOf wordOf offsetFrom offsetFlag offsetWord more wordsOf
+computes = tt

@@ -19,7 +19,10 @@ use strptime::Said;
 use strptime::read_elements;
 use strptime::strptime;
 use text::NameForm;
+use values::Offset;
 use values::date_value;
+use values::is_negative;
+use values::magnitude;
 ghost use mathlib.Core.Path.{_≡_};
 ghost use Prim.Native.Nat.{_<_, _^_};
 ghost use Rattle.calendar.specs.Calendar.{days};
@@ -32,7 +35,7 @@ ghost use Rattle.strptime.specs.declared.Shown.the-variants.{Days, Hours};
 ghost use Rattle.values.specs.Values.{dayNumberOf, dateValue};
 ghost use Rattle.larusqem.specs.Dates.{valueFrom, threeInOne, dateWord, versionWord};
 ghost use Rattle.larusqem.specs.Packed.{packed, packedWriting, packedReading, engineOf, sideOf, openedFor};
-ghost use Rattle.larusqem.specs.Words.{fieldsOf, dayOrZero, flag, numberOr0, formNumber, wordsOf};
+ghost use Rattle.larusqem.specs.Words.{signedOf, offsetFrom, fieldsOf, dayOrZero, flag, numberOr0, formNumber, wordOf, offsetFlag, offsetWord, wordsOf};
 
 fn packed(number: u32, place: usize) -> u64
     requires { ⌜ place < 2 ^ 32 ⌝ }
@@ -43,7 +46,27 @@ fn packed(number: u32, place: usize) -> u64
 
 // ---- Writing
 
-fn fields_of(moment: &[u32; 6]) -> Fields
+// The number that a word is in two's complement.
+fn signed_of(word: u32) -> i32
+    ensures { λ r. ⌜ r ≡ signedOf word ⌝ }
+{
+    if word < 2147483648 {
+        return word as i32;
+    }
+    (word as i64 - 4294967296) as i32
+}
+
+// An offset: whether it is said, and which it is.
+fn offset_from(said: u32, word: u32) -> Offset
+    ensures { λ r. ⌜ r ≡ offsetFrom said word ⌝ }
+{
+    if said == 0 {
+        return Offset::Unsaid;
+    }
+    Offset::Minutes(signed_of(word))
+}
+
+fn fields_of(moment: &[u32; 8]) -> Fields
     ensures { λ r. ⌜ r ≡ fieldsOf (now (moment .entry)) ⌝ }
 {
     Fields {
@@ -53,6 +76,7 @@ fn fields_of(moment: &[u32; 6]) -> Fields
         hour: moment[3],
         minute: moment[4],
         second: moment[5],
+        offset: offset_from(moment[6], moment[7]),
     }
 }
 
@@ -65,7 +89,7 @@ fn packed_writing(w: Writing) -> u64
 
 // Writes a moment by a format over the start of the buffer.
 #[no_mangle]
-pub extern "C" fn larusqem_strftime_words(format: &[u8], moment: &[u32; 6], out: &mut [u8]) -> u64
+pub extern "C" fn larusqem_strftime_words(format: &[u8], moment: &[u32; 8], out: &mut [u8]) -> u64
     ensures { λ r. ⌜ r
         ≡ packedWriting (writing (now (format .entry)) (fieldsOf (now (moment .entry))) (now (out .entry)) .answer) ⌝ }
     ensures { λ _. ⌜ now (out .exit)
@@ -76,7 +100,7 @@ pub extern "C" fn larusqem_strftime_words(format: &[u8], moment: &[u32; 6], out:
 
 // Writes a moment by the elements of a format that was opened before.
 #[no_mangle]
-pub extern "C" fn larusqem_write_words(elements: &[u32], moment: &[u32; 6], out: &mut [u8]) -> u64
+pub extern "C" fn larusqem_write_words(elements: &[u32], moment: &[u32; 8], out: &mut [u8]) -> u64
     ensures { λ r. ⌜ r
         ≡ packedWriting (elementsWriting (now (elements .entry)) (fieldsOf (now (moment .entry))) (now (out .entry)) .answer) ⌝ }
     ensures { λ _. ⌜ now (out .exit)
@@ -160,8 +184,38 @@ fn form_number(form: NameForm) -> u32
     }
 }
 
+// The word of a number in two's complement.
+fn word_of(z: i32) -> u32
+    ensures { λ r. ⌜ r ≡ wordOf z ⌝ }
+{
+    let size = magnitude(z as i64);
+    if is_negative(z as i64) {
+        return (4294967296 - size) as u32;
+    }
+    size as u32
+}
+
+// Whether an offset is said, and which it is.
+fn offset_flag(offset: Offset) -> u32
+    ensures { λ r. ⌜ r ≡ offsetFlag offset ⌝ }
+{
+    match offset {
+        Offset::Unsaid => 0,
+        Offset::Minutes(_) => 1,
+    }
+}
+
+fn offset_word(offset: Offset) -> u32
+    ensures { λ r. ⌜ r ≡ offsetWord offset ⌝ }
+{
+    match offset {
+        Offset::Unsaid => 0,
+        Offset::Minutes(east) => word_of(east),
+    }
+}
+
 // An answer's words, and its number and place, by what it shows. A refusal: nothing.
-fn refuse(number: u32, place: usize, examined: u32, words: &mut [u32; 18]) -> u64
+fn refuse(number: u32, place: usize, examined: u32, words: &mut [u32; 20]) -> u64
     requires { ⌜ place < 2 ^ 32 ⌝ }
     ensures { λ r. ⌜ r ≡ packed number place ⌝ }
     ensures { λ _. ⌜ now (words .exit) ≡ wordsOf (examining examined (refused number place)) ⌝ }
@@ -185,12 +239,14 @@ fn refuse(number: u32, place: usize, examined: u32, words: &mut [u32; 18]) -> u6
         examined,
         0,
         0,
+        0,
+        0,
     ];
     packed(number, place)
 }
 
 // Two days.
-fn show_days(first: Date, second: Date, examined: u32, words: &mut [u32; 18]) -> u64
+fn show_days(first: Date, second: Date, examined: u32, words: &mut [u32; 20]) -> u64
     ensures { λ r. ⌜ r ≡ packed 10 1 ⌝ }
     ensures { λ _. ⌜ now (words .exit) ≡ wordsOf (examining examined (showing 10 1 (Days first second))) ⌝ }
 {
@@ -213,12 +269,14 @@ fn show_days(first: Date, second: Date, examined: u32, words: &mut [u32; 18]) ->
         examined,
         0,
         0,
+        0,
+        0,
     ];
     packed(10, 1)
 }
 
 // Two hours.
-fn show_hours(first: u32, second: u32, examined: u32, words: &mut [u32; 18]) -> u64
+fn show_hours(first: u32, second: u32, examined: u32, words: &mut [u32; 20]) -> u64
     ensures { λ r. ⌜ r ≡ packed 10 2 ⌝ }
     ensures { λ _. ⌜ now (words .exit) ≡ wordsOf (examining examined (showing 10 2 (Hours first second))) ⌝ }
 {
@@ -241,6 +299,8 @@ fn show_hours(first: u32, second: u32, examined: u32, words: &mut [u32; 18]) -> 
         examined,
         0,
         0,
+        0,
+        0,
     ];
     packed(10, 2)
 }
@@ -252,13 +312,14 @@ fn finish(
     hour: Said,
     minute: Said,
     second: Said,
+    offset: Offset,
     forms: Forms,
     examined: u32,
-    words: &mut [u32; 18],
+    words: &mut [u32; 20],
 ) -> u64
     requires { ⌜ place < 2 ^ 32 ⌝ }
     ensures { λ r. ⌜ r ≡ packed 0 place ⌝ }
-    ensures { λ _. ⌜ now (words .exit) ≡ wordsOf (naming forms (examining examined (finished place day hour minute second))) ⌝ }
+    ensures { λ _. ⌜ now (words .exit) ≡ wordsOf (naming forms (examining examined (finished place day hour minute second offset))) ⌝ }
 {
     let date = day_or_zero(day);
     let weekday = forms.weekday;
@@ -282,12 +343,14 @@ fn finish(
         examined,
         form_number(weekday),
         form_number(month),
+        offset_flag(offset),
+        offset_word(offset),
     ];
     packed(0, place)
 }
 
 // The same of any answer. The words come from the answer itself: a Reading between costs some 5 ns.
-fn tell(answer: Answer, words: &mut [u32; 18]) -> u64
+fn tell(answer: Answer, words: &mut [u32; 20]) -> u64
     requires { ⌜ readingOf answer .place < 2 ^ 32 ⌝ }
     ensures { λ r. ⌜ r ≡ packedReading (readingOf answer) ⌝ }
     ensures { λ _. ⌜ now (words .exit) ≡ wordsOf (readingOf answer) ⌝ }
@@ -299,9 +362,20 @@ fn tell(answer: Answer, words: &mut [u32; 18]) -> u64
             hour,
             minute,
             second,
+            offset,
             forms,
             examined,
-        } => finish(unread, day, hour, minute, second, forms, examined, words),
+        } => finish(
+            unread,
+            day,
+            hour,
+            minute,
+            second,
+            offset,
+            forms,
+            examined,
+            words,
+        ),
         Answer::FormatTooLong => refuse(1, 0, 0, words),
         Answer::TextTooLong => refuse(5, 0, 0, words),
         Answer::BadConversion { at } => refuse(3, at, 0, words),
@@ -344,7 +418,7 @@ pub extern "C" fn larusqem_strptime_words(
     text: &[u8],
     engine: u32,
     budget: u32,
-    words: &mut [u32; 18],
+    words: &mut [u32; 20],
 ) -> u64
     ensures { λ r. ⌜ r ≡ packedReading (readingBy (engineOf engine budget) (now (format .entry)) (now (text .entry))) ⌝ }
     ensures { λ _. ⌜ now (words .exit) ≡ wordsOf (readingBy (engineOf engine budget) (now (format .entry)) (now (text .entry))) ⌝ }
@@ -359,7 +433,7 @@ pub extern "C" fn larusqem_read_words(
     text: &[u8],
     engine: u32,
     budget: u32,
-    words: &mut [u32; 18],
+    words: &mut [u32; 20],
 ) -> u64
     ensures { λ r. ⌜ r ≡ packedReading (elementsReadingBy (engineOf engine budget) (now (elements .entry)) (now (text .entry))) ⌝ }
     ensures { λ _. ⌜ now (words .exit)

@@ -1,5 +1,5 @@
 // Runs the reader on the cases that compare/src/bin/vectors/read.rs makes. The input is pairs of lines: a format, and a text. A line of the
-// output is `number place date hour minute second | shown | examined | weekday month | reason`: what is unsaid is -, shown has the first
+// output is `number place date hour minute second offset | shown | examined | weekday month | reason`: what is unsaid is -, shown has the first
 // two days or hours of number 10, the days examined are those of the engine that skips, then come the forms of names. The reason is -, or
 // each kind that quarrels with where its words begin and end, or the part in which two days differ, or two hours.
 use calendar::Date;
@@ -18,6 +18,9 @@ use strptime::Shown;
 use strptime::reading_of;
 use strptime::strptime;
 use text::NameForm;
+use values::Offset;
+use values::is_negative;
+use values::magnitude;
 ghost use mathlib.Core.Path.{_≡_};
 ghost use Prim.Native.Nat.{_+_, min};
 ghost use lib.ListN.{length};
@@ -51,6 +54,24 @@ fn print_day(day: Day) {
         Day::NoDate => print(b"-"),
         Day::On(date) => print_date(date),
     }
+}
+
+// A zone offset: its sign and its minutes.
+fn print_offset(offset: Offset) {
+    print(b" ");
+    match offset {
+        Offset::Unsaid => print(b"-"),
+        Offset::Minutes(east) => print_minutes(east as i64),
+    }
+}
+
+fn print_minutes(east: i64) {
+    if is_negative(east) {
+        print(b"-");
+    } else {
+        print(b"+");
+    }
+    io::print_decimal(STDOUT_FILENO, magnitude(east));
 }
 
 fn print_said(said: Said) {
@@ -93,6 +114,7 @@ fn print_reading(reading: Reading) {
     let hour = reading.hour;
     let minute = reading.minute;
     let second = reading.second;
+    let offset = reading.offset;
     let forms = reading.forms;
     let weekday = forms.weekday;
     let month = forms.month;
@@ -105,6 +127,7 @@ fn print_reading(reading: Reading) {
     print_said(hour);
     print_said(minute);
     print_said(second);
+    print_offset(offset);
     print(b" | ");
     print_shown(shown);
     print(b" | ");

@@ -20,7 +20,7 @@ use Rattle.reasons.proofs.Reason.{the-type as reason-type}
 -- but for 9 and 10
 pub no-reason : (r : Answer) → OneOf (0 ∷ 1 ∷ 2 ∷ 3 ∷ 4 ∷ 5 ∷ 6 ∷ 7 ∷ []) (tagOf the-type r) → NoReason ≡ reasonOf (readingOf r)
 unfolding reasonOf reader.computes
-no-reason (Done p d h m s fs n) k = refl
+no-reason (Done p d h m s o fs n) k = refl
 no-reason FormatTooLong k = refl
 no-reason TextTooLong k = refl
 no-reason (BadConversion p) k = refl

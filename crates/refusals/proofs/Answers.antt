@@ -20,7 +20,7 @@ use Rattle.refusals.specs.Sentences.{sentence}
 pub not-done : (r : Answer) → OneOf (1 ∷ 2 ∷ 3 ∷ 4 ∷ 5 ∷ 6 ∷ 7 ∷ 8 ∷ 9 ∷ 10 ∷ 11 ∷ []) (tagOf the-type r)
     → false ≡ eqb (readingOf r .number) 0
 unfolding reader.computes
-not-done (Done p d h m s fs n) k = absurd (miss (1 ∷ 2 ∷ 3 ∷ 4 ∷ 5 ∷ 6 ∷ 7 ∷ 8 ∷ 9 ∷ 10 ∷ 11 ∷ []) 0 tt k)
+not-done (Done p d h m s o fs n) k = absurd (miss (1 ∷ 2 ∷ 3 ∷ 4 ∷ 5 ∷ 6 ∷ 7 ∷ 8 ∷ 9 ∷ 10 ∷ 11 ∷ []) 0 tt k)
 not-done FormatTooLong k = refl
 not-done TextTooLong k = refl
 not-done (BadConversion p) k = refl
@@ -36,7 +36,7 @@ not-done (OpenHour a b n) k = refl
 -- nothing is said of an answer that is done, or that has a budget's number
 pub unsaid : (r : Answer) (words : List Extent) (s : List ℕ) → OneOf (0 ∷ 7 ∷ []) (tagOf the-type r) → sentence (readingOf r) words s ≡ []
 unfolding sentence reader.computes
-unsaid (Done p d h m c fs n) w s k = refl
+unsaid (Done p d h m c o fs n) w s k = refl
 unsaid FormatTooLong w s k = absurd (miss (0 ∷ 7 ∷ []) 1 tt k)
 unsaid TextTooLong w s k = absurd (miss (0 ∷ 7 ∷ []) 2 tt k)
 unsaid (BadConversion p) w s k = absurd (miss (0 ∷ 7 ∷ []) 3 tt k)

@@ -54,7 +54,7 @@ module _ (xs ys : List Extent) (e : (k : ℕ) → getD xs k nowhere ≡ getD ys 
 pub by-words : (r : Answer) (words : List Extent) → OneOf (0 ∷ 1 ∷ 2 ∷ 3 ∷ 7 ∷ 8 ∷ 9 ∷ 10 ∷ 11 ∷ []) (tagOf the-type r)
     → marked (readingOf r) words ≡ words
 unfolding marked reader.computes among
-by-words (Done p d h m s fs n) w k = refl
+by-words (Done p d h m s o fs n) w k = refl
 by-words FormatTooLong w k = refl
 by-words TextTooLong w k = refl
 by-words (BadConversion p) w k = refl

@@ -40,6 +40,7 @@ fn is_done(answer: Answer) -> bool
             hour: _,
             minute: _,
             second: _,
+            offset: _,
             forms: _,
             examined: _,
         } => true,

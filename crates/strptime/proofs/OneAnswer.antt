@@ -25,7 +25,7 @@ answerOf r =
     let n = r .number in
     let p = r .place in
     let x = r .examined in
-    cond (eqb n 0) (Done p (r .day) (r .hour) (r .minute) (r .second) (r .forms) x)
+    cond (eqb n 0) (Done p (r .day) (r .hour) (r .minute) (r .second) (r .offset) (r .forms) x)
     (cond (eqb n 1) FormatTooLong
     (cond (eqb n 5) TextTooLong
     (cond (eqb n 3) (BadConversion p)
@@ -38,7 +38,7 @@ answerOf r =
 
 answer-back : (a : Answer) → answerOf (readingOf a) ≡ a
 unfolding answerOf opened readingOf naming examining overBudget finished refused showing
-answer-back (Done p d h m s fs n) = refl
+answer-back (Done p d h m s o fs n) = refl
 answer-back FormatTooLong = refl
 answer-back TextTooLong = refl
 answer-back (BadConversion p) = refl

@@ -33,6 +33,9 @@ use Rattle.strptime.specs.declared.Said.the-variants.{Unsaid, Is}
 use Rattle.strptime.specs.declared.Shown.{Shown}
 use Rattle.strptime.specs.declared.Shown.the-variants.{Nothing, Days, Hours}
 use Rattle.matching.specs.declared.State.{State}
+use Rattle.values.specs.Offsets.{offsetOf}
+use Rattle.values.specs.declared.offsets.Offset.{Offset}
+use Rattle.values.specs.declared.offsets.Offset.the-variants.{Unsaid as NoOffset}
 
 -- ---- the numbers
 
@@ -46,6 +49,7 @@ showing n p x =
       hour = Unsaid;
       minute = Unsaid;
       second = Unsaid;
+      offset = NoOffset;
       forms = noForms;
       shown = x;
       examined = 0;
@@ -54,9 +58,9 @@ showing n p x =
 unfoldable pub refused : ℕ → ℕ → Reading
 refused n p = showing n p Nothing
 
--- 0, with the first offset that was not read, and what is said of day, hour, minute and second
-unfoldable pub finished : ℕ → Day → Said → Said → Said → Reading
-finished p d h m s =
+-- 0, with the first offset that was not read, and what is said of day, hour, minute, second and zone offset
+unfoldable pub finished : ℕ → Day → Said → Said → Said → Offset → Reading
+finished p d h m s o =
     record {
       number = 0;
       place = p;
@@ -64,6 +68,7 @@ finished p d h m s =
       hour = h;
       minute = m;
       second = s;
+      offset = o;
       forms = noForms;
       shown = Nothing;
       examined = 0;
@@ -79,6 +84,7 @@ naming fs r =
       hour = r .hour;
       minute = r .minute;
       second = r .second;
+      offset = r .offset;
       forms = cond (eqb (r .number) 0) fs noForms;
       shown = r .shown;
       examined = r .examined;
@@ -94,6 +100,7 @@ examining n r =
       hour = r .hour;
       minute = r .minute;
       second = r .second;
+      offset = r .offset;
       forms = r .forms;
       shown = r .shown;
       examined = n;
@@ -105,7 +112,7 @@ overBudget b = examining b (refused 11 b)
 
 -- the number, place and values of each answer
 unfoldable pub readingOf : Answer → Reading
-readingOf (Done p d h m s fs n) = naming fs (examining n (finished p d h m s))
+readingOf (Done p d h m s o fs n) = naming fs (examining n (finished p d h m s o))
 readingOf FormatTooLong = refused 1 0
 readingOf TextTooLong = refused 5 0
 readingOf (BadConversion p) = refused 3 p
@@ -124,9 +131,11 @@ readingOf (OpenHour a b n) = examining n (showing 10 2 (Hours a b))
 unfoldable pub saidOf : ℕ → Said
 saidOf s = cond (eqb s 0) Unsaid (Is (s - 1))
 
--- a finished reading has the minute and the second as they were said
+-- a finished reading has the minute, the second and the zone offset as they were said
 unfoldable pub done : State → Day → Said → Reading
-done t d h = finished (t .at) d h (saidOf (said (t .facts) kinds.minute)) (saidOf (said (t .facts) kinds.second))
+done t d h =
+    finished (t .at) d h (saidOf (said (t .facts) kinds.minute)) (saidOf (said (t .facts) kinds.second))
+    (offsetOf (said (t .facts) kinds.zoneOffset))
 
 -- then 9 or 10 for the hour, which hand out no day though one may have agreed
 unfoldable pub withHour : State → Day → Verdict → Reading

@@ -28,6 +28,8 @@ use matching::Outcome;
 use matching::State;
 use matching::read_all;
 use text::NameForm;
+use values::Offset;
+use values::offset_of;
 ghost use mathlib.Core.Path.{_≡_};
 ghost use Prim.Native.Nat.{_*_, _≤_, _<_};
 ghost use lib.ListN.{length};
@@ -50,6 +52,7 @@ fn showing(number: u32, place: usize, shown: Shown, examined: u32) -> Reading
         hour: Said::Unsaid,
         minute: Said::Unsaid,
         second: Said::Unsaid,
+        offset: Offset::Unsaid,
         forms: Forms {
             weekday: NameForm::NoName,
             month: NameForm::NoName,
@@ -76,6 +79,7 @@ pub fn reading_of(answer: Answer) -> Reading
             hour,
             minute,
             second,
+            offset,
             forms,
             examined,
         } => Reading {
@@ -85,6 +89,7 @@ pub fn reading_of(answer: Answer) -> Reading
             hour,
             minute,
             second,
+            offset,
             forms,
             shown: Shown::Nothing,
             examined,
@@ -133,6 +138,7 @@ fn done(state: State, forms: Forms, day: Day, hour: Said, examined: u32) -> Answ
         hour,
         minute: said_of(said[kinds::MINUTE as usize]),
         second: said_of(said[kinds::SECOND as usize]),
+        offset: offset_of(said[kinds::ZONE_OFFSET as usize]),
         forms,
         examined,
     }

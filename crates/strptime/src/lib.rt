@@ -1,6 +1,7 @@
 // The reader (RULES 6): a format and a text; the facts that the text says, and the day and hour that they fix.
 use calendar::Date;
 use matching::Forms;
+use values::Offset;
 
 mod answers;
 
@@ -36,6 +37,7 @@ pub enum Answer {
         hour: Said,
         minute: Said,
         second: Said,
+        offset: Offset,
         forms: Forms,
         examined: u32,
     },
@@ -82,6 +84,7 @@ pub struct Reading {
     pub hour: Said,
     pub minute: Said,
     pub second: Said,
+    pub offset: Offset,
     pub forms: Forms,
     pub shown: Shown,
     pub examined: u32,

@@ -1,11 +1,13 @@
-// Runs the writer on the cases that compare/src/bin/vectors/write.rs makes. A line of the input is `Y m d H M S B FORMAT`: a moment's six
-// fields, the length of the buffer, at most 200, and the format. A line of the output is `number place [BUFFER]`: the answer, and the
+// Runs the writer on the cases that compare/src/bin/vectors/write.rs makes. A line of the input is `Y m d H M S O B FORMAT`: a moment's six
+// fields, its zone offset, the length of the buffer, at most 200, and the format. The offset is ? where it is unsaid, else a sign and the
+// minutes. A line of the output is `number place [BUFFER]`: the answer, and the
 // buffer, which held # before.
 use libc::STDOUT_FILENO;
 use strftime::Fields;
 use strftime::strftime;
 use strftime::writing_of;
-ghost use Prim.Native.Nat.{_≤_};
+use values::Offset;
+ghost use Prim.Native.Nat.{_≤_, _<_, _^_};
 ghost use lib.ListN.{length};
 
 // A number, and the offset past it and the byte after it.
@@ -38,6 +40,40 @@ fn read_field(line: &[u8], at: usize) -> Field
     }
 }
 
+// An offset, and the offset in the line past it and the byte after it.
+struct OffsetField {
+    offset: Offset,
+    next: usize,
+}
+
+fn read_offset(line: &[u8], at: usize) -> OffsetField
+    requires { ⌜ at ≤ length (now line) ⌝ }
+    ensures { λ r. ⌜ r .next ≤ length (now (line .entry)) ⌝ }
+{
+    if line.len() <= at {
+        return OffsetField {
+            offset: Offset::Unsaid,
+            next: at,
+        };
+    }
+    let sign = line[at];
+    let minutes = read_field(line, at + 1);
+    OffsetField {
+        offset: signed(sign, minutes.value % 2147483648),
+        next: minutes.next,
+    }
+}
+
+fn signed(sign: u8, minutes: u32) -> Offset
+    requires { ⌜ minutes < 2 ^ 31 ⌝ }
+{
+    match sign {
+        b'+' => Offset::Minutes(minutes as i32),
+        b'-' => Offset::Minutes(-(minutes as i32)),
+        _ => Offset::Unsaid,
+    }
+}
+
 fn write_case(line: &[u8]) {
     let year = read_field(line, 0);
     let month = read_field(line, year.next);
@@ -45,7 +81,9 @@ fn write_case(line: &[u8]) {
     let hour = read_field(line, day.next);
     let minute = read_field(line, hour.next);
     let second = read_field(line, minute.next);
-    let size = read_field(line, second.next);
+    let offset = read_offset(line, second.next);
+    let size = read_field(line, offset.next);
+    let zone = offset.offset;
     let fields = Fields {
         year: year.value,
         month: month.value,
@@ -53,6 +91,7 @@ fn write_case(line: &[u8]) {
         hour: hour.value,
         minute: minute.value,
         second: second.value,
+        offset: zone,
     };
     let from = size.next;
     let mut buffer = [b'#'; 200];
@@ -80,7 +119,7 @@ fn write_cases(input: &[u8]) {
 }
 
 fn main() {
-    let mut input = [0u8; 300000];
+    let mut input = [0u8; 400000];
     let n = io::read_full(0, &mut input);
     write_cases(&input[..n]);
 }

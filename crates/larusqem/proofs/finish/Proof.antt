@@ -8,9 +8,6 @@ use Rattle.larusqem.proofs.finish.Tie as tie
 day-or-zero-requires : tie.Need-day-or-zero-requires
 day-or-zero-requires c κs = search needs
 
-cast-t12 : tie.Need-cast-t12
-cast-t12 c = search needs
-
 cast-t13 : tie.Need-cast-t13
 cast-t13 c = search needs
 
@@ -19,6 +16,9 @@ cast-t14 c = search needs
 
 cast-t15 : tie.Need-cast-t15
 cast-t15 c = search needs
+
+cast-t16 : tie.Need-cast-t16
+cast-t16 c = search needs
 
 flag-requires : tie.Need-flag-requires
 flag-requires c κs = search needs
@@ -44,13 +44,20 @@ form-number-requires c κs = search needs
 form-number-requires-2 : tie.Need-form-number-requires-2
 form-number-requires-2 c κs = search needs
 
+offset-flag-requires : tie.Need-offset-flag-requires
+offset-flag-requires c κs = search needs
+
+offset-word-requires : tie.Need-offset-word-requires
+offset-word-requires c κs = search needs
+
 packed-requires : tie.Need-packed-requires
 packed-requires c κs = search needs
 
 returns : tie.Need-returns
 unfolding wordsOf more naming examining finished
 returns c =
-    let f = c .before .before in
+    let o = c .before .before in
+    let f = o .before .before in
     let w = f .before .before in (
       c .packed .ensures,
       rw (
@@ -63,6 +70,8 @@ returns c =
         w .number-or-03 .ensures,
         f .before .form-number .ensures,
         f .form-number2 .ensures,
+        o .before .offset-flag .ensures,
+        o .offset-word .ensures,
       ),
     )
 
@@ -71,10 +80,10 @@ finish-spec =
     tie.close
     (tie.spec
     day-or-zero-requires
-    cast-t12
     cast-t13
     cast-t14
     cast-t15
+    cast-t16
     flag-requires
     number-or-0-requires
     flag-requires-2
@@ -83,5 +92,7 @@ finish-spec =
     number-or-0-requires-3
     form-number-requires
     form-number-requires-2
+    offset-flag-requires
+    offset-word-requires
     packed-requires
     returns)

@@ -1,7 +1,7 @@
 -- `larusqem::refuse` meets its contract, word by word.
 use Rattle.strptime.specs.Answers.{showing, refused, examining}
 use Rattle.matching.specs.Steps.{noForms}
-use Rattle.larusqem.specs.Words.{more, wordsOf}
+use Rattle.larusqem.specs.Words.{offsetFlag, offsetWord, more, wordsOf}
 use borrow.Author.Needs.{needs}
 use Rattle.larusqem.proofs.refuse.Statement.{statement}
 use Rattle.larusqem.proofs.refuse.Tie as tie
@@ -13,7 +13,7 @@ packed-requires : tie.Need-packed-requires
 packed-requires c κs = search needs
 
 returns : tie.Need-returns
-unfolding wordsOf more examining refused showing noForms
+unfolding wordsOf more offsetFlag offsetWord examining refused showing noForms
 returns c = (c .packed .ensures, search needs)
 
 pub refuse-spec : {M : Type 1} → statement M

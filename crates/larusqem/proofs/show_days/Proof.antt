@@ -1,7 +1,7 @@
 -- `larusqem::show_days` meets its contract, word by word.
 use Rattle.strptime.specs.Answers.{showing, examining}
 use Rattle.matching.specs.Steps.{noForms}
-use Rattle.larusqem.specs.Words.{more, wordsOf}
+use Rattle.larusqem.specs.Words.{offsetFlag, offsetWord, more, wordsOf}
 use borrow.Author.Needs.{needs}
 use Rattle.larusqem.proofs.show_days.Statement.{statement}
 use Rattle.larusqem.proofs.show_days.Tie as tie
@@ -28,7 +28,7 @@ packed-requires : tie.Need-packed-requires
 packed-requires c κs = search needs
 
 returns : tie.Need-returns
-unfolding wordsOf more examining showing noForms
+unfolding wordsOf more offsetFlag offsetWord examining showing noForms
 returns c = (c .packed .ensures, search needs)
 
 pub show-days-spec : {M : Type 1} → statement M

@@ -28,9 +28,21 @@ array-read-said-of-2 c = search needs
 said-of-requires-2 : tie.Need-said-of-requires-2
 said-of-requires-2 c κs = search needs
 
+cast-offset-of : tie.Need-cast-offset-of
+cast-offset-of c = search needs
+
+mul-offset-of : tie.Need-mul-offset-of
+mul-offset-of c = search needs
+
+array-read-offset-of : tie.Need-array-read-offset-of
+array-read-offset-of c = search needs
+
+offset-of-requires : tie.Need-offset-of-requires
+offset-of-requires c κs = search needs
+
 returns : tie.Need-returns
 unfolding readingOf examining done
-returns c = rw (← c .before .said-of .ensures, ← c .said-of2 .ensures)
+returns c = rw (← c .before .before .said-of .ensures, ← c .before .said-of2 .ensures, ← c .offset-of .ensures)
 
 pub done-spec : {M : Type 1} → statement M
 done-spec =
@@ -44,4 +56,8 @@ done-spec =
     mul-said-of-2
     array-read-said-of-2
     said-of-requires-2
+    cast-offset-of
+    mul-offset-of
+    array-read-offset-of
+    offset-of-requires
     returns)
