@@ -161,7 +161,7 @@ module _ (xs : List Extent) (s : List ℕ) (h : (k : ℕ) → getD xs k nowhere 
         parted n,
       )
 
-  list-most : length (wordList xs s) ≤ 18882
+  list-most : length (wordList xs s) ≤ 1049 * kinds
   unfolding wordList wordsFrom
   list-most = omega (arith, from-most (length s), tally-most (λ k. beginsFrom (getD xs k nowhere) 0) kinds)
 
@@ -206,7 +206,7 @@ each-one f (suc n) = omega (arith, length-append (each (λ i. f i ∷ []) n) (f 
 module _ (r : Reading) (words : List Extent) (s : List ℕ) (p : r .place ≤ mostElements)
     (w : (k : ℕ) → getD words k nowhere .next ≤ longest) (o : length (openSentence (r .shown)) ≤ 100) where
   abbrev Brief : List ℕ → Type 0
-  Brief x = length x ≤ 18902
+  Brief x = length x ≤ 19951
 
   quarrel-most : (a : About) → Brief (quarrel a words s)
   unfolding quarrel bytes
@@ -252,10 +252,10 @@ module _ (r : Reading) (words : List Extent) (s : List ℕ) (p : r .place ≤ mo
       (simp length-append (omega (arith, each-one (markAt xs) (lastMark xs), last-most xs h)))
 
   -- ---- all of it
-  reading-most : (n : ℕ) → n < 100000 → length s ≤ longestInput → length (block n r words s) ≤ 58343
+  reading-most : (n : ℕ) → n < 100000 → length s ≤ longestInput → length (block n r words s) ≤ 59392
   unfolding block shown bytes
   reading-most n h l =
-      picked (λ (x : List ℕ). length x ≤ 58343) (eqb (r .number) 0) (lit≤ tt)
+      picked (λ (x : List ℕ). length x ≤ 59392) (eqb (r .number) 0) (lit≤ tt)
       (simp (length-append, length-map)
       (omega (arith, marks-most (marked r words) mark-most, plain-most 5 n (lit≤ tt) (omega arith), sentence-most)))
 
@@ -268,8 +268,8 @@ words-most TooLong es s k = words-below (reasonOf (refused 1 0)) [] s longest (�
 words-most (Bad p) es s k =
     words-below (reasonOf (unlessLong s (refused 3 (min p longest)))) [] s longest (unless-quarrel s (refused 3 (min p longest))) k .1
 
--- a block has at most 58,343 bytes
-pub block-most : (o : Opened) (es s : List ℕ) (n : ℕ) → n < 100000 → length s ≤ longestInput → length (openedBlock o es n s) ≤ 58343
+-- a block has at most 59,392 bytes
+pub block-most : (o : Opened) (es s : List ℕ) (n : ℕ) → n < 100000 → length s ≤ longestInput → length (openedBlock o es n s) ≤ 59392
 unfolding openedBlock
 block-most o es s n h l =
     reading-most (openedReading o es s) _ s (opened-place o es s) (words-most o es s) (open-most o es s) n h l

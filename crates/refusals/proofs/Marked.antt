@@ -27,9 +27,9 @@ nothing-more zero k = refl
 nothing-more (suc n) zero = refl
 nothing-more (suc n) (suc k) = nothing-more n k
 
-pub only-one : (p k : ℕ) → getD (extent p (p + 1) ∷ replicate 17 nowhere) k nowhere ≡ getD (extent p (p + 1) ∷ []) k nowhere
-only-one p zero = refl
-only-one p (suc k) = nothing-more 17 k
+pub only-one : (n p k : ℕ) → getD (extent p (p + 1) ∷ replicate n nowhere) k nowhere ≡ getD (extent p (p + 1) ∷ []) k nowhere
+only-one n p zero = refl
+only-one n p (suc k) = nothing-more n k
 
 -- ---- extents that are alike by kind have the same marks
 module _ (xs ys : List Extent) (e : (k : ℕ) → getD xs k nowhere ≡ getD ys k nowhere) where

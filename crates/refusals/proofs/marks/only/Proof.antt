@@ -13,7 +13,7 @@ array-set-from-extents c = search needs
 
 returns : tie.Need-returns
 unfolding nowhere
-returns c k = only-one (c .args .offset) k
+returns c k = only-one 18 (c .args .offset) k
 
 pub only-spec : {M : Type 1} → statement M
 only-spec = tie.close (tie.spec add-t4 array-set-from-extents returns)
