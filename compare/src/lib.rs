@@ -1,5 +1,8 @@
 //! What the programs `compare` and `vectors` share: the rules once more, what the C library does, and random numbers.
 pub mod c_library;
+pub mod c_offsets;
+pub mod c_seconds;
+pub mod elements;
 #[cfg(test)]
 mod margins;
 pub mod random;

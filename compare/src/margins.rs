@@ -1,14 +1,17 @@
 //! Cases worked by hand, on `rules.rs`: what is expected is typed, not computed.
 use crate::c_library::isspace;
+use crate::elements::{self, Opened};
 use crate::random::Random;
 use crate::rules::{
-    explain, matched, quarrels, read, white, write, Calendar, Engine, Facts, Form, Forms, Moment, Part, Reading, Reason, Words, DAYS,
+    explain, matched, matched_opened, quarrels, read, white, write, write_opened, Calendar, Engine, Facts, Form, Forms, Moment, Part,
+    Reading, Reason, Use, Words, DAYS,
 };
+use crate::{c_offsets, c_seconds};
 
-const MORNING: Moment = [1934, 3, 5, 7, 8, 9];
+const MORNING: Moment = Moment::new([1934, 3, 5, 7, 8, 9]);
 
 fn midnight(year: u32, month: u32, day: u32) -> Moment {
-    [year, month, day, 0, 0, 0]
+    Moment::new([year, month, day, 0, 0, 0])
 }
 
 #[test]
@@ -73,7 +76,7 @@ fn margins() {
 #[test]
 fn flags_and_widths() {
     let cal = Calendar::new();
-    let early = [5, 11, 3, 0, 8, 9];
+    let early = Moment::new([5, 11, 3, 0, 8, 9]);
     for (m, format, text) in [
         (early, "%5m %_5m %05m %-5m", "00011    11 00011 11"),
         (early, "%d %1d %2d %3d %-d %_d %0d", "03 03 03 003 3  3 03"),
@@ -110,6 +113,273 @@ fn flags_and_widths() {
     }
     // the most that a format writes
     assert_eq!(write(&cal, &b"%99d".repeat(256), &early, 0), (4, 25_344, vec![]));
+}
+
+/// %z and %s when writing.
+#[test]
+fn offsets_written() {
+    let cal = Calendar::new();
+    let writes = |m: Moment, format: &str, text: &str| {
+        assert_eq!(write(&cal, format.as_bytes(), &m, 99), (0, text.len() as u32, text.into()), "{m:?} by {format}");
+    };
+    for (offset, text) in [
+        (0, "+0000"),
+        (1, "+0001"),
+        (-1, "-0001"),
+        (30, "+0030"),
+        (-30, "-0030"),
+        (59, "+0059"),
+        (60, "+0100"),
+        (-60, "-0100"),
+        (90, "+0130"),
+        (-90, "-0130"),
+        (-210, "-0330"),
+        (345, "+0545"),
+        (599, "+0959"),
+        (600, "+1000"),
+        (1439, "+2359"),
+        (-1439, "-2359"),
+    ] {
+        writes(MORNING.with_offset(offset), "%z", text);
+        writes(MORNING.with_offset(offset), "%T%z|%z %%z", &format!("07:08:09{text}|{text} %z"));
+    }
+    writes(MORNING, "%z", "");
+    writes(MORNING, "%T%z|%z %%z %%s", "07:08:09| %z %s");
+    // a field with an offset is what it is without one
+    writes(MORNING.with_offset(-90), "%c %p %j %z", "Mon Mar  5 07:08:09 1934 AM 064 -0130");
+
+    for (fields, offset, text) in [
+        ([1970, 1, 1, 0, 0, 0], 0, "0"),
+        ([1969, 12, 31, 23, 59, 60], 0, "0"),
+        ([1969, 12, 31, 23, 59, 59], 0, "-1"),
+        ([1970, 1, 1, 0, 0, 1], 0, "1"),
+        ([1970, 1, 1, 0, 0, 60], 0, "60"),
+        ([1970, 1, 1, 0, 1, 0], 0, "60"),
+        ([1970, 1, 2, 0, 0, 0], 0, "86400"),
+        ([1970, 1, 1, 1, 30, 0], 90, "0"),
+        ([1969, 12, 31, 23, 30, 0], -30, "0"),
+        ([1970, 1, 1, 0, 0, 0], 1, "-60"),
+        ([1970, 1, 1, 0, 0, 0], -1, "60"),
+        ([1970, 1, 1, 0, 0, 0], 1439, "-86340"),
+        ([1970, 1, 1, 0, 0, 0], -1439, "86340"),
+        ([2001, 9, 9, 1, 46, 40], 0, "1000000000"),
+        ([2009, 2, 13, 23, 31, 30], 0, "1234567890"),
+        ([2009, 2, 14, 0, 31, 30], 60, "1234567890"),
+        ([2038, 1, 19, 3, 14, 7], 0, "2147483647"),
+        ([2038, 1, 19, 3, 14, 8], 0, "2147483648"),
+        ([1901, 12, 13, 20, 45, 52], 0, "-2147483648"),
+        ([2016, 12, 31, 23, 59, 60], 0, "1483228800"),
+        ([2017, 1, 1, 0, 0, 0], 0, "1483228800"),
+        ([2000, 2, 29, 23, 59, 60], 0, "951868800"),
+        ([2000, 3, 1, 0, 0, 0], 0, "951868800"),
+        ([1900, 2, 28, 23, 59, 60], 0, "-2203891200"),
+        ([1900, 3, 1, 0, 0, 0], 0, "-2203891200"),
+        ([1934, 3, 5, 7, 8, 9], 0, "-1130604711"),
+        ([1934, 3, 5, 7, 8, 9], 60, "-1130608311"),
+        ([1, 1, 1, 0, 0, 0], 0, "-62135596800"),
+        ([1, 1, 1, 0, 0, 0], 1439, "-62135683140"),
+        ([9999, 12, 31, 23, 59, 59], 0, "253402300799"),
+        ([9999, 12, 31, 23, 59, 60], -1439, "253402387140"),
+    ] {
+        let m = Moment::new(fields).with_offset(offset);
+        writes(m, "%s", text);
+        writes(m, "@%s.%s ", &format!("@{text}.{text} "));
+    }
+}
+
+/// What %z and %s are refused for when writing, and in which order.
+#[test]
+fn offsets_not_written() {
+    let cal = Calendar::new();
+    let answers = |m: Moment, format: &str, room: usize, number, place| {
+        assert_eq!(write(&cal, format.as_bytes(), &m, room), (number, place, vec![]), "{m:?} by {format}");
+    };
+    // 2, place 7, last of all fields, and only where it is said; before 3
+    for offset in [1440, -1440, 1441, 65_536, 65_536 + 60, i32::MAX, -i32::MAX, i32::MIN] {
+        answers(MORNING.with_offset(offset), "%z", 9, 2, 7);
+        answers(MORNING.with_offset(offset), "", 9, 2, 7);
+        answers(MORNING.with_offset(offset), "%Q%s", 0, 2, 7);
+        answers(Moment::new([1934, 3, 5, 7, 8, 61]).with_offset(offset), "%z", 9, 2, 6);
+        answers(midnight(1900, 2, 29).with_offset(offset), "%z", 9, 2, 3);
+    }
+    // 3: flags, widths, E and O
+    for bad in "%5z %_z %-z %0z %^z %05z %_5z %99z %1s %5s %_s %-s %0s %^s %015s %Ez %Oz %Es %Os %5Ez %:z".split(' ') {
+        for m in [MORNING, MORNING.with_offset(90)] {
+            answers(m, &format!("%z {bad}"), 99, 3, 3);
+        }
+    }
+    // 12 at the first %s: after 3, before 4
+    answers(MORNING, "%s", 99, 12, 0);
+    answers(MORNING, "%z%d %s %s", 99, 12, 5);
+    answers(MORNING, "%s", 0, 12, 0);
+    answers(MORNING, "%%s %5d%c|%s", 3, 12, 10);
+    answers(MORNING, "%s %Q", 99, 3, 3);
+    answers(MORNING, "%s %5s", 99, 3, 3);
+    answers(Moment::new([1934, 3, 5, 7, 60, 9]), "%s", 99, 2, 5);
+    // 4
+    answers(MORNING.with_offset(90), "%z", 4, 4, 5);
+    answers(MORNING.with_offset(0), "%s", 10, 4, 11);
+    answers(midnight(1, 1, 1).with_offset(1439), &"%s".repeat(512), 0, 4, 12 * 512);
+    answers(MORNING, &("x".repeat(1023) + "%s"), 0, 1, 0);
+}
+
+/// %z when reading: number, place, and the offset.
+#[test]
+fn offsets_read() {
+    let cal = Calendar::new();
+    for (format, text, number, place, offset) in [
+        ("%z", "+0130", 0, 5, Some(90)),
+        ("%z", "-0130", 0, 5, Some(-90)),
+        ("%z", "+0030", 0, 5, Some(30)),
+        ("%z", "-0030", 0, 5, Some(-30)),
+        ("%z", "-0001", 0, 5, Some(-1)),
+        ("%z", "+0000", 0, 5, Some(0)),
+        ("%z", "-0000", 0, 5, Some(0)),
+        ("%z", "+2359", 0, 5, Some(1439)),
+        ("%z", "-2359", 0, 5, Some(-1439)),
+        // just four digits: what follows is for others
+        ("%z", "+01305", 0, 5, Some(90)),
+        ("%z%S", "+01305", 0, 6, Some(90)),
+        ("%zZ", "+0130Z", 0, 6, Some(90)),
+        ("%z", "+0130:30", 0, 5, Some(90)),
+        // 6 at the sign, or where it should stand
+        ("%z", "", 6, 0, None),
+        ("%z", "0130", 6, 0, None),
+        ("%z", "+", 6, 0, None),
+        ("%z", "+0", 6, 0, None),
+        ("%z", "+013", 6, 0, None),
+        ("%z", "+130", 6, 0, None),
+        ("%z", "+1:30", 6, 0, None),
+        ("%z", "+01:30", 6, 0, None),
+        ("%z", "+ 130", 6, 0, None),
+        ("%z", "+0 30", 6, 0, None),
+        ("%z", "+013x", 6, 0, None),
+        ("%z", "++130", 6, 0, None),
+        ("%z", "*0130", 6, 0, None),
+        ("%z", ",0130", 6, 0, None),
+        ("%z", "Z", 6, 0, None),
+        ("%z", "UTC", 6, 0, None),
+        ("%z", " +0130", 6, 0, None),
+        ("%H%z", "07 +0130", 6, 2, None),
+        ("%H%z", "07", 6, 2, None),
+        ("%H %z", "07 +", 6, 3, None),
+        // a 6 goes before a 7
+        ("%z", "+99", 6, 0, None),
+        ("%z", "+249x", 6, 0, None),
+        // white space in the format takes its run
+        ("%H %z", "07+0130", 0, 7, Some(90)),
+        ("%H%n%z", "07 \t\r+0130", 0, 10, Some(90)),
+        // 7 at the sign
+        ("%z", "+2400", 7, 0, None),
+        ("%z", "-2400", 7, 0, None),
+        ("%z", "+0060", 7, 0, None),
+        ("%z", "-0099", 7, 0, None),
+        ("%z", "+9900", 7, 0, None),
+        ("%H %z", "07 +2360", 7, 3, None),
+        // the same offset again, and another one, 8 at its sign; 6 and 7 go before it
+        ("%z %z", "+0130 +0130", 0, 11, Some(90)),
+        ("%z%z", "+0000-0000", 0, 10, Some(0)),
+        ("%z %z", "+0130 -0130", 8, 6, None),
+        ("%z %z", "+0000 +0001", 8, 6, None),
+        ("%z%z", "-0030+0030", 8, 5, None),
+        ("%z %z %z", "+0130 +0130 +0131", 8, 12, None),
+        ("%z %z", "+0130 -0160", 7, 6, None),
+        ("%z %z", "+0130 -013", 6, 6, None),
+        // beside a day and an hour, which do not mind it; with a refusal of these it is unsaid
+        ("%F %T %z", "1934-03-05 07:08:09 -0330", 0, 25, Some(-210)),
+        ("%z %F", "+2359 0001-01-01", 0, 16, Some(1439)),
+        ("%z %F", "-2359 9999-12-31", 0, 16, Some(-1439)),
+        ("%z %a %F", "+2359 Tue 1934-03-05", 9, 1, None),
+        ("%z %d %b", "+0130 5 mar", 10, 1, None),
+        ("%z %H %p", "+0130 7 PM", 9, 2, None),
+        ("%z %I", "+0130 7", 10, 2, None),
+        ("%z %M", "+0130 60", 7, 6, None),
+        // 3: what is not read
+        ("%z %s", "+0130 0", 3, 3, None),
+        ("%s", "0", 3, 0, None),
+        ("%s", "", 3, 0, None),
+        ("%z%5z", "+0130", 3, 2, None),
+        ("%_z", "+0130", 3, 0, None),
+        ("%Ez", "+0130", 3, 0, None),
+        ("%Oz", "+0130", 3, 0, None),
+        ("%Os", "0", 3, 0, None),
+        ("%-s", "0", 3, 0, None),
+    ] {
+        let matched = matched(&cal, format.as_bytes(), text.as_bytes());
+        for engine in [Engine::Skipping, Engine::Plain, Engine::Within(DAYS as u32)] {
+            let found = matched.reading(engine);
+            assert_eq!((found.number, found.place, found.offset), (number, place, offset), "{text} by {format}");
+        }
+    }
+    // beside what else is said; and refused by a budget
+    let all = read(&cal, Engine::Skipping, b"%z %F %H:%M:%S", b"-2359 1934-03-05 07:08:60");
+    let (hour, minute, second, offset) = (Some(7), Some(8), Some(60), Some(-1439));
+    let day = Some((1934, 3, 5));
+    assert_eq!(all, Reading { place: 25, day, hour, minute, second, offset, examined: 31, ..Reading::default() });
+    let over = read(&cal, Engine::Within(1), b"%z %F", b"+0130 1934-03-05");
+    assert_eq!(over, Reading { number: 11, place: 1, examined: 1, ..Reading::default() });
+    // no reason names it
+    let (_, reason) = explain(&cal, Engine::Skipping, b"%z %H %p", b"+0130 7 PM");
+    assert_eq!(reason, quarrel(&[(13, 6, 7), (15, 8, 10)]));
+}
+
+/// %z and %s as elements, by which is written and read.
+#[test]
+fn offsets_as_elements() {
+    let cal = Calendar::new();
+    let element = |letter: u8, at: u32| letter as u32 + 256 * (at + 1);
+    let (z, s) = (element(b'z', 2), element(b's', 7));
+    assert_eq!((z, s), (890, 2163));
+    assert_eq!(Opened::new(b"%dx%z %s", Use::Writing).elements, [256 + 100, 120, 122 + 256 * 4, 32, 115 + 256 * 7]);
+    let (width, flag) = ((1 << 18) * 5, (1 << 25) * b'_' as u32);
+    for (entries, bad_to_write, bad_to_read) in [
+        (&[z][..], None, None),
+        (&[32, z, z], None, None),
+        (&[element(b'z', 0), element(b's', 0)], None, Some(0)),
+        (&[s], None, Some(7)),
+        (&[32, z, s], None, Some(7)),
+        (&[32, s, element(b's', 1022), element(b's', 3)], None, Some(7)),
+        (&[element(b's', 1022)], None, Some(1022)),
+        // no elements at all: with a width, a flag, or an offset over 1,022
+        (&[32, z + width], Some(1), Some(1)),
+        (&[32, z + flag], Some(1), Some(1)),
+        (&[32, 32, s + width], Some(2), Some(2)),
+        (&[s + flag], Some(0), Some(0)),
+        (&[element(b'z', 1023)], Some(0), Some(0)),
+        (&[32, element(b's', 1023)], Some(1), Some(1)),
+        (&[32, s, element(b'Q', 3)], Some(2), Some(7)),
+        (&[32, element(b'Q', 3), s], Some(1), Some(1)),
+    ] {
+        let to_write = elements::items(entries, Use::Writing);
+        assert_eq!(to_write.as_ref().err(), bad_to_write.as_ref(), "{entries:?}");
+        let to_read = elements::items(entries, Use::Reading);
+        assert_eq!(to_read.as_ref().err(), bad_to_read.as_ref(), "{entries:?}");
+        if let (Some(at), false) = (bad_to_read, to_read.is_ok()) {
+            let refused = Reading { number: 3, place: at as u32, ..Reading::default() };
+            assert_eq!(matched_opened(&cal, &to_read, b"").reading(Engine::Skipping), refused, "{entries:?}");
+        }
+    }
+    // 12 has the offset of the first entry that is a %s, whatever its index
+    let written = |entries: &[u32], m: Moment, room: usize| write_opened(&cal, &elements::items(entries, Use::Writing), &m, room);
+    assert_eq!(written(&[32, z, s, element(b's', 0)], MORNING, 99), (12, 7, vec![]));
+    assert_eq!(written(&[s], MORNING, 0), (12, 7, vec![]));
+    assert_eq!(written(&[s, element(b'Q', 0)], MORNING, 0), (3, 1, vec![]));
+    assert_eq!(written(&[s, z], MORNING.with_offset(1440), 99), (2, 7, vec![]));
+    assert_eq!(written(&[z, 32, s], midnight(1970, 1, 1).with_offset(-1), 99), (0, 8, b"-0001 60".to_vec()));
+}
+
+/// The rules against the C library: %z by its strftime for every offset, %s by its timegm on every day.
+#[test]
+fn offsets_of_c() {
+    let cal = Calendar::new();
+    let writer = |format: &[u8], m: &Moment, out: &mut [u8]| {
+        let (number, place, bytes) = write(&cal, format, m, out.len());
+        out[..bytes.len()].copy_from_slice(&bytes);
+        (number, place)
+    };
+    let mut random = Random(1439);
+    assert_eq!(c_offsets::compare(&mut random, &cal, writer, |case| panic!("{case:?}")), 2880 * 7);
+    assert_eq!(c_seconds::compare(&mut random, &cal, writer, |case| panic!("{case:?}")), 5 * DAYS);
 }
 
 /// The days that each engine examines, and budgets.
@@ -439,6 +709,14 @@ line 4: the text does not go on as the format wants
         ("%d %e", "05 \t6 ", "05  6 ", "    ^", "this was said before, differently"),
         ("%b %m", "Mar 13", "Mar 13", "    ^", "this number is outside its range"),
         ("%m %b", "4 March", "4 March", "  ^", "this was said before, differently"),
+        // the same at the sign of an offset; %s is not read
+        ("%H%z", "07 +0130", "07 +0130", "  ^", "the text does not go on as the format wants"),
+        ("%H%z", "07", "07", "  ^", "the text ends before the format does"),
+        ("%H%z", "07+", "07+", "  ^", "the text does not go on as the format wants"),
+        ("%H%z", "07-2400", "07-2400", "  ^", "this number is outside its range"),
+        ("%z %z", "+0130 -0130", "+0130 -0130", "      ^", "this was said before, differently"),
+        ("%z %H %p", "+0130 7 PM", "+0130 7 PM", "      ^ ^^", "no hour is hour 7 and PM together"),
+        ("%H%s", "07", "07", "", "the format has a conversion at byte 2 that is unknown or unfinished, or that has a flag or a width"),
         // 9: what each kind is called
         ("%C %y", "00 00", "00 00", "^^ ^^", "no day is century 00 and year in century 00 together"),
         ("%Y %C", "1934 20", "1934 20", "^^^^ ^^", "no day is 1934 and century 20 together"),

@@ -256,7 +256,8 @@ fn years_asked(count: usize, facts: &Facts) -> RangeInclusive<u32> {
     first.max(1)..=last.min(9999)
 }
 
-/// At each kind 1 to 17 (RULES 7) the number said, if one was. AM is 0 and PM is 1.
+/// At each kind 1 to 17 (RULES 7) the number said, if one was. AM is 0 and PM is 1. Kind 18, the zone offset, has a sign, and stands beside
+/// them.
 pub type Facts = [Option<u32>; 18];
 
 /// Whether nothing else is said of a kind than this number.
@@ -291,12 +292,14 @@ pub enum Use {
     Writing,
 }
 
-/// A conversion that is neither a composite nor a byte: its letter, its flag's byte or 0, and the width asked or 0.
+/// A conversion that is neither a composite nor a byte: its letter, its flag's byte or 0, the width asked or 0, and the offset of its % in
+/// the format.
 #[derive(Clone, Copy, PartialEq, Eq, Debug)]
 pub struct Conversion {
     pub letter: u8,
     pub flag: u8,
     pub width: usize,
+    pub at: usize,
 }
 
 impl Conversion {
@@ -305,9 +308,19 @@ impl Conversion {
         self.flag == 0 && self.width == 0
     }
 
-    /// Whether there is such a conversion: a number or a name, with a flag that belongs to it, if with one, and a width of at most 99.
-    pub fn is_known(&self) -> bool {
+    /// Whether a format for this use may have it.
+    pub fn is_taken(&self, side: Use) -> bool {
+        match side {
+            Use::Writing => self.is_written(),
+            Use::Reading => self.is_written() && self.is_plain() && self.letter != b's',
+        }
+    }
+
+    /// Whether it can be written: a number or a name, with a flag that belongs to it, if with one, and a width of at most 99; or %z or %s,
+    /// with neither.
+    fn is_written(&self) -> bool {
         let flags: &[u8] = match self.letter {
+            b'z' | b's' => return self.is_plain(),
             l if NAMED.contains(&l) => b"^",
             l if numeric(l).is_some() => b"_-0",
             _ => return false,
@@ -355,9 +368,10 @@ fn composite(letter: u8) -> Option<&'static [u8]> {
     })
 }
 
-/// What stands after a %: flag, width, E or O, letter, and how many bytes that is. None where it ends before, or has E or O in a pair that
-/// is not taken.
-fn after_percent(rest: &[u8], side: Use) -> Option<(Conversion, usize)> {
+/// What stands at the % with this offset: flag, width, E or O, letter, and the offset after them. None where the format ends before, or has
+/// E or O in a pair that is not taken.
+fn conversion_at(format: &[u8], percent: usize, side: Use) -> Option<(Conversion, usize)> {
+    let rest = &format[percent + 1..];
     let mut at = 0;
     let (mut flag, mut width) = (0, 0);
     if side == Use::Writing {
@@ -378,45 +392,68 @@ fn after_percent(rest: &[u8], side: Use) -> Option<(Conversion, usize)> {
         }
         at += 1;
     }
-    Some((Conversion { letter: *rest.get(at)?, flag, width }, at + 1))
+    Some((Conversion { letter: *rest.get(at)?, flag, width, at: percent }, percent + at + 2))
 }
 
-/// The elements of a format, each with the offset in it of its byte or its `%`, or else the offset of the first bad `%`.
-pub fn placed_items(format: &[u8], side: Use) -> Result<Vec<(Item, usize)>, usize> {
+/// The elements of a format, or the offset of its first bad `%`.
+pub fn items(format: &[u8], side: Use) -> Result<Vec<Item>, usize> {
     let mut out = Vec::new();
     let mut i = 0;
     while i < format.len() {
         let start = i;
-        i += 1;
         if format[start] != b'%' {
-            out.push((byte(format[start]), start));
+            out.push(byte(format[start]));
+            i += 1;
             continue;
         }
-        let (conversion, length) = after_percent(&format[i..], side).ok_or(start)?;
-        i += length;
+        let (conversion, next) = conversion_at(format, start, side).ok_or(start)?;
+        i = next;
         match conversion.letter {
-            _ if conversion.is_known() => out.push((Item::Conversion(conversion), start)),
+            _ if conversion.is_taken(side) => out.push(Item::Conversion(conversion)),
             _ if !conversion.is_plain() => return Err(start),
-            b'n' => out.push((byte(10), start)),
-            b't' => out.push((byte(9), start)),
-            b'%' => out.push((byte(b'%'), start)),
-            l => out.extend(items(composite(l).ok_or(start)?, side).unwrap().into_iter().map(|item| (item, start))),
+            b'n' => out.push(byte(10)),
+            b't' => out.push(byte(9)),
+            b'%' => out.push(byte(b'%')),
+            l => out.extend(items(composite(l).ok_or(start)?, side).unwrap().into_iter().map(|item| placed(item, start))),
         }
     }
     Ok(out)
 }
 
-/// The elements of a format, or the offset of its first bad `%`.
-pub fn items(format: &[u8], side: Use) -> Result<Vec<Item>, usize> {
-    placed_items(format, side).map(|placed| placed.into_iter().map(|(item, _)| item).collect())
+/// An item of a composite, whose % has this offset.
+fn placed(item: Item, at: usize) -> Item {
+    match item {
+        Item::Conversion(c) => Item::Conversion(Conversion { at, ..c }),
+        byte => byte,
+    }
 }
 
-/// Year, month, day, hour, minute, second.
-pub type Moment = [u32; 6];
+/// Year, month, day, hour, minute and second, and the zone offset in minutes east of UTC, or unsaid.
+#[derive(Clone, Copy, PartialEq, Eq, Debug)]
+pub struct Moment {
+    pub fields: [u32; 6],
+    pub offset: Option<i32>,
+}
+
+impl Moment {
+    /// With the offset unsaid.
+    pub const fn new(fields: [u32; 6]) -> Moment {
+        Moment { fields, offset: None }
+    }
+
+    /// The same with an offset.
+    pub const fn with_offset(self, offset: i32) -> Moment {
+        Moment { offset: Some(offset), ..self }
+    }
+
+    pub fn date(&self) -> (u32, u32, u32) {
+        (self.fields[0], self.fields[1], self.fields[2])
+    }
+}
 
 /// The first bad field of a moment, if one is bad.
 pub fn bad_field(m: &Moment) -> Option<u32> {
-    let [year, month, day, hour, minute, second] = *m;
+    let [year, month, day, hour, minute, second] = m.fields;
     if !(1..=9999).contains(&year) {
         return Some(1);
     }
@@ -435,7 +472,10 @@ pub fn bad_field(m: &Moment) -> Option<u32> {
     if second > 60 {
         return Some(6);
     }
-    None
+    match m.offset {
+        Some(minutes) if !(-1439..=1439).contains(&minutes) => Some(7),
+        _ => None,
+    }
 }
 
 fn twelve(hour: u32) -> u32 {
@@ -449,18 +489,18 @@ fn twelve(hour: u32) -> u32 {
 /// The number that a numeric conversion shows.
 fn number(letter: u8, d: &Day, m: &Moment) -> u32 {
     match letter {
-        b'H' | b'k' => m[3],
-        b'I' | b'l' => twelve(m[3]),
-        b'M' => m[4],
-        b'S' => m[5],
+        b'H' | b'k' => m.fields[3],
+        b'I' | b'l' => twelve(m.fields[3]),
+        b'M' => m.fields[4],
+        b'S' => m.fields[5],
         b'w' => d.weekday as u32 % 7,
         _ => d.value(numeric(letter).unwrap().0),
     }
 }
 
-/// The name, short or full, or the half of the day that any other conversion shows.
+/// The name, short or full, or the half of the day that a conversion shows.
 fn name(letter: u8, d: &Day, m: &Moment) -> String {
-    let (weekday, month, half) = (WEEKDAYS[d.weekday as usize - 1], MONTHS[d.month as usize - 1], HALVES[m[3] as usize / 12]);
+    let (weekday, month, half) = (WEEKDAYS[d.weekday as usize - 1], MONTHS[d.month as usize - 1], HALVES[m.fields[3] as usize / 12]);
     match letter {
         b'a' => weekday[..3].to_string(),
         b'A' => weekday.to_string(),
@@ -471,7 +511,7 @@ fn name(letter: u8, d: &Day, m: &Moment) -> String {
     }
 }
 
-/// What a conversion writes for a day and a moment of it.
+/// What a conversion other than %z and %s writes for a day and a moment of it.
 fn shown(c: &Conversion, d: &Day, m: &Moment) -> Vec<u8> {
     let (bytes, fill, places) = match numeric(c.letter) {
         Some((_, own, _, _)) => {
@@ -490,17 +530,47 @@ fn shown(c: &Conversion, d: &Day, m: &Moment) -> Vec<u8> {
     out
 }
 
-/// What the items write for a valid moment (RULES 5).
+/// What %z writes: a sign, two digits of hours and two of minutes; nothing where the offset is unsaid.
+fn zone(offset: Option<i32>) -> String {
+    match offset {
+        None => String::new(),
+        Some(minutes) => {
+            let (sign, far) = if minutes < 0 { ('-', -minutes) } else { ('+', minutes) };
+            format!("{sign}{:02}{:02}", far / 60, far % 60)
+        }
+    }
+}
+
+/// What %s writes: the whole seconds from 1970-01-01 00:00:00 UTC, the offset taken off. Second 60 is one more than 59, and so the next.
+fn seconds(cal: &Calendar, m: &Moment, offset: i32) -> i64 {
+    let (year, month, day) = m.date();
+    let days = cal.place(year, month, day) as i64 - cal.place(1970, 1, 1) as i64;
+    let [hours, minutes, seconds] = [3, 4, 5].map(|field| m.fields[field] as i64);
+    days * 24 * 60 * 60 + hours * 60 * 60 + minutes * 60 + seconds - offset as i64 * 60
+}
+
+/// What the items write for a valid moment (RULES 5), which says its offset if there is a %s among them.
 pub fn written(cal: &Calendar, items: &[Item], m: &Moment) -> Vec<u8> {
-    let d = cal.find(m[0], m[1], m[2]);
+    let (year, month, day) = m.date();
+    let d = cal.find(year, month, day);
     let mut out = Vec::new();
     for item in items {
         match item {
             Item::Byte(b) | Item::Space(b) => out.push(*b),
+            Item::Conversion(c) if c.letter == b'z' => out.extend(zone(m.offset).bytes()),
+            Item::Conversion(c) if c.letter == b's' => out.extend(seconds(cal, m, m.offset.unwrap()).to_string().bytes()),
             Item::Conversion(c) => out.extend(shown(c, d, m)),
         }
     }
     out
+}
+
+/// The offset of the first %s, if there is one.
+fn first_seconds(items: &[Item]) -> Option<usize> {
+    items.iter().find_map(|item| match item {
+        Item::Conversion(c) if c.letter == b's' => Some(c.at),
+        _ => None,
+    })
 }
 
 /// The writer: number, place, and the bytes where the number is 0.
@@ -516,17 +586,18 @@ pub fn write_opened(cal: &Calendar, opened: &Result<Vec<Item>, usize>, m: &Momen
     if let Some(field) = bad_field(m) {
         return (2, field, vec![]);
     }
-    match opened {
-        Err(at) => (3, *at as u32, vec![]),
-        Ok(items) => {
-            let bytes = written(cal, items, m);
-            if bytes.len() > room {
-                (4, bytes.len() as u32, vec![])
-            } else {
-                (0, bytes.len() as u32, bytes)
-            }
-        }
+    let items = match opened {
+        Err(at) => return (3, *at as u32, vec![]),
+        Ok(items) => items,
+    };
+    if let (None, Some(at)) = (m.offset, first_seconds(items)) {
+        return (12, at as u32, vec![]);
     }
+    let bytes = written(cal, items, m);
+    if bytes.len() > room {
+        return (4, bytes.len() as u32, vec![]);
+    }
+    (0, bytes.len() as u32, bytes)
 }
 
 /// What the reader answers (RULES 3): whatever the number does not bring with it is zero or unsaid.
@@ -538,6 +609,7 @@ pub struct Reading {
     pub hour: Option<u32>,
     pub minute: Option<u32>,
     pub second: Option<u32>,
+    pub offset: Option<i32>,
     pub two_days: Option<[(u32, u32, u32); 2]>,
     pub two_hours: Option<[u32; 2]>,
     pub examined: u32,
@@ -571,6 +643,8 @@ pub enum Matched {
 /// What the items of a format read of a text.
 pub struct Said {
     pub facts: Facts,
+    /// Kind 18.
+    pub offset: Option<i32>,
     /// At each kind that was said, where it was first.
     pub words: [Option<Words>; 18],
     pub forms: Forms,
@@ -675,9 +749,28 @@ fn name_at(text: &[u8], names: &[&str]) -> Option<(u32, usize, Form)> {
     full.or(found.iter().max_by_key(|(_, length, _)| *length)).copied()
 }
 
+/// The offset that the text goes on with, in minutes: a sign, right there, two digits of hours and two of minutes. Else 6, or 7.
+fn offset_at(text: &[u8]) -> Result<i32, u32> {
+    let (sign, digits) = match text {
+        [b'+', digits @ ..] => (1, digits),
+        [b'-', digits @ ..] => (-1, digits),
+        _ => return Err(6),
+    };
+    if digits.iter().take(4).filter(|b| b.is_ascii_digit()).count() < 4 {
+        return Err(6);
+    }
+    let two = |at: usize| std::str::from_utf8(&digits[at..at + 2]).unwrap().parse::<i32>().unwrap();
+    let (hours, minutes) = (two(0), two(2));
+    if hours > 23 || minutes > 59 {
+        return Err(7);
+    }
+    Ok(sign * (60 * hours + minutes))
+}
+
 /// What the items read (RULES 6), or 6, 7 or 8, from left to right.
 fn read_items(items: &[Item], text: &[u8]) -> Result<Said, Reading> {
     let mut facts: Facts = [None; 18];
+    let mut offset = None;
     let mut words = [None; 18];
     let mut forms = Forms::default();
     let mut at = 0;
@@ -693,6 +786,15 @@ fn read_items(items: &[Item], text: &[u8]) -> Result<Said, Reading> {
                     return Err(refused(6, at));
                 }
                 at += 1;
+                continue;
+            }
+            Item::Conversion(c) if c.letter == b'z' => {
+                let minutes = offset_at(&text[at..]).map_err(|number| refused(number, at))?;
+                if offset.is_some() && offset != Some(minutes) {
+                    return Err(refused(8, at));
+                }
+                offset = Some(minutes);
+                at += 5;
                 continue;
             }
             Item::Conversion(c) => c.letter,
@@ -729,7 +831,7 @@ fn read_items(items: &[Item], text: &[u8]) -> Result<Said, Reading> {
         }
         at += length;
     }
-    Ok(Said { facts, words, forms, at })
+    Ok(Said { facts, offset, words, forms, at })
 }
 
 /// The number of an hour fact's kind (13 to 15) for an hour.
@@ -779,7 +881,7 @@ impl Matched {
             }
         }
         let (place, minute, second) = (said.at as u32, said.facts[16], said.facts[17]);
-        Reading { number: 0, place, day, hour, minute, second, examined, forms: said.forms, ..Reading::default() }
+        Reading { number: 0, place, day, hour, minute, second, offset: said.offset, examined, forms: said.forms, ..Reading::default() }
     }
 
     /// The reason of a reading of this text, if it has one (RULES 8.5).
