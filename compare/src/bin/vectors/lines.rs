@@ -81,9 +81,14 @@ fn cases() -> Vec<(&'static str, Vec<u8>)> {
         ("second_only", b"%S\n0\n60\n61\n".to_vec()),
         ("names", b"%a %d %b %Y\nThurs 6 Sept 1934\nthur 6 SEPTEMBER 1934\nThu 6 Sep 1934\nTues 6 Sept 1934\nTuesd 4 Sept 1934\n".to_vec()),
         ("all", b"%c\nMon Mar  5 07:08:09 1934\nTue Mar  5 07:08:09 1934\ntue feb 29 12:00:60 2000\nSun Feb 29 12:00:60 2000\n".to_vec()),
+        // an offset is read, and not shown
+        ("offsets", b"%F %T %z\n1934-03-05 07:08:09 +0130\n1-1-1 0:0:0 -2359\n9999-12-31 23:59:60 -0000\n1934-03-05 07:08:09\n".to_vec()),
+        ("offset_only", b"%z\n+0000\n-0030 and more\n+2400\n+0060\n+130\n 0130\n +0130\n\n".to_vec()),
+        ("offsets_twice", b"%z%z\n+0130+0130\n+0130-0130\n-0000+0000\n+0130\n".to_vec()),
         // every number that a line can have: the other fields are then unsaid
         ("number_1", cat(&[&b"%H".repeat(512), b"x\n7\n", &b"7".repeat(1025), b"\n\n"])),
         ("number_3", b"at %Q\n7\nat \n\n".to_vec()),
+        ("number_3_seconds", b"%F %s\n1934-03-05 0\n1934-03-05\n\n".to_vec()),
         ("number_3_flag_and_width", b"%d %^b %5Y\n5 Mar 1934\n5 MAR  1934\n\n".to_vec()),
         ("number_3_place_last", cat(&[&FULL[1..], b"%\n7\n"])),
         ("number_5", cat(&[b"%H%n%%\n7", FULL, b"\n", &FULL[1..], b"\n7%", &FULL[2..], b"\n7 %", &FULL[2..], b"\n"])),

@@ -11,6 +11,8 @@
 //! datetime module.
 mod days;
 mod lines;
+mod offsets_read;
+mod offsets_written;
 mod quarrels;
 mod read;
 mod reasons;

@@ -1,13 +1,13 @@
 //! Vectors for the reader: the input of the program read_cases, and what it must write.
 //!
 //! The input is pairs of lines: a format, and a text, each its own bytes up to the newline. A line of the output is
-//! `number place date hour minute second | shown | examined | weekday month | reason`: what is unsaid is -, shown has the first two days or
-//! hours of number 10, examined is how many days the skipping engine examined, then come the forms of names: -, full, middle or short. The
-//! reason of number 9 is the kinds that quarrel, each with its words as kind:from-next; that of 10 is year, month or day, or `hours` and
-//! the two; any other number has none, -.
+//! `number place date hour minute second offset | shown | examined | weekday month | reason`: what is unsaid is -, the offset is a sign and
+//! minutes, shown has the first two days or hours of number 10, examined is how many days the skipping engine examined, then come the forms
+//! of names: -, full, middle or short. The reason of number 9 is the kinds that quarrel, each with its words as kind:from-next; that of 10
+//! is year, month or day, or `hours` and the two; any other number has none, -.
 //!
 //! Texts that the C library's strftime wrote for a known moment must moreover be read as that moment, where the format names one day and
-//! one hour.
+//! one hour, and an offset if it has a %z.
 use crate::{cat, Counts};
 use compare::c_library;
 use compare::random::Random;
@@ -43,10 +43,23 @@ const DAY_FORMATS: [&str; 22] = [
     "%OU %Ow %EY",
     "%j of %Y, %A, week %V of %G, %U, %W",
 ];
-const HOUR_FORMATS: [&str; 13] =
-    ["%H", "%k", "%I %p", "%l%P", "%H:%M", "%R", "%T", "%X", "%r", "%I:%M:%S %P", "%OH.%OM.%OS", "%OI %p %M", "%H %I %p"];
-const BOTH_FORMATS: [&str; 9] =
-    ["%c", "%Ec", "%d %b %Y %H:%M", "%F %T", "%FT%T", "%x %X %C", "%D %r %G %Y", "%T, %A %e %B %Y", "%G%V%u %k:%M"];
+const HOUR_FORMATS: [&str; 15] =
+    ["%H", "%k", "%I %p", "%l%P", "%H:%M", "%R", "%T", "%X", "%r", "%I:%M:%S %P", "%OH.%OM.%OS", "%OI %p %M", "%H %I %p", "%T%z", "%z%R"];
+const BOTH_FORMATS: [&str; 13] = [
+    "%c",
+    "%Ec",
+    "%d %b %Y %H:%M",
+    "%F %T",
+    "%FT%T",
+    "%x %X %C",
+    "%D %r %G %Y",
+    "%T, %A %e %B %Y",
+    "%G%V%u %k:%M",
+    "%FT%T%z",
+    "%a, %d %b %Y %T %z",
+    "%c %z",
+    "%z %Y %j%z%H%z%M",
+];
 
 /// The same kind of fact twice: the same is fine, another is 8 at its first digit or letter.
 const SAID_TWICE: &str = "
@@ -197,19 +210,25 @@ impl Cases<'_> {
         self.all.push((format.as_ref().to_vec(), text.as_ref().to_vec()));
     }
 
-    /// Moments of years that the C library writes as we do: ends of years, and others.
+    /// Moments of years that the C library writes as we do: ends of years, and others; with any offset.
     fn moments(&mut self, count: usize) -> Vec<Moment> {
         let mut all = vec![[2000, 2, 29, 23, 7, 8]];
         for year in [1000, 1582, 1900, 1999, 2000, 2009, 2010, 2016, 2017, 2024, 9999] {
             all.push([year, 1, 1, 0, 0, 0]);
             all.push([year, 12, 31, 12, 59, 60]);
         }
-        let first = self.cal.days.iter().position(|d| d.year == 1000).unwrap();
+        let first = self.cal.place(1000, 1, 1);
         for _ in 0..count {
             let (year, month, day) = self.random.pick(&self.cal.days[first..]).date();
             all.push([year, month, day, self.random.from(0, 23), self.random.from(0, 59), self.random.from(0, 60)]);
         }
-        all
+        all.into_iter().map(|fields| Moment::new(fields).with_offset(self.offset())).collect()
+    }
+
+    /// Any offset, the ends among them.
+    fn offset(&mut self) -> i32 {
+        let any = self.random.from(0, 2 * 1439) as i32 - 1439;
+        *self.random.pick(&[any, any, any, -1439, -30, 0, 1439])
     }
 
     /// Texts by the C library, and in other hands: letters of either case, zeros left out, more white space, more text.
@@ -221,9 +240,11 @@ impl Cases<'_> {
                 let text = String::from_utf8(c_library::strftime(self.cal, format.as_bytes(), &m)).unwrap();
                 let r = read(self.cal, format.as_bytes(), text.as_bytes());
                 assert_eq!((r.number, r.place as usize), (0, text.len()), "{text} by {format}");
-                assert_eq!(r.day, if names_day { Some((m[0], m[1], m[2])) } else { None }, "{text} by {format}");
-                assert_eq!(r.hour, if names_hour { Some(m[3]) } else { None }, "{text} by {format}");
-                assert!(r.minute.unwrap_or(m[4]) == m[4] && r.second.unwrap_or(m[5]) == m[5], "{text} by {format}");
+                let [_, _, _, hour, minute, second] = m.fields;
+                assert_eq!(r.day, if names_day { Some(m.date()) } else { None }, "{text} by {format}");
+                assert_eq!(r.hour, if names_hour { Some(hour) } else { None }, "{text} by {format}");
+                assert!(r.minute.unwrap_or(minute) == minute && r.second.unwrap_or(second) == second, "{text} by {format}");
+                assert_eq!(r.offset, if format.contains("%z") { m.offset } else { None }, "{text} by {format}");
                 self.add(format, &text);
                 last = text;
             }
@@ -245,6 +266,7 @@ impl Cases<'_> {
             ("%I:%M %p", "12:30 AM"),
             ("%A %U %Y", "Wednesday 36 2022"),
             ("%j%y%C", "3669619"),
+            ("%H%z%S", "07-013009"),
         ] {
             let text = text.as_bytes();
             for at in 0..text.len() {
@@ -451,7 +473,7 @@ impl Cases<'_> {
         self.add("%EY".repeat(256), "1934".repeat(256));
         self.add("%c".repeat(40), margin.repeat(40));
         self.add("%c".repeat(512), margin.repeat(42));
-        for bad in ["%", "%E", "%O", "%Ed", "%Oc", "%Q", "%5m", "%-d", "%E%", "%s", "%z", "%Z", "%+"] {
+        for bad in ["%", "%E", "%O", "%Ed", "%Oc", "%Q", "%5m", "%-d", "%E%", "%s", "%Ez", "%Z", "%+"] {
             for before in ["", "%Y ", "%%%c", "x"] {
                 self.add(format!("{before}{bad}"), "1934 x");
             }
@@ -481,11 +503,12 @@ impl Cases<'_> {
             let other = (i as i64 + off).clamp(0, self.cal.days.len() as i64 - 1) as usize;
             let clock = [self.random.from(0, 23), self.random.from(0, 59), self.random.from(0, 60)];
             let conversions = 1 + self.random.below(6);
-            let letters = self.random.sample(b"YYCyymmbddejjauwUWGgVVHIIpMS", conversions);
+            let letters = self.random.sample(b"YYCyymmbddejjauwUWGgVVHIIpMSzz", conversions);
+            let offset = self.offset();
             let formats: Vec<String> = letters.iter().map(|l| format!("%{}", *l as char)).collect();
             let text_of = |place: usize| {
                 let (year, month, day) = self.cal.days[if place + 1 == conversions { other } else { i }].date();
-                let m = [year, month, day, clock[0], clock[1], clock[2]];
+                let m = Moment::new([year, month, day, clock[0], clock[1], clock[2]]).with_offset(offset);
                 String::from_utf8(write(self.cal, formats[place].as_bytes(), &m, 9).2).unwrap()
             };
             let texts: Vec<String> = (0..conversions).map(text_of).collect();
@@ -514,8 +537,9 @@ fn line_of(r: &Reading, reason: Option<&Reason>) -> String {
         _ => String::new(),
     };
     let time = format!("{} {} {}", said(r.hour), said(r.minute), said(r.second));
+    let offset = r.offset.map_or("-".to_string(), |minutes| format!("{minutes:+}"));
     let (weekday, month) = (form_name(r.forms.weekday), form_name(r.forms.month));
-    format!("{} {} {day} {time} | {shown} | {} | {weekday} {month} | {}\n", r.number, r.place, r.examined, reason_of(reason))
+    format!("{} {} {day} {time} {offset} | {shown} | {} | {weekday} {month} | {}\n", r.number, r.place, r.examined, reason_of(reason))
 }
 
 fn reason_of(reason: Option<&Reason>) -> String {
@@ -563,8 +587,9 @@ pub fn make(cal: &Calendar, input_path: &Path, output_path: &Path) -> std::io::R
     cases.hours();
     cases.white_space();
     cases.limits();
-    cases.drawn(360);
+    cases.drawn(400);
     cases.reasons();
+    cases.offsets();
     let (mut input, mut output) = (Vec::new(), String::new());
     let mut counts = Counts::default();
     for (format, text) in &cases.all {
@@ -576,6 +601,7 @@ pub fn make(cal: &Calendar, input_path: &Path, output_path: &Path) -> std::io::R
         });
         counts.count(format!("weekday {}", form_name(reading.forms.weekday)));
         counts.count(format!("month {}", form_name(reading.forms.month)));
+        counts.count(format!("offset {}", if reading.offset.is_some() { "said" } else { "unsaid" }));
         counts.count(format!("reason {}", sort_of(reason.as_ref())));
         input.extend(cat(&[format, b"\n", text, b"\n"]));
         output += &line_of(&reading, reason.as_ref());
