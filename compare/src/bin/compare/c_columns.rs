@@ -17,11 +17,11 @@
 //! | `%5^a` `%E5y` `%+d` `%5Q` `%5` | copied as they stand, some filled | 3 | what is unknown or unfinished is refused |
 //!
 //! The first four are those that `coincide` names; all the others are no conversions here.
-use crate::elements::LETTERS;
 use crate::library;
 use compare::c_library::{coincide, strftime};
+use compare::elements::LETTERS;
 use compare::random::Random;
-use compare::rules::{Calendar, Conversion, Moment, PAIRS};
+use compare::rules::{Calendar, Conversion, Moment, Use, PAIRS};
 
 /// The moments drawn for each format.
 const MOMENTS: usize = 300;
@@ -33,7 +33,7 @@ fn moments(random: &mut Random, cal: &Calendar) -> Vec<Moment> {
         let (year, month, day) = random.pick(&cal.days).date();
         all.push([year, month, day, random.from(0, 23), random.from(0, 59), random.from(0, 60)]);
     }
-    all
+    all.into_iter().map(Moment::new).collect()
 }
 
 /// Returns how many writings were compared.
@@ -45,8 +45,8 @@ pub fn compare(random: &mut Random, cal: &Calendar, mut differs: impl FnMut(&dyn
         let letter = tail.as_bytes()[tail.len() - 1];
         for flag in [0, b'_', b'-', b'0', b'^'] {
             for width in 0..=99 {
-                let c = Conversion { letter, flag, width };
-                if !c.is_known() {
+                let c = Conversion { letter, flag, width, at: 0 };
+                if !c.is_taken(Use::Writing) {
                     continue;
                 }
                 let mut format = String::from("%");
@@ -60,7 +60,7 @@ pub fn compare(random: &mut Random, cal: &Calendar, mut differs: impl FnMut(&dyn
                 for m in moments(random, cal).iter().filter(|m| coincide(&c, m)) {
                     let theirs = strftime(cal, format.as_bytes(), m);
                     let mut ours = vec![0; theirs.len()];
-                    let found = library::strftime(format.as_bytes(), m, &mut ours);
+                    let found = library::strftime(format.as_bytes(), &library::moment_words(m), &mut ours);
                     count += 1;
                     if found != (0, theirs.len() as u32) || ours != theirs {
                         differs(&(&format, m, found, String::from_utf8_lossy(&ours), String::from_utf8_lossy(&theirs)));

@@ -1,12 +1,14 @@
 //! Random formats, moments and texts: well formed, damaged, contradictory, and nonsense.
-use crate::elements::LETTERS;
+use compare::elements::LETTERS;
 use compare::random::Random;
 use compare::rules::{forms_of, month_length, numeric, written, Calendar, Item, Moment, MONTHS, NAMED, PAIRS, WEEKDAYS};
 
 const DATES: &[u8] = b"YCymdejuwaAbBhUWGgV";
 const TIMES: &[u8] = b"HkIlpPMS";
 const COMPOSITES: &[u8] = b"cxXDFRTr";
-const TYPICAL: [&str; 24] = [
+/// The offset, and the seconds that it is taken off; no text is read by the last.
+const ZONES: &[u8] = b"zzzzs";
+const TYPICAL: [&str; 28] = [
     "%Y-%m-%d %H:%M:%S",
     "%FT%T",
     "%c",
@@ -31,7 +33,16 @@ const TYPICAL: [&str; 24] = [
     "%Od %Om %EY",
     "%y %j",
     "%l %P",
+    "%FT%T%z",
+    "%a, %d %b %Y %T %z",
+    "%s",
+    "%s %z",
 ];
+
+/// The ends of what an offset may be, about zero, and about an hour.
+const OFFSETS: [i32; 12] = [-1439, -1438, -60, -59, -30, -1, 0, 1, 59, 60, 90, 1439];
+/// Offsets that are none.
+const OUTSIDE: [i32; 10] = [-1440, 1440, -1441, 1441, 1 << 16, 90 - (1 << 16), 1 << 24, i32::MAX, -i32::MAX, i32::MIN];
 
 fn conversion(out: &mut Vec<u8>, letter: u8) {
     out.extend_from_slice(&[b'%', letter]);
@@ -60,7 +71,8 @@ fn token(random: &mut Random, out: &mut Vec<u8>) {
             out.push(b'%');
             out.extend_from_slice(random.pick(&PAIRS).as_bytes());
         }
-        87..=92 => out.push(random.next() as u8),
+        87..=90 => out.push(random.next() as u8),
+        91..=92 => conversion(out, *random.pick(ZONES)),
         93..=98 => conversion(out, *random.pick(b"nt%")),
         _ => {
             // bad: an unknown letter, a wrong pair, an unfinished conversion
@@ -101,7 +113,43 @@ fn dated(random: &mut Random) -> Vec<u8> {
     out
 }
 
+/// A format; in two cases of five a %z or a %s is put into it.
 pub fn format(random: &mut Random) -> Vec<u8> {
+    let mut out = any_format(random);
+    if random.chance(40) {
+        for _ in 0..1 + random.below(2) {
+            put_zone(random, &mut out);
+        }
+    }
+    out
+}
+
+/// Before a format, after it, or anywhere: a %z or a %s, with or without blanks around it.
+fn put_zone(random: &mut Random, format: &mut Vec<u8>) {
+    let at = match random.below(10) {
+        0..=3 => 0,
+        4..=8 => format.len(),
+        _ => random.below(format.len() + 1),
+    };
+    let letter = *random.pick(ZONES) as char;
+    let (before, after) = *random.pick(&[("", ""), ("", " "), (" ", ""), (" ", " "), ("%n", ","), ("T", "%%")]);
+    format.splice(at..at, format!("{before}%{letter}{after}").bytes());
+}
+
+/// A short format of offsets and times of day, by which no day is looked for.
+pub fn zoned_format(random: &mut Random) -> Vec<u8> {
+    let mut out = Vec::new();
+    for _ in 0..random.below(4) {
+        conversion(&mut out, *random.pick(TIMES));
+        between(random, &mut out);
+    }
+    for _ in 0..1 + random.below(2) {
+        put_zone(random, &mut out);
+    }
+    out
+}
+
+fn any_format(random: &mut Random) -> Vec<u8> {
     let mut out = Vec::new();
     match random.below(100) {
         0..=14 => out.extend_from_slice(random.pick(&TYPICAL).as_bytes()),
@@ -229,7 +277,9 @@ pub fn with_columns(random: &mut Random, format: &[u8]) -> Vec<u8> {
 
 /// An entry of a list of elements: a byte, a conversion of any offset, flag and width, or what no opening makes.
 pub fn entry(random: &mut Random) -> u32 {
-    let letter = *random.pick(LETTERS);
+    let letters = if random.chance(20) { ZONES } else { LETTERS };
+    let letter = *random.pick(letters);
+    let flags = if flags(letter).is_empty() { b"_-0^" } else { flags(letter) };
     let plain = 256 * random.from(1, 1023) + letter as u32;
     let wide = (1 << 18) * random.from(0, 99);
     match random.below(16) {
@@ -239,7 +289,7 @@ pub fn entry(random: &mut Random) -> u32 {
         5 => 256 * *random.pick(&[1024, 1025, 2048, 65536, 0xff_ffff]) + letter as u32,
         6 | 7 => 256 * random.from(1, 1023) + random.from(0, 255),
         8 => plain + wide,
-        9 | 10 => plain + wide + (1 << 25) * *random.pick(flags(letter)) as u32,
+        9 | 10 => plain + wide + (1 << 25) * *random.pick(flags) as u32,
         11 => plain + wide + (1 << 25) * *random.pick(b"_-0^+#1ad\x01\x7f") as u32,
         12 => plain + (1 << 18) * random.from(98, 127),
         13 => letter as u32 + wide + (1 << 25) * *random.pick(b"\x00_-0^") as u32,
@@ -247,13 +297,25 @@ pub fn entry(random: &mut Random) -> u32 {
     }
 }
 
-pub fn moment(random: &mut Random) -> Moment {
+/// An offset: any, or one at the ends or about zero.
+fn offset(random: &mut Random) -> i32 {
+    let any = random.from(0, 2 * 1439) as i32 - 1439;
+    if random.chance(60) {
+        any
+    } else {
+        *random.pick(&OFFSETS)
+    }
+}
+
+/// A moment with an offset.
+fn moment(random: &mut Random) -> Moment {
     let mut m = [random.from(1, 9999), random.from(1, 12), 1, random.from(0, 23), random.from(0, 59), random.from(0, 60)];
     match random.below(20) {
         0 => m[0] = random.from(1, 20),
         1 => m[0] = random.from(9980, 9999),
         2 => m[0] = random.from(1, 99) * 100,
         3..=6 => m[0] = random.from(1900, 2100),
+        7 => m[0] = random.from(1969, 1970),
         _ => {}
     }
     m[2] = random.from(1, month_length(m[0], m[1]));
@@ -263,16 +325,22 @@ pub fn moment(random: &mut Random) -> Moment {
         m[1] = month;
         m[2] = day;
     }
-    m
+    Moment::new(m).with_offset(offset(random))
 }
 
-/// The moment of a writing: in some cases one or two of its fields are bad.
-pub fn fields(random: &mut Random) -> Moment {
+/// The moment of a writing: in some cases its offset is unsaid, and in some one or two of its fields are bad, or the offset is.
+pub fn written_moment(random: &mut Random) -> Moment {
     let mut m = moment(random);
+    if random.chance(25) {
+        m.offset = None;
+    }
+    if random.chance(4) {
+        m.offset = Some(*random.pick(&OUTSIDE));
+    }
     if random.chance(10) {
         for _ in 0..1 + random.below(2) {
             let field = random.below(6);
-            m[field] = *random.pick(&[0, 1, 13, 24, 28, 29, 30, 31, 32, 59, 60, 61, 9999, 10000, 65536, 65537, 1 << 31, u32::MAX]);
+            m.fields[field] = *random.pick(&[0, 1, 13, 24, 28, 29, 30, 31, 32, 59, 60, 61, 9999, 10000, 65536, 65537, 1 << 31, u32::MAX]);
         }
     }
     m
@@ -329,43 +397,72 @@ fn name(random: &mut Random, full: &str) -> Vec<u8> {
     out
 }
 
-/// What an item writes for a moment; with `any_form` a weekday or a month as `name` has it.
-fn said(random: &mut Random, cal: &Calendar, item: &Item, m: &Moment, any_form: bool) -> Vec<u8> {
-    match item {
-        Item::Conversion(c) if any_form && b"aA".contains(&c.letter) => {
-            let weekday = cal.find(m[0], m[1], m[2]).weekday;
-            name(random, WEEKDAYS[weekday as usize - 1])
+/// An offset as a text may have it, which is in most cases as it is written: or else of no minutes, of hours and minutes about their
+/// ends, of any digits, of more or fewer than four, after a blank, or after what is no sign.
+fn zone(random: &mut Random, mut written: Vec<u8>) -> Vec<u8> {
+    let sign = *random.pick(b"+-") as char;
+    match random.below(20) {
+        0 => format!("{sign}0000").into_bytes(),
+        1 => format!("{sign}{:02}{:02}", random.from(21, 25), random.from(57, 62)).into_bytes(),
+        2 => format!("{sign}{:04}", random.below(10_000)).into_bytes(),
+        3 => format!("{sign}{}", random.below(100_000)).into_bytes(),
+        4 => {
+            written.insert(0, *random.pick(b" \t\r"));
+            written
         }
-        Item::Conversion(c) if any_form && b"bBh".contains(&c.letter) => name(random, MONTHS[m[1] as usize - 1]),
-        _ => written(cal, &[*item], m),
+        5 => {
+            written[0] = random.next() as u8;
+            written
+        }
+        6 => random.pick(&["", "Z", "UTC", "+01:30", "-1:30", "+01", "-"]).as_bytes().to_vec(),
+        _ => written,
+    }
+}
+
+/// What an item writes for a moment; with `in_other_hands` a weekday or a month as `name` has it, and an offset as `zone` has it.
+fn said(random: &mut Random, cal: &Calendar, item: &Item, m: &Moment, in_other_hands: bool) -> Vec<u8> {
+    let as_written = written(cal, &[*item], m);
+    match item {
+        Item::Conversion(c) if in_other_hands => match c.letter {
+            b'a' | b'A' => {
+                let (year, month, day) = m.date();
+                name(random, WEEKDAYS[cal.find(year, month, day).weekday as usize - 1])
+            }
+            b'b' | b'B' | b'h' => name(random, MONTHS[m.fields[1] as usize - 1]),
+            b'z' => zone(random, as_written),
+            _ => as_written,
+        },
+        _ => as_written,
     }
 }
 
 /// A text for some items: what they write for a moment, with other things said here and there, then damaged or not.
 pub fn text(random: &mut Random, cal: &Calendar, items: &[Item]) -> Vec<u8> {
     let m = moment(random);
-    let any_form = random.chance(60);
+    let in_other_hands = random.chance(60);
     let mut out = Vec::new();
     match random.below(100) {
         0..=39 => {
             for item in items {
-                out.extend(said(random, cal, item, &m, any_form));
+                out.extend(said(random, cal, item, &m, in_other_hands));
             }
         }
         40..=69 => {
             // some elements written for another moment, near or far: facts that quarrel
             let mut other = m;
-            match random.below(5) {
+            let (year, month, day) = m.date();
+            match random.below(6) {
                 0 => other = moment(random),
-                1 => other[0] = if m[0] > 1 && !(m[1] == 2 && m[2] == 29) { m[0] - 1 } else { m[0] },
-                2 => other[2] = random.from(1, month_length(m[0], m[1])),
-                3 => other[1..3].copy_from_slice(&[random.from(1, 12), random.from(1, 28)]),
-                _ => other[3..].copy_from_slice(&[random.from(0, 23), random.from(0, 59), random.from(0, 60)]),
+                1 if year > 1 && (month, day) != (2, 29) => other.fields[0] = year - 1,
+                1 | 2 => other.fields[2] = random.from(1, month_length(year, month)),
+                3 => other.fields[1..3].copy_from_slice(&[random.from(1, 12), random.from(1, 28)]),
+                4 => other.offset = Some(offset(random)),
+                _ => other.fields[3..].copy_from_slice(&[random.from(0, 23), random.from(0, 59), random.from(0, 60)]),
             }
             let odds = *random.pick(&[5, 20, 50]);
             for item in items {
                 let which = if random.chance(odds) { &other } else { &m };
-                out.extend(said(random, cal, item, which, any_form));
+                out.extend(said(random, cal, item, which, in_other_hands));
             }
         }
         70..=89 => {
@@ -384,7 +481,7 @@ pub fn text(random: &mut Random, cal: &Calendar, items: &[Item]) -> Vec<u8> {
                         }
                         out.extend(n.to_string().bytes());
                     }
-                    _ => out.extend(said(random, cal, item, &m, any_form)),
+                    _ => out.extend(said(random, cal, item, &m, in_other_hands)),
                 }
             }
         }

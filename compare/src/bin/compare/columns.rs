@@ -1,15 +1,19 @@
 //! Every flag and width before every letter: written, opened and read, against the rules.
-use crate::elements::Opened;
 use crate::library::{self, By, Lent, SKIPPING};
 use crate::readings::{explained_otherwise, read_otherwise};
+use compare::elements::Opened;
 use compare::random::Random;
 use compare::rules::{self, Calendar, Engine, Moment, Use};
 
 /// None, the four, and one that is none.
 const FLAGS: [&str; 6] = ["", "_", "-", "0", "^", "+"];
 const PAIRED: [&str; 3] = ["", "E", "O"];
-/// Numbers of one digit and of as many as there can be; names and halves of either length.
-const MOMENTS: [Moment; 3] = [[5, 3, 5, 0, 8, 9], [1934, 11, 28, 12, 59, 60], [2016, 1, 1, 23, 0, 0]];
+/// Numbers of one digit and of as many as there can be; names and halves of either length; offsets of either sign and none.
+const MOMENTS: [Moment; 3] = [
+    Moment::new([5, 3, 5, 0, 8, 9]).with_offset(-30),
+    Moment::new([1934, 11, 28, 12, 59, 60]),
+    Moment::new([2016, 1, 1, 23, 0, 0]).with_offset(1439),
+];
 
 /// None, 1 to 99, and such as are none.
 fn widths() -> Vec<String> {
@@ -53,7 +57,7 @@ fn compare_writings(random: &mut Random, cal: &Calendar, format: &[u8], m: &Mome
     for room in [needed + 3, needed.saturating_sub(1)] {
         let (number, place, bytes) = rules::write(cal, format, m, room);
         let mut out = Lent::new(random, room, |n| n as u8);
-        let found = library::strftime(format, m, out.slice());
+        let found = library::strftime(format, &library::moment_words(m), out.slice());
         if found != (number, place) || !out.is(&bytes) {
             differs(&(String::from_utf8_lossy(format), m, room, found, (number, place)));
         }

@@ -1,8 +1,8 @@
 //! Sets of date facts: of every set of kinds, agreeing with a day and quarrelling, most of them without a year.
-use crate::elements::Opened;
 use crate::library::By;
 use crate::readings::{self, Engines, Judged, READ, STRPTIME};
 use crate::Tally;
+use compare::elements::Opened;
 use compare::random::Random;
 use compare::rules::{self, numeric, Calendar, Day, Facts, Use, DAYS};
 

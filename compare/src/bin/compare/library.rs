@@ -3,7 +3,7 @@ use compare::random::Random;
 use compare::rules::Moment;
 
 /// The words of a reading, and those of a reason.
-pub const WORDS: usize = 18;
+pub const WORDS: usize = 20;
 pub const REASON_WORDS: usize = 33;
 const GUARD: usize = 24;
 
@@ -37,13 +37,7 @@ mod raw {
             budget: u32,
             reading: *mut u32,
         ) -> u64;
-        pub fn larusqem_explain_words(
-            format: *const u8,
-            format_length: usize,
-            text: *const u8,
-            text_length: usize,
-            reason: *mut u32,
-        );
+        pub fn larusqem_explain_words(format: *const u8, format_length: usize, text: *const u8, text_length: usize, reason: *mut u32);
         pub fn larusqem_explain_read_words(
             elements: *const u32,
             elements_length: usize,
@@ -73,11 +67,31 @@ fn split(result: u64) -> (u32, u32) {
     ((result >> 32) as u32, result as u32)
 }
 
-pub fn strftime(format: &[u8], m: &Moment, out: &mut [u8]) -> (u32, u32) {
+/// The words of a moment.
+pub type MomentWords = [u32; 8];
+
+/// A moment as its words (RULES 10).
+pub fn moment_words(m: &Moment) -> MomentWords {
+    let [year, month, day, hour, minute, second] = m.fields;
+    let (said, offset) = m.offset.map_or((0, 0), |minutes| (1, minutes as u32));
+    [year, month, day, hour, minute, second, said, offset]
+}
+
+/// The same as others may give it: any number but 0 for an offset that is said, and anything for one that is not.
+pub fn any_moment_words(random: &mut Random, m: &Moment) -> MomentWords {
+    let mut words = moment_words(m);
+    match m.offset {
+        Some(_) => words[6] = *random.pick(&[1, 1, 1, 2, 256, 1 << 16, 1 << 31, u32::MAX]),
+        None => words[7] = random.next() as u32 >> random.below(32),
+    }
+    words
+}
+
+pub fn strftime(format: &[u8], m: &MomentWords, out: &mut [u8]) -> (u32, u32) {
     split(unsafe { raw::larusqem_strftime_words(format.as_ptr(), format.len(), m.as_ptr(), out.as_mut_ptr(), out.len()) })
 }
 
-pub fn write(elements: &[u32], m: &Moment, out: &mut [u8]) -> (u32, u32) {
+pub fn write(elements: &[u32], m: &MomentWords, out: &mut [u8]) -> (u32, u32) {
     split(unsafe { raw::larusqem_write_words(elements.as_ptr(), elements.len(), m.as_ptr(), out.as_mut_ptr(), out.len()) })
 }
 

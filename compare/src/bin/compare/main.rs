@@ -1,37 +1,65 @@
 //! Compares the proved library with an independent implementation of the rules (`rules.rs`) on random cases, on every flag and width, on
-//! every set of kinds of facts, on every beginning of a name and on kinds that quarrel, its readings by every engine and with reasons, its
-//! writer with the C library's strftime on every day of the years 1000 to 9999 and on flags and widths, and its white space with isspace on
-//! every byte.
+//! every set of kinds of facts, on every beginning of a name, on kinds that quarrel and on every offset, its readings by every engine and
+//! with reasons, its writer with the C library's strftime on every day of the years 1000 to 9999, on flags and widths and on every offset,
+//! and with timegm on every day, and its white space with isspace on every byte.
 //! Usage: compare SECONDS [SEED]
 mod c_columns;
 mod c_days;
 mod c_spaces;
 mod cases;
 mod columns;
-mod elements;
 mod facts;
 mod library;
 mod names;
 mod quarrels;
 mod readings;
 mod speed;
+mod writings;
+mod zones;
 
+use compare::elements::{self, Opened};
 use compare::random::Random;
-use compare::rules::{self, Calendar, Reading, Reason, Use};
-use elements::Opened;
+use compare::rules::{self, Calendar, Item, Moment, Reading, Reason, Use};
+use compare::{c_offsets, c_seconds};
 use library::{By, Lent};
 use readings::{form_number, Engines, Judged, READ, STRANGE, STRPTIME};
 use std::collections::BTreeMap;
+use std::ops::{AddAssign, Sub};
 use std::time::{Duration, Instant};
+use writings::Name;
 
 /// What tells the writings by a format with flags and widths apart.
 const COLUMNS: &str = "flags and widths";
 
-/// How often each outcome came: a function, a number, and what tells its cases apart; each form of weekday and month names, or none; and
-/// each sort of reason, or none, with how many kinds it names.
+/// How many writings and readings there were.
+#[derive(Clone, Copy, Default)]
+struct Calls {
+    writings: u64,
+    readings: u64,
+}
+
+impl Sub for Calls {
+    type Output = Calls;
+
+    fn sub(self, before: Calls) -> Calls {
+        Calls { writings: self.writings - before.writings, readings: self.readings - before.readings }
+    }
+}
+
+impl AddAssign for Calls {
+    fn add_assign(&mut self, more: Calls) {
+        self.writings += more.writings;
+        self.readings += more.readings;
+    }
+}
+
+/// How often each outcome came: a function, a number, and what tells its cases apart; all writings and readings, and those with a %z or a
+/// %s; each form of weekday and month names, or none; and each sort of reason, or none, with how many kinds it names.
 #[derive(Default)]
 struct Tally {
     counts: BTreeMap<(&'static str, u32, &'static str), u64>,
+    calls: Calls,
+    zoned: Calls,
     forms: [[u64; 4]; 2],
     reasons: BTreeMap<(&'static str, usize), u64>,
     differences: u64,
@@ -42,7 +70,20 @@ impl Tally {
         *self.counts.entry((function, number, which)).or_insert(0) += 1;
     }
 
+    fn count_writing(&mut self, function: &'static str, number: u32, which: &'static str) {
+        self.calls.writings += 1;
+        self.count(function, number, which);
+    }
+
+    /// Counts what was called since then among what is by a %z or a %s, if the items have one.
+    fn count_zoned(&mut self, before: Calls, items: &[Item]) {
+        if items.iter().any(|item| matches!(item, Item::Conversion(c) if b"zs".contains(&c.letter))) {
+            self.zoned += self.calls - before;
+        }
+    }
+
     fn count_reading(&mut self, function: &'static str, r: &Reading) {
+        self.calls.readings += 1;
         let which = match (r.number, r.place) {
             (0, _) if r.day.is_some() => "with a day",
             (0, _) => "with no day",
@@ -76,49 +117,8 @@ impl Tally {
     }
 }
 
-/// A buffer's room: none, too little by one, just enough, some more, or anything.
-fn room(random: &mut Random, needed: usize) -> usize {
-    match random.below(6) {
-        0 => random.below(needed + 1),
-        1 => needed.saturating_sub(1),
-        2 => needed,
-        3 => needed + 1,
-        4 => needed + random.below(40),
-        _ => *random.pick(&[0, 1, 2, 64, 256]),
-    }
-}
-
-/// `larusqem_strftime_words` by a format.
-fn compare_strftime(random: &mut Random, cal: &Calendar, tally: &mut Tally, format: &[u8], which: &'static str) {
-    let m = cases::fields(random);
-    let needed = rules::write(cal, format, &m, usize::MAX).2.len();
-    let room = room(random, needed);
-    let (number, place, bytes) = rules::write(cal, format, &m, room);
-    let mut out = Lent::new(random, room, |n| n as u8);
-    let found = library::strftime(format, &m, out.slice());
-    tally.count("strftime", number, which);
-    if found != (number, place) || !out.is(&bytes) {
-        tally.differs("larusqem_strftime_words", &(format, m, room, found, (number, place)));
-    }
-}
-
-/// `larusqem_write_words` by elements, or by any entries.
-fn compare_write(random: &mut Random, cal: &Calendar, tally: &mut Tally, function: &'static str, entries: &[u32], which: &'static str) {
-    let m = cases::fields(random);
-    let opened = elements::items(entries, Use::Writing);
-    let needed = rules::write_opened(cal, &opened, &m, usize::MAX).2.len();
-    let room = room(random, needed);
-    let (number, place, bytes) = rules::write_opened(cal, &opened, &m, room);
-    let mut out = Lent::new(random, room, |n| n as u8);
-    let found = library::write(entries, &m, out.slice());
-    tally.count(function, number, which);
-    if found != (number, place) || !out.is(&bytes) {
-        tally.differs("larusqem_write_words", &(entries, m, room, found, (number, place)));
-    }
-}
-
-/// Both readers on a text: by the format, and by the elements that it opens to for writing, which without flags and widths are those for
-/// reading.
+/// Both readers on a text: by the format, and by the elements that it opens to for writing, which without flags, widths and %s are those
+/// for reading.
 fn compare_reading(random: &mut Random, cal: &Calendar, tally: &mut Tally, format: &[u8], opened: &Opened) {
     let text = cases::text(random, cal, &opened.items);
     let judged = Judged::new(cal, rules::matched(cal, format, &text));
@@ -159,18 +159,21 @@ fn compare_format(
     writings: u32,
     readings: u32,
 ) {
+    let before = tally.calls;
     let opened = Opened::new(format, Use::Writing);
     compare_opening(random, tally, format, &opened, Use::Writing);
     compare_opening(random, tally, format, &Opened::new(format, Use::Reading), Use::Reading);
     for _ in 0..writings {
-        compare_strftime(random, cal, tally, format, which);
+        let m = cases::written_moment(random);
+        writings::by_format(random, cal, tally, format, &m, which);
         if opened.whole {
-            compare_write(random, cal, tally, "write", &opened.elements, which);
+            writings::by_elements(random, cal, tally, &opened.elements, &m, Name { function: "write", which });
         }
     }
     for _ in 0..readings {
         compare_reading(random, cal, tally, format, &opened);
     }
+    tally.count_zoned(before, &opened.items);
 }
 
 /// A format, and the same with flags and widths, which no reading takes.
@@ -199,8 +202,13 @@ fn compare_strange(random: &mut Random, cal: &Calendar, tally: &mut Tally) {
     if random.chance(5) {
         let fill = if random.chance(50) { b' ' as u32 } else { cases::entry(random) };
         entries.resize(elements::MOST - 6 + random.below(20), fill);
+        if let (Some(entry), true) = (entries.get_mut(elements::MOST), random.chance(50)) {
+            *entry = cases::entry(random);
+        }
     }
-    compare_write(random, cal, tally, "write, strange", &entries, "");
+    let before = tally.calls;
+    let m = cases::written_moment(random);
+    writings::by_elements(random, cal, tally, &entries, &m, Name { function: "write, strange", which: "" });
 
     let opened = elements::items(&entries, Use::Reading);
     let good = match elements::items(&entries, Use::Writing) {
@@ -213,6 +221,7 @@ fn compare_strange(random: &mut Random, cal: &Calendar, tally: &mut Tally) {
     }
     let judged = Judged::new(cal, rules::matched_opened(cal, &opened, &text));
     readings::compare(random, tally, &STRANGE, Engines::Drawn, By::Elements(&entries), &text, &judged);
+    tally.count_zoned(before, &good);
 }
 
 /// Every day of the calendar, and numbers and fields that are none.
@@ -234,7 +243,7 @@ fn compare_days(random: &mut Random, cal: &Calendar, tally: &mut Tally) {
     }
     *tally.counts.entry(("days", 0, "")).or_insert(0) += cal.days.len() as u64;
     let mut no_date = |year: u32, month: u32, day: u32| {
-        if rules::bad_field(&[year, month, day, 0, 0, 0]).is_some() {
+        if rules::bad_field(&Moment::new([year, month, day, 0, 0, 0])).is_some() {
             let found = library::of_date(year, month, day);
             tally.count("no date", 0, "");
             if found != [0; 5] {
@@ -248,9 +257,9 @@ fn compare_days(random: &mut Random, cal: &Calendar, tally: &mut Tally) {
         }
     }
     for _ in 0..200_000 {
-        let mut m = cases::fields(random);
-        m[random.below(3)] = random.next() as u32;
-        no_date(m[0], m[1], m[2]);
+        let mut date = cases::written_moment(random).fields;
+        date[random.below(3)] = random.next() as u32;
+        no_date(date[0], date[1], date[2]);
     }
     for _ in 0..200_000 {
         let any = (random.next() as u32).max(3_652_060);
@@ -282,7 +291,17 @@ fn main() {
     println!("{:6.1} s  the calendar, day by day", began.elapsed().as_secs_f64());
 
     let days = c_days::compare(&mut random, &cal, |case| tally.differs("larusqem_strftime_words against the C library", case));
-    println!("{:6.1} s  the C library's strftime: {days} days of the years 1000 to 9999, every conversion", began.elapsed().as_secs_f64());
+    println!(
+        "{:6.1} s  the C library's strftime: {days} days of the years 1000 to 9999, every conversion but %s",
+        began.elapsed().as_secs_f64()
+    );
+
+    let writer = |format: &[u8], m: &Moment, out: &mut [u8]| library::strftime(format, &library::moment_words(m), out);
+    let offsets = c_offsets::compare(&mut random, &cal, writer, |case| tally.differs("%z against the C library", case));
+    println!("{:6.1} s  the C library's strftime: {offsets} writings of all 2879 offsets, and unsaid", began.elapsed().as_secs_f64());
+
+    let moments = c_seconds::compare(&mut random, &cal, writer, |case| tally.differs("%s against the C library", case));
+    println!("{:6.1} s  the C library's timegm: {moments} writings of %s, on every day of the calendar", began.elapsed().as_secs_f64());
 
     c_spaces::compare(|case| tally.differs("white space against the C library", case));
     println!("{:6.1} s  the C library's isspace: 256 bytes, in formats, in texts and before numbers", began.elapsed().as_secs_f64());
@@ -307,11 +326,19 @@ fn main() {
     let texts = quarrels::compare(&mut random, &cal, &mut tally);
     println!("{:6.1} s  {texts} texts of kinds that quarrel, each kind's number changed, and of all hours", began.elapsed().as_secs_f64());
 
+    let offsets = zones::compare(&mut random, &cal, &mut tally);
+    println!("{:6.1} s  {offsets} texts and writings of offsets: every sign and digits, every offset", began.elapsed().as_secs_f64());
+
     let cases_began = Instant::now();
     let mut formats = 0u64;
     while cases_began.elapsed() < Duration::from_secs(seconds) {
         for _ in 0..200 {
             compare_formats(&mut random, &cal, &mut tally);
+            formats += 1;
+        }
+        for _ in 0..200 {
+            let format = cases::zoned_format(&mut random);
+            compare_format(&mut random, &cal, &mut tally, &format, "", 2, 4);
             formats += 1;
         }
         for _ in 0..40 {
@@ -337,6 +364,7 @@ fn main() {
         let names = [STRPTIME[engine], READ[engine], STRANGE[engine]];
         tally.counts.iter().filter(|((f, n, _), _)| names.contains(f) && (*n == 11) == over).map(|(_, n)| n).sum::<u64>()
     };
+    println!("with %z or %s in the format: {} writings and {} readings", tally.zoned.writings, tally.zoned.readings);
     println!(
         "readings: {} by the skipping engine, {} by the plain one, {} within their budget, {} refused by it",
         by(0, false),

@@ -27,7 +27,7 @@ pub fn form_number(form: Option<Form>) -> usize {
     }
 }
 
-/// A reading as its eighteen words (RULES 10).
+/// A reading as its twenty words (RULES 10).
 pub fn words(r: &Reading) -> [u32; WORDS] {
     let mut w = [0; WORDS];
     w[0] = r.number;
@@ -53,6 +53,10 @@ pub fn words(r: &Reading) -> [u32; WORDS] {
     w[15] = r.examined;
     w[16] = form_number(r.forms.weekday) as u32;
     w[17] = form_number(r.forms.month) as u32;
+    if let Some(minutes) = r.offset {
+        w[18] = 1;
+        w[19] = minutes as u32;
+    }
     w
 }
 
@@ -85,7 +89,6 @@ impl Judged {
         let reason = matched.reason(cal, &matched.reading(Engine::Skipping));
         Judged { matched, reason }
     }
-
 }
 
 /// What the library finds for a text, if it is not this.

@@ -20,7 +20,7 @@ fn write(format: &str) {
     let (_, count) = library::open(format.as_bytes(), 1, &mut elements);
     let elements = &elements[..count as usize];
     let mut out = [0u8; 128];
-    let moment = |n: u32| [1900 + n % 200, 1 + n % 12, 1 + n % 28, n % 24, n % 60, n % 60];
+    let moment = |n: u32| [1900 + n % 200, 1 + n % 12, 1 + n % 28, n % 24, n % 60, n % 60, 1, n % 1440];
     rate(&format!("write \"{format}\""), |n| {
         library::strftime(format.as_bytes(), &moment(n), &mut out);
     });
@@ -53,7 +53,10 @@ pub fn measure() {
     write("%Y-%m-%d %H:%M:%S");
     write("%c");
     write("%-d %^b %_5Y");
+    write("%Y-%m-%dT%H:%M:%S%z");
+    write("%s");
     read("%Y-%m-%d %H:%M:%S", "1934-03-05 07:08:09");
+    read("%Y-%m-%dT%H:%M:%S%z", "1934-03-05T07:08:09+0130");
     read("%c", "Mon Mar  5 07:08:09 1934");
     read("%d %b", "5 mar");
     read("%C %V %u", "99 53 1");
