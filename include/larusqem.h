@@ -22,16 +22,17 @@
  *
  * The calendar is Gregorian from 0001-01-01 to 9999-12-31. The conversions of a format are
  *   %Y %C %y %m %b %h %B %d %e %j %u %w %a %A %U %W %G %g %V %H %k %I %l %p %P %M %S
+ *   %z, the zone offset, and %s, the seconds from 1970, which the writer alone takes (see "Zone offsets")
  *   %n %t %%, which are a newline, a tab and the sign
  *   %c %x %X %D %F %R %T %r, composites of the others
  *   %Ec %EC %Ex %EX %Ey %EY %Od %Oe %OH %OI %Om %OM %OS %Ou %OU %OV %Ow %OW %Oy, which mean the plain conversion.
  * The writer takes a flag and a width, 1 to 99, after the %, and the reader neither. A number is filled on the left with blanks by _, with
  * zeros by 0, not at all by -, else with its own fill; a name, %p or %P with blanks, and ^ makes it capitals. Nothing is cut. So the label
- * %_3d%^11B%_6Y has columns of 3, 11 and 6 places: 1934-03-05 is "  5      MARCH  1934" (RULES 4.4 and RULES 5).
+ * %_3d%^11B%_6Y has columns of 3, 11 and 6 places: 1934-03-05 is "  5      MARCH  1934" (RULES 4.4 and RULES 5). %z and %s take neither.
  *
  * White space is the bytes 9 to 13 and 32, as for isspace() in the POSIX locale. To the reader each such byte of a format, and so %n and
- * %t, takes all the white space that stands at its place in the text, or none. A number skips white space before it; a name does not. Any
- * other byte of a format must be the next byte of the text. The writer copies every byte but the conversions.
+ * %t, takes all the white space that stands at its place in the text, or none. A number skips white space before it; a name or a zone
+ * offset does not. Any other byte of a format must be the next byte of the text. The writer copies every byte but the conversions.
  */
 #ifndef LARUSQEM_H
 #define LARUSQEM_H
@@ -54,34 +55,37 @@ extern "C" {
 /* the entries of a reason: one for each kind of fact that can be named, by its number, and one for 0, which is none */
 #define LARUSQEM_KINDS 16
 /* the words of a moment, of a reading and of a reason, for the functions on words */
-#define LARUSQEM_MOMENT_WORDS 6
-#define LARUSQEM_READING_WORDS 18
+#define LARUSQEM_MOMENT_WORDS 8
+#define LARUSQEM_READING_WORDS 20
 #define LARUSQEM_REASON_WORDS 33
 
 /* ---- Numbers that come back (RULES 3)
  *
  *   no.  meaning                             place                                          what else (reader)
  *   0    done                                writer: bytes written                          day, hour, minute, second,
- *                                            reader: first unread offset of the text        each said or unsaid; forms
- *                                                                                           of names
+ *                                            reader: first unread offset of the text        zone offset, each said or
+ *                                                                                           unsaid; forms of names
  *   1    format over 1,024 bytes             0
  *   2    moment not valid                    first bad field: 1 year, 2 month, 3 day,
- *                                            4 hour, 5 minute, 6 second
+ *                                            4 hour, 5 minute, 6 second, 7 zone offset
  *   3    conversion unknown or unfinished,   offset of the first bad % in the format
- *        or its flag or width not taken
+ *        or its flag or width not taken,
+ *        or %s, for the reader
  *   4    output longer than the buffer       bytes needed
  *   5    text over 1,024 bytes               0
  *   6    text does not match                 text offset
- *   7    number outside its range            text offset of its first digit
- *   8    a kind of fact said again,          text offset of its first digit or letter
- *        differently
+ *   7    number outside its range            text offset of its first digit; of a zone
+ *                                            offset that of its sign
+ *   8    a kind of fact said again,          text offset of its first digit or letter;
+ *        differently                         of a zone offset that of its sign
  *   9    no day or no hour agrees            1 day, 2 hour
  *   10   two or more agree                   1 day, 2 hour                                  the first two, earliest first
  *   11   more days to examine than           the budget
  *        the budget
+ *   12   %s with the zone offset unsaid      offset of the first %s in the format
  *
- * The writer judges 1, 2, 3, 4 in this order; the reader 1, 5, 3, then 6, 7, 8 from left to right, then 11, 9 or 10 for the day, then 9
- * or 10 for the hour. Text left over is no refusal: a text was read whole only where the place is its length. 11 comes only where a
+ * The writer judges 1, 2, 3, 12, 4 in this order; the reader 1, 5, 3, then 6, 7, 8 from left to right, then 11, 9 or 10 for the day, then
+ * 9 or 10 for the hour. Text left over is no refusal: a text was read whole only where the place is its length. 11 comes only where a
  * budget is given.
  */
 enum larusqem_number {
@@ -96,7 +100,8 @@ enum larusqem_number {
     LARUSQEM_CONTRADICTION = 8,
     LARUSQEM_NONE_AGREES = 9,
     LARUSQEM_TWO_AGREE = 10,
-    LARUSQEM_OVER_BUDGET = 11
+    LARUSQEM_OVER_BUDGET = 11,
+    LARUSQEM_NO_OFFSET = 12
 };
 
 /* what a number means, for a message: words without a capital or a full stop */
@@ -127,6 +132,8 @@ static inline const char *larusqem_sentence(uint32_t number)
         return "two or more days or hours agree with all that is said";
     case LARUSQEM_OVER_BUDGET:
         return "more days would have to be examined than the budget allows";
+    case LARUSQEM_NO_OFFSET:
+        return "the seconds from 1970 are to be written, and the zone offset is not said";
     default:
         return "no number of this library";
     }
@@ -147,6 +154,16 @@ enum larusqem_form {
     LARUSQEM_SHORT_NAME = 3
 };
 
+/* ---- Zone offsets (RULES 6.6)
+ *
+ * A zone offset is how many minutes a time is ahead of UTC, -1439 to 1439, or unsaid.
+ *   %z   writes a sign, two digits of hours and two of minutes, as +0130 for 90 and -0030 for -30. Zero is +0000; unsaid writes nothing.
+ *        It reads a sign, which must stand right there, and four digits, hours to 23 and minutes to 59; -0000 is 0.
+ *   %s   takes the offset off and writes the whole seconds from 1970-01-01 00:00:00 UTC, with a minus sign below zero and without filling;
+ *        second 60 counts as the next second. Where the offset is unsaid it is refused by 12. The reader refuses it by 3.
+ * The day and the hour of a reading are those that the text says: which of them agree does not depend on the offset.
+ */
+
 /* ---- What goes in and comes out */
 
 /* how a writing or an opening ended */
@@ -162,14 +179,20 @@ struct larusqem_date {
     uint32_t day;
 };
 
-/* what is written: year 1 to 9999, month 1 to 12, day 1 to the month's length, hour 0 to 23, minute 0 to 59, second 0 to 60 */
+/*
+ * What is written: year 1 to 9999, month 1 to 12, day 1 to the month's length, hour 0 to 23, minute 0 to 59, second 0 to 60, and a zone
+ * offset, -1439 to 1439 minutes, or unsaid. It is unsaid where `offset_said` is 0, and `offset` is then not looked at; with any other
+ * number it is said. Who sets one member after the other sets `offset_said` too. An initialiser that ends before it leaves it 0:
+ * {{1934, 3, 5}, 7, 8, 9} has no offset, and so has {1934, 3, 5, 7, 8, 9}, which was written when there was none. The date is a struct,
+ * so that a program of that time which sets `moment.year` and the others does not compile, and cannot leave `offset_said` unset.
+ */
 struct larusqem_moment {
-    uint32_t year;
-    uint32_t month;
-    uint32_t day;
+    struct larusqem_date date;
     uint32_t hour;
     uint32_t minute;
     uint32_t second;
+    uint32_t offset_said;
+    int32_t offset;
 };
 
 /*
@@ -189,6 +212,8 @@ struct larusqem_moment {
  *                                                                                                         11: the budget; else 0
  *   weekday_form,            the form of the last name      0 0                   0 0                     0 0
  *     month_form             of each, 0 where none is read
+ *   offset_said, offset      1 and the zone offset in       0 0                   0 0                     0 0
+ *                            minutes, or 0 0
  */
 struct larusqem_reading {
     uint32_t number;
@@ -209,6 +234,8 @@ struct larusqem_reading {
     uint32_t examined;
     uint32_t weekday_form;
     uint32_t month_form;
+    uint32_t offset_said;
+    int32_t offset;
 };
 
 /* ---- Engines (RULES 8.4)
@@ -306,10 +333,11 @@ struct larusqem_options {
 /* ---- The functions of the library, on words
  *
  * They are what is proved; the functions below hand them structs. They take a moment, and leave a reading or a reason, as words in the
- * order of the struct's members, all of which are written. A format is opened for reading by 0, and for writing by any other number. A text
- * is read by the skipping engine by 0, by the plain one by 1, where the budget is not looked at, and by the plain one with the budget by
- * any other number. Each result is number * 2^32 + place (larusqem_answer_of takes it apart). The two that explain return nothing; they
- * leave the reason of the reading by the skipping engine, which is that of every engine whose budget is enough. No pointer may be NULL.
+ * order of the struct's members, all of which are written; a zone offset is a word in two's complement. A format is opened for reading by
+ * 0, and for writing by any other number. A text is read by the skipping engine by 0, by the plain one by 1, where the budget is not looked
+ * at, and by the plain one with the budget by any other number. Each result is number * 2^32 + place (larusqem_answer_of takes it apart).
+ * The two that explain return nothing; they leave the reason of the reading by the skipping engine, which is that of every engine whose
+ * budget is enough. No pointer may be NULL.
  */
 uint64_t larusqem_strftime_words(const uint8_t *format, size_t format_length, const uint32_t moment[LARUSQEM_MOMENT_WORDS], uint8_t *out,
                                  size_t out_length);
@@ -326,8 +354,8 @@ void larusqem_explain_words(const uint8_t *format, size_t format_length, const u
 void larusqem_explain_read_words(const uint32_t *elements, size_t elements_length, const uint8_t *text, size_t text_length,
                                  uint32_t reason[LARUSQEM_REASON_WORDS]);
 
-/* Each member is the word of its place, and nothing lies between or after them. All members are uint32_t, so the library reaches each of
-   them by its own type, and a pointer to the struct serves as one to its words. */
+/* Each member is the word of its place, and nothing lies between or after them. All members are uint32_t, or int32_t, which may be reached
+   as uint32_t too; so the library reaches each of them rightly, and a pointer to the struct serves as one to its words. */
 #if defined __cplusplus
 #define LARUSQEM_ASSERT(name, fact) static_assert(fact, #name)
 #elif defined __STDC_VERSION__ && __STDC_VERSION__ >= 201112L
@@ -339,12 +367,16 @@ void larusqem_explain_read_words(const uint32_t *elements, size_t elements_lengt
     LARUSQEM_ASSERT(name##_##member##_is_word_##index, offsetof(struct name, member) == (index) * sizeof(uint32_t) &&       \
                                                            sizeof(((struct name *)0)->member) == sizeof(uint32_t))
 
-LARUSQEM_WORD(larusqem_moment, 0, year);
-LARUSQEM_WORD(larusqem_moment, 1, month);
-LARUSQEM_WORD(larusqem_moment, 2, day);
+LARUSQEM_WORD(larusqem_date, 0, year);
+LARUSQEM_WORD(larusqem_date, 1, month);
+LARUSQEM_WORD(larusqem_date, 2, day);
+LARUSQEM_ASSERT(larusqem_date_is_its_words, sizeof(struct larusqem_date) == 3 * sizeof(uint32_t));
+LARUSQEM_ASSERT(larusqem_moment_date_is_from_word_0, offsetof(struct larusqem_moment, date) == 0);
 LARUSQEM_WORD(larusqem_moment, 3, hour);
 LARUSQEM_WORD(larusqem_moment, 4, minute);
 LARUSQEM_WORD(larusqem_moment, 5, second);
+LARUSQEM_WORD(larusqem_moment, 6, offset_said);
+LARUSQEM_WORD(larusqem_moment, 7, offset);
 LARUSQEM_ASSERT(larusqem_moment_is_its_words, sizeof(struct larusqem_moment) == LARUSQEM_MOMENT_WORDS * sizeof(uint32_t));
 
 LARUSQEM_WORD(larusqem_reading, 0, number);
@@ -365,6 +397,8 @@ LARUSQEM_WORD(larusqem_reading, 14, other_hour);
 LARUSQEM_WORD(larusqem_reading, 15, examined);
 LARUSQEM_WORD(larusqem_reading, 16, weekday_form);
 LARUSQEM_WORD(larusqem_reading, 17, month_form);
+LARUSQEM_WORD(larusqem_reading, 18, offset_said);
+LARUSQEM_WORD(larusqem_reading, 19, offset);
 LARUSQEM_ASSERT(larusqem_reading_is_its_words, sizeof(struct larusqem_reading) == LARUSQEM_READING_WORDS * sizeof(uint32_t));
 
 LARUSQEM_WORD(larusqem_extent, 0, from);
@@ -396,7 +430,7 @@ static inline const uint8_t *larusqem_bytes(const char *text, size_t length)
 /* ---- Writing and reading */
 
 /*
- * Writes a moment by a format over the start of `out`. Answers 0, 1, 2, 3 or 4 of the table. On 0 the first `place` bytes of `out` are the
+ * Writes a moment by a format over the start of `out`. Answers 0 to 4 or 12 of the table. On 0 the first `place` bytes of `out` are the
  * text, and those past them are as they came; on any other number all of `out` is as it came.
  */
 static inline struct larusqem_answer larusqem_strftime(const char *format, size_t format_length, struct larusqem_moment moment, char *out,
@@ -447,13 +481,14 @@ static inline struct larusqem_reading larusqem_strptime(const char *format, size
  * An element of an opened format is a number. A byte stands for itself; %n, %t and %% open to the bytes 10, 9 and 37. A conversion is
  *   letter + 256 * (p + 1) + 2^18 * width + 2^25 * flag
  * with a letter of
- *   Y C y m b h B d e j u w a A U W G g V H k I l p P M S
+ *   Y C y m b h B d e j u w a A U W G g V H k I l p P M S z s
  * where p is the offset of its % in the format, 0 to 1022, and where a width, 1 to 99, or a flag's byte, _ - 0 or ^ as belongs to the
- * letter, is 0 if there is none. Composites are opened: their conversions have the p of the composite. No other entry is an element, nor
- * is any past the first LARUSQEM_ELEMENTS. The elements for reading are those below 2^18, with neither width nor flag.
+ * letter, is 0 if there is none; z and s have neither. Composites are opened: their conversions have the p of the composite. No other entry
+ * is an element, nor is any past the first LARUSQEM_ELEMENTS. The elements for reading are those below 2^18, with neither width nor flag,
+ * but for those with the letter s.
  */
 
-/* what a format is opened for: flags and widths are taken for writing, and refused for reading */
+/* what a format is opened for: flags, widths and %s are taken for writing, and refused for reading */
 enum larusqem_use {
     LARUSQEM_FOR_READING = 0,
     LARUSQEM_FOR_WRITING = 1
@@ -461,10 +496,10 @@ enum larusqem_use {
 
 /*
  * Opens a format into elements, once, for any number of calls of larusqem_write, and of larusqem_read and larusqem_read_with where it is
- * opened for reading. Without flags and widths it opens to the same for both. LARUSQEM_ELEMENTS entries are enough for every format, and
- * 13 for every two bytes of this one. Answers, judged in this order: 1 with 0; 3 with the offset of the first bad %; 4 with the number of
- * elements where they do not all fit; 0 with their number. On 0 and 4 the elements are stored, on 3 those before the bad %, each as many as
- * fit, and on 1 none. Every other entry is as it came.
+ * opened for reading. Without flags, widths and %s it opens to the same for both. LARUSQEM_ELEMENTS entries are enough for every format,
+ * and 13 for every two bytes of this one. Answers, judged in this order: 1 with 0; 3 with the offset of the first bad %; 4 with the number
+ * of elements where they do not all fit; 0 with their number. On 0 and 4 the elements are stored, on 3 those before the bad %, each as many
+ * as fit, and on 1 none. Every other entry is as it came.
  */
 static inline struct larusqem_answer larusqem_open(const char *format, size_t format_length, enum larusqem_use use, uint32_t *elements,
                                                    size_t elements_length)
@@ -477,7 +512,8 @@ static inline struct larusqem_answer larusqem_open(const char *format, size_t fo
 
 /*
  * As larusqem_strftime, by elements that larusqem_open stored. Answers, judged in this order: 2 with the first bad field; 3 with the index
- * of the first entry that is no element; 4 with the bytes needed; 0 with the bytes written.
+ * of the first entry that is no element; where the zone offset is unsaid, 12 with the p of the first entry that is a %s; 4 with the bytes
+ * needed; 0 with the bytes written.
  */
 static inline struct larusqem_answer larusqem_write(const uint32_t *elements, size_t elements_length, struct larusqem_moment moment,
                                                     char *out, size_t out_length)
@@ -491,7 +527,8 @@ static inline struct larusqem_answer larusqem_write(const uint32_t *elements, si
 
 /*
  * As larusqem_strptime_with, by elements that larusqem_open stored. Answers 0, 3 or 5 to 11: 5, then 3, then the others. 3 is for the first
- * entry that is no element for reading; its place is the p of an element that has a width or a flag, and otherwise the entry's index.
+ * entry that is no element for reading; its place is the p of an element for writing alone, one that has a width or a flag or is a %s, and
+ * otherwise the entry's index.
  */
 static inline struct larusqem_reading larusqem_read_with(const uint32_t *elements, size_t elements_length, const char *text,
                                                          size_t text_length, struct larusqem_options options)
