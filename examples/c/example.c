@@ -52,6 +52,8 @@ static void print_reading(const char *text, struct larusqem_reading r)
             printf(" minute %" PRIu32, r.minute);
         if (r.second_said)
             printf(" second %" PRIu32, r.second);
+        if (r.offset_said)
+            printf(" offset %" PRId32, r.offset);
         print_form("weekday", r.weekday_form);
         print_form("month", r.month_form);
         if (r.place < strlen(text))
@@ -126,10 +128,12 @@ int main(void)
 {
     static const char *const margins[] = {"5 Mar 1934 07:08", "29 Feb 1900 07:08", "5 mar 34 07:08", "5 Mar 1934 7:8 or later",
                                           "5 Sept 1934 07:08"};
-    struct larusqem_moment spring = {1934, 3, 5, 7, 8, 9};
-    struct larusqem_moment new_year = {2017, 1, 1, 0, 0, 0};
-    struct larusqem_moment no_day = {1900, 2, 29, 0, 0, 0};
-    struct larusqem_moment labels[] = {{1934, 3, 5, 7, 8, 9}, {1934, 11, 30, 12, 0, 0}, {987, 9, 1, 23, 59, 60}};
+    struct larusqem_moment spring = {{1934, 3, 5}, 7, 8, 9, 0, 0};
+    struct larusqem_moment abroad = {{1934, 3, 5}, 7, 8, 9, 1, 90};
+    struct larusqem_moment new_year = {{2017, 1, 1}, 0, 0, 0, 0, 0};
+    struct larusqem_moment no_day = {{1900, 2, 29}, 0, 0, 0, 0, 0};
+    struct larusqem_moment labels[] = {
+        {{1934, 3, 5}, 7, 8, 9, 0, 0}, {{1934, 11, 30}, 12, 0, 0, 0, 0}, {{987, 9, 1}, 23, 59, 60, 0, 0}};
     uint32_t number = larusqem_day_number(1934, 3, 5);
     struct larusqem_date next = larusqem_date_of(number + 1);
 
@@ -138,6 +142,8 @@ int main(void)
     write_one("%c", spring, 23);
     write_one("%F", no_day, 64);
     write_one("100%", spring, 64);
+    write_one("%F %T %z is %s", abroad, 64);
+    write_one("%F %T %z is %s", spring, 64);
 
     read_one("%a %b %e %T %Y", "Mon Mar  5 07:08:09 1934");
     read_one("%G %V %u", "2009 53 5");
@@ -145,6 +151,8 @@ int main(void)
     read_one("%I:%M", "07:08");
     read_one("%a %d %b %Y", "Tue 5 Mar 1934");
     read_one("%d %e", "5 6");
+    read_one("%d %b %Y %H:%M %z", "5 Mar 1934 07:08 -0030");
+    read_one("%d %b %Y %H:%M %z", "5 Mar 1934 07:08 +0060");
 
     read_list("%d %b %Y %H:%M", margins, sizeof margins / sizeof *margins);
     read_list("%d %b %Q", margins, 1);

@@ -8,13 +8,13 @@
 int main(int count, char **words)
 {
     static char out[LARUSQEM_WIDEST];
-    struct larusqem_moment day = {0, 0, 0, 0, 0, 0};
+    struct larusqem_moment day = {{0, 0, 0}, 0, 0, 0, 0, 0};
 
     if (count != 2) {
         fprintf(stderr, "usage: label FORMAT\n");
         return 1;
     }
-    while (scanf("%" SCNu32 "-%" SCNu32 "-%" SCNu32, &day.year, &day.month, &day.day) == 3) {
+    while (scanf("%" SCNu32 "-%" SCNu32 "-%" SCNu32, &day.date.year, &day.date.month, &day.date.day) == 3) {
         struct larusqem_answer written = larusqem_strftime(words[1], strlen(words[1]), day, out, sizeof out);
 
         if (written.number != LARUSQEM_DONE) {

@@ -17,7 +17,7 @@ static void check(int holds, const char *fact, int line)
 }
 #define CHECK(fact) check(fact, #fact, __LINE__)
 
-static const struct larusqem_moment moment = {1934, 3, 5, 7, 8, 9};
+static const struct larusqem_moment moment = {{1934, 3, 5}, 7, 8, 9, 0, 0};
 static uint32_t elements[LARUSQEM_ELEMENTS + 1];
 static char out[LARUSQEM_WIDEST];
 static char longer[LARUSQEM_LONGEST + 1];
@@ -49,20 +49,22 @@ static struct larusqem_answer write_opened(const char *format, struct larusqem_m
 
 static void sentences(void)
 {
-    for (uint32_t a = 0; a <= LARUSQEM_OVER_BUDGET + 1; a++) {
-        CHECK(larusqem_sentence(a)[0] != '\0');
+    for (uint32_t a = 0; a <= LARUSQEM_NO_OFFSET + 1; a++) {
+        CHECK(larusqem_sentence(a)[0] != '\0' && strchr(larusqem_sentence(a), '%') == NULL);
         for (uint32_t b = 0; b < a; b++)
             CHECK(strcmp(larusqem_sentence(a), larusqem_sentence(b)) != 0);
     }
     CHECK(strcmp(larusqem_sentence(LARUSQEM_DONE), "done") == 0);
-    CHECK(strcmp(larusqem_sentence(UINT32_MAX), larusqem_sentence(LARUSQEM_OVER_BUDGET + 1)) == 0);
+    CHECK(strcmp(larusqem_sentence(UINT32_MAX), larusqem_sentence(LARUSQEM_NO_OFFSET + 1)) == 0);
 }
 
 static void writing(void)
 {
     static const char text[] = "Mon Mar  5 07:08:09 1934";
-    static const struct larusqem_moment bad[6] = {{0, 0, 0, 24, 60, 61},  {1900, 13, 30, 24, 60, 61}, {1900, 2, 29, 24, 60, 61},
-                                                  {1900, 2, 28, 24, 60, 61}, {1900, 2, 28, 23, 60, 61},  {1900, 2, 28, 23, 59, 61}};
+    static const struct larusqem_moment bad[7] = {
+        {{0, 0, 0}, 24, 60, 61, 1, 1440},     {{1900, 13, 30}, 24, 60, 61, 1, 1440}, {{1900, 2, 29}, 24, 60, 61, 1, 1440},
+        {{1900, 2, 28}, 24, 60, 61, 1, 1440}, {{1900, 2, 28}, 23, 60, 61, 1, 1440},  {{1900, 2, 28}, 23, 59, 61, 1, 1440},
+        {{1900, 2, 28}, 23, 59, 60, 1, 1440}};
 
     CHECK(answers(write_by("%c", moment, sizeof out), LARUSQEM_DONE, 24) && memcmp(out, text, 24) == 0 && untouched(24));
     CHECK(answers(write_by("%c", moment, 24), LARUSQEM_DONE, 24) && memcmp(out, text, 24) == 0 && untouched(24));
@@ -71,7 +73,7 @@ static void writing(void)
     CHECK(answers(write_by("%c%", moment, sizeof out), LARUSQEM_BAD_CONVERSION, 2) && untouched(0));
     CHECK(answers(write_opened("%c", moment, sizeof out), LARUSQEM_DONE, 24) && memcmp(out, text, 24) == 0 && untouched(24));
     CHECK(answers(write_opened("%c", moment, 23), LARUSQEM_BUFFER_TOO_SMALL, 24) && untouched(0));
-    for (uint32_t field = 1; field <= 6; field++) {
+    for (uint32_t field = 1; field <= 7; field++) {
         CHECK(answers(write_by("%F", bad[field - 1], sizeof out), LARUSQEM_BAD_MOMENT, field) && untouched(0));
         CHECK(answers(write_opened("%F", bad[field - 1], sizeof out), LARUSQEM_BAD_MOMENT, field) && untouched(0));
     }
@@ -253,14 +255,14 @@ static void reads(const char *format, const char *text, struct larusqem_reading 
 static void reading(void)
 {
     static const uint32_t all = 3652059;
-    static const struct larusqem_reading whole = {0, 24, 1934, 3, 5, 1, 7, 1, 8, 1, 9, 0, 0, 0, 0, 31, 3, 3};
-    static const struct larusqem_reading minute = {0, 2, 0, 0, 0, 0, 0, 1, 8, 0, 0, 0, 0, 0, 0, 0, 0, 0};
-    static const struct larusqem_reading ten_bytes = {0, 10, 1934, 3, 5, 0, 0, 0, 0, 0, 0, 0, 0, 0, 0, 31, 0, 3};
-    static const struct larusqem_reading twelve_bytes = {0, 12, 1934, 3, 5, 0, 0, 0, 0, 0, 0, 0, 0, 0, 0, 31, 0, 3};
-    static const struct larusqem_reading friday = {0, 9, 2010, 1, 1, 0, 0, 0, 0, 0, 0, 0, 0, 0, 0, 3652059, 0, 0};
-    static const struct larusqem_reading two_days = {10, 1, 1, 3, 5, 0, 0, 0, 0, 0, 0, 2, 3, 5, 0, 36, 0, 0};
-    static const struct larusqem_reading two_hours = {10, 2, 0, 0, 0, 0, 7, 0, 0, 0, 0, 0, 0, 0, 19, 31, 0, 0};
-    static const struct larusqem_reading two_hours_alone = {10, 2, 0, 0, 0, 0, 7, 0, 0, 0, 0, 0, 0, 0, 19, 0, 0, 0};
+    static const struct larusqem_reading whole = {0, 24, 1934, 3, 5, 1, 7, 1, 8, 1, 9, 0, 0, 0, 0, 31, 3, 3, 0, 0};
+    static const struct larusqem_reading minute = {0, 2, 0, 0, 0, 0, 0, 1, 8, 0, 0, 0, 0, 0, 0, 0, 0, 0, 0, 0};
+    static const struct larusqem_reading ten_bytes = {0, 10, 1934, 3, 5, 0, 0, 0, 0, 0, 0, 0, 0, 0, 0, 31, 0, 3, 0, 0};
+    static const struct larusqem_reading twelve_bytes = {0, 12, 1934, 3, 5, 0, 0, 0, 0, 0, 0, 0, 0, 0, 0, 31, 0, 3, 0, 0};
+    static const struct larusqem_reading friday = {0, 9, 2010, 1, 1, 0, 0, 0, 0, 0, 0, 0, 0, 0, 0, 3652059, 0, 0, 0, 0};
+    static const struct larusqem_reading two_days = {10, 1, 1, 3, 5, 0, 0, 0, 0, 0, 0, 2, 3, 5, 0, 36, 0, 0, 0, 0};
+    static const struct larusqem_reading two_hours = {10, 2, 0, 0, 0, 0, 7, 0, 0, 0, 0, 0, 0, 0, 19, 31, 0, 0, 0, 0};
+    static const struct larusqem_reading two_hours_alone = {10, 2, 0, 0, 0, 0, 7, 0, 0, 0, 0, 0, 0, 0, 19, 0, 0, 0, 0, 0};
     struct larusqem_reading r;
 
     reads("%c", "Mon Mar  5 07:08:09 1934", whole, all, __LINE__);
@@ -322,6 +324,126 @@ static void forms(void)
     reads_by(skipping, "%d %b %Y", "5 Septem 1934", refusal(LARUSQEM_NO_MATCH, 6, 0), __LINE__);
     reads_by(skipping, "%a %a", "Tues Wed", refusal(LARUSQEM_CONTRADICTION, 5, 0), __LINE__);
     reads("%a %d %b %Y", "Tues 5 Sept 1934", refusal(LARUSQEM_NONE_AGREES, 1, 30), 3652059, __LINE__);
+}
+
+/* the moment with a zone offset */
+static struct larusqem_moment with(int32_t offset)
+{
+    struct larusqem_moment m = moment;
+
+    m.offset_said = 1;
+    m.offset = offset;
+    return m;
+}
+
+/* a zone offset with its five bytes: they are written, and read, by every engine; where it is unsaid nothing is written */
+static void spells(const char *text, int32_t offset, int line)
+{
+    struct larusqem_moment m = with(offset);
+    struct larusqem_reading r = refusal(LARUSQEM_DONE, 5, 0);
+
+    check(answers(write_by("%z", m, sizeof out), LARUSQEM_DONE, 5) && memcmp(out, text, 5) == 0 && untouched(5), text, line);
+    check(answers(write_opened("%z", m, 5), LARUSQEM_DONE, 5) && memcmp(out, text, 5) == 0 && untouched(5), text, line);
+    check(answers(write_by("%z", m, 4), LARUSQEM_BUFFER_TOO_SMALL, 5) && untouched(0), text, line);
+    m.offset_said = UINT32_MAX;
+    check(answers(write_by("%z", m, 5), LARUSQEM_DONE, 5) && memcmp(out, text, 5) == 0, text, line);
+    m.offset_said = 0;
+    check(answers(write_by("%z", m, sizeof out), LARUSQEM_DONE, 0) && untouched(0), text, line);
+    r.offset_said = 1;
+    r.offset = offset;
+    reads("%z", text, r, 0, line);
+}
+
+/* a moment with the number that %s writes for it */
+static void counts(uint32_t year, uint32_t month, uint32_t day, const uint32_t time[3], int32_t offset, const char *text, int line)
+{
+    struct larusqem_moment m = {{year, month, day}, time[0], time[1], time[2], 1, offset};
+    uint32_t length = (uint32_t)strlen(text);
+
+    check(answers(write_by("%s", m, sizeof out), LARUSQEM_DONE, length) && memcmp(out, text, length) == 0 && untouched(length), text, line);
+    check(answers(write_opened("%s", m, length), LARUSQEM_DONE, length) && memcmp(out, text, length) == 0, text, line);
+    check(answers(write_by("%s", m, length - 1), LARUSQEM_BUFFER_TOO_SMALL, length) && untouched(0), text, line);
+}
+
+static void offsets(void)
+{
+    static const char *const bad[] = {"%5z", "%_z", "%-z", "%0z", "%^z", "%5s", "%_s", "%-s", "%0s", "%^s", "%Ez", "%Oz", "%Es", "%Os"};
+    static const int32_t wrong[] = {1440, -1440, INT32_MAX, INT32_MIN};
+    static const uint32_t midnight[3] = {0, 0, 0}, morning[3] = {7, 8, 9}, late[3] = {23, 59, 59}, latest[3] = {23, 59, 60};
+    const uint32_t both[2] = {styled('z', 0, 0, 0), styled('s', 3, 0, 0)};
+    struct larusqem_reading r;
+    struct larusqem_moment m;
+    size_t i;
+
+    spells("+0000", 0, __LINE__);
+    spells("+0130", 90, __LINE__);
+    spells("-0030", -30, __LINE__);
+    spells("+2359", 1439, __LINE__);
+    spells("-2359", -1439, __LINE__);
+    for (i = 0; i < sizeof wrong / sizeof *wrong; i++) {
+        m = with(wrong[i]);
+        CHECK(answers(write_by("%F", m, sizeof out), LARUSQEM_BAD_MOMENT, 7) && untouched(0));
+        CHECK(answers(write_opened("%F", m, sizeof out), LARUSQEM_BAD_MOMENT, 7) && untouched(0));
+        m.offset_said = 0;
+        CHECK(answers(write_by("%F", m, sizeof out), LARUSQEM_DONE, 10));
+    }
+
+    counts(1970, 1, 1, midnight, 0, "0", __LINE__);
+    counts(1970, 1, 1, midnight, 1, "-60", __LINE__);
+    counts(1969, 12, 31, late, 0, "-1", __LINE__);
+    counts(1969, 12, 31, latest, 0, "0", __LINE__);
+    counts(1934, 3, 5, morning, 90, "-1130610111", __LINE__);
+    counts(1934, 3, 5, morning, -30, "-1130602911", __LINE__);
+    counts(2016, 12, 31, latest, 0, "1483228800", __LINE__);
+    counts(1, 1, 1, midnight, 1439, "-62135683140", __LINE__);
+    counts(9999, 12, 31, latest, -1439, "253402387140", __LINE__);
+
+    /* 12 stands between 3 and 4, with the first %s of all */
+    CHECK(answers(write_by("%z %s %s", moment, 0), LARUSQEM_NO_OFFSET, 3) && untouched(0));
+    CHECK(answers(write_opened("%z %s %s", moment, 0), LARUSQEM_NO_OFFSET, 3) && untouched(0));
+    CHECK(answers(write_by("%s %Q", moment, 0), LARUSQEM_BAD_CONVERSION, 3) && untouched(0));
+    CHECK(answers(write_by("%c %s", with(0), 0), LARUSQEM_BUFFER_TOO_SMALL, 36) && untouched(0));
+
+    CHECK(answers(larusqem_open("%z %s", 5, LARUSQEM_FOR_WRITING, elements, 8), LARUSQEM_DONE, 3));
+    CHECK(elements[0] == both[0] && elements[1] == ' ' && elements[2] == both[1]);
+    CHECK(answers(larusqem_open("%z %s", 5, LARUSQEM_FOR_READING, elements, 8), LARUSQEM_BAD_CONVERSION, 3));
+    CHECK(answers(larusqem_open("%z", 2, LARUSQEM_FOR_READING, elements, 8), LARUSQEM_DONE, 1) && elements[0] == both[0]);
+    reads("%z %s", "+0130 0", refusal(LARUSQEM_BAD_CONVERSION, 3, 0), 0, __LINE__);
+    r = larusqem_read(both, 2, "+0130", 5);
+    CHECK(r.number == LARUSQEM_BAD_CONVERSION && r.place == 3 && !r.offset_said);
+    for (i = 0; i < sizeof bad / sizeof *bad; i++) {
+        CHECK(answers(write_by(bad[i], with(0), sizeof out), LARUSQEM_BAD_CONVERSION, 0) && untouched(0));
+        CHECK(answers(larusqem_open(bad[i], 3, LARUSQEM_FOR_WRITING, elements, 8), LARUSQEM_BAD_CONVERSION, 0));
+        reads(bad[i], "+0130", refusal(LARUSQEM_BAD_CONVERSION, 0, 0), 0, __LINE__);
+    }
+    elements[0] = 'a';
+    for (i = 0; i < 4; i++) {
+        elements[1] = styled("zs"[i % 2], 0, i / 2 ? 5 : 0, i / 2 ? 0 : '_');
+        CHECK(answers(larusqem_write(elements, 2, with(0), out, sizeof out), LARUSQEM_BAD_CONVERSION, 1));
+        r = larusqem_read(elements, 2, "a", 1);
+        CHECK(r.number == LARUSQEM_BAD_CONVERSION && r.place == 1);
+    }
+
+    r = refusal(LARUSQEM_DONE, 5, 0);
+    r.offset_said = 1;
+    reads("%z", "-0000", r, 0, __LINE__);
+    reads("%z", "+00000", r, 0, __LINE__);
+    r.place = 11;
+    reads("%z %z", "+0000 -0000", r, 0, __LINE__);
+    r = named(16, 3, 5, 0, 0);
+    r.offset_said = 1;
+    r.offset = -720;
+    reads("%F %z", "1934-03-05 -1200", r, 3652059, __LINE__);
+    reads("%z", " +0130", refusal(LARUSQEM_NO_MATCH, 0, 0), 0, __LINE__);
+    reads("a %z", "a  0130", refusal(LARUSQEM_NO_MATCH, 3, 0), 0, __LINE__);
+    reads("%z", "+013", refusal(LARUSQEM_NO_MATCH, 0, 0), 0, __LINE__);
+    reads("%z", "+01:30", refusal(LARUSQEM_NO_MATCH, 0, 0), 0, __LINE__);
+    reads("%z", "", refusal(LARUSQEM_NO_MATCH, 0, 0), 0, __LINE__);
+    reads("%d %z", "5 +2400", refusal(LARUSQEM_OUT_OF_RANGE, 2, 0), 0, __LINE__);
+    reads("%d %z", "5 -0060", refusal(LARUSQEM_OUT_OF_RANGE, 2, 0), 0, __LINE__);
+    reads("%z %z", "+0130 -0130", refusal(LARUSQEM_CONTRADICTION, 6, 0), 0, __LINE__);
+    reads("%z %z", "+0130 +2400", refusal(LARUSQEM_OUT_OF_RANGE, 6, 0), 0, __LINE__);
+    reads("%a %F %z", "Tue 1934-03-05 +0130", refusal(LARUSQEM_NONE_AGREES, 1, 31), 3652059, __LINE__);
 }
 
 /* a reason in words: each kind that has any, with its numbers, then the part; empty where every member is 0 */
@@ -455,7 +577,7 @@ static void nulls(void)
     elements[0] = 256 + 'd';
     CHECK(answers(larusqem_write(elements, 1, moment, NULL, 0), LARUSQEM_BUFFER_TOO_SMALL, 2));
     r = larusqem_strptime(NULL, 0, NULL, 0);
-    CHECK(r.number == LARUSQEM_DONE && r.place == 0 && r.year == 0 && !r.hour_said && !r.minute_said && !r.second_said);
+    CHECK(r.number == LARUSQEM_DONE && r.place == 0 && r.year == 0 && !r.hour_said && !r.minute_said && !r.second_said && !r.offset_said);
     r = larusqem_strptime("%d", 2, NULL, 0);
     CHECK(r.number == LARUSQEM_NO_MATCH && r.place == 0);
     r = larusqem_read(NULL, 0, NULL, 0);
@@ -506,6 +628,7 @@ int main(void)
     limits();
     reading();
     forms();
+    offsets();
     reasons();
     nulls();
     calendar();
