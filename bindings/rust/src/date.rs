@@ -38,7 +38,7 @@ impl Date {
 
     /// The date with these fields, or the first of them that is outside its range.
     pub fn new(year: u32, month: u32, day: u32) -> Result<Date, FieldError> {
-        FieldError::check(&[year, month, day, 0, 0, 0])?;
+        FieldError::check(&[year, month, day, 0, 0, 0, 0, 0])?;
         Ok(Date::known(year, month, day))
     }
 
@@ -128,7 +128,7 @@ impl fmt::Display for Date {
 /// assert_eq!("1934-03-05".parse(), Ok(Date::new(1934, 3, 5).unwrap()));
 /// assert_eq!("1934-3-5".parse::<Date>(), Err(ParseError::Shape { offset: 6 }));
 /// assert_eq!("1934-03-05 ".parse::<Date>(), Err(ParseError::Shape { offset: 10 }));
-/// assert_eq!("1934-02-29".parse::<Date>().unwrap_err().to_string(), "no such date or time");
+/// assert_eq!("1934-02-29".parse::<Date>().unwrap_err().to_string(), "no such date, time or zone offset");
 /// ```
 impl FromStr for Date {
     type Err = ParseError;

@@ -2,6 +2,7 @@
 use crate::date::Date;
 use crate::ffi;
 use crate::quarrel::{Part, Quarrel};
+use alloc::string::FromUtf8Error;
 use core::fmt;
 
 /// A field of a moment.
@@ -20,10 +21,12 @@ pub enum Field {
     Minute,
     /// 0 to 60.
     Second,
+    /// The zone offset: -1439 to 1439 minutes.
+    Offset,
 }
 
 impl Field {
-    const ALL: [Field; 6] = [Field::Year, Field::Month, Field::Day, Field::Hour, Field::Minute, Field::Second];
+    const ALL: [Field; 7] = [Field::Year, Field::Month, Field::Day, Field::Hour, Field::Minute, Field::Second, Field::Offset];
 }
 
 impl fmt::Display for Field {
@@ -35,22 +38,27 @@ impl fmt::Display for Field {
             Field::Hour => "hour",
             Field::Minute => "minute",
             Field::Second => "second",
+            Field::Offset => "zone offset",
         })
     }
 }
 
-/// A field is outside its range: there is no such date or moment.
+/// A field is outside its range: there is no such date, moment or zone offset.
 #[derive(Clone, Copy, PartialEq, Eq, Hash, Debug)]
 pub struct FieldError {
     field: Field,
 }
 
 impl FieldError {
+    pub(crate) const fn of(field: Field) -> FieldError {
+        FieldError { field }
+    }
+
     /// Refuses words that are no moment: it is the writer that judges them, here for an empty text.
     pub(crate) fn check(moment: &ffi::MomentWords) -> Result<(), FieldError> {
         match ffi::write(&[], moment, &mut []) {
             (0, _) => Ok(()),
-            (2, place) => Err(FieldError { field: Field::ALL[place - 1] }),
+            (2, place) => Err(FieldError::of(Field::ALL[place - 1])),
             (number, _) => unreachable!("an empty text is not refused by {number}"),
         }
     }
@@ -80,12 +88,13 @@ impl fmt::Display for FieldError {
             Field::Hour => "0 to 23",
             Field::Minute => "0 to 59",
             Field::Second => "0 to 60",
+            Field::Offset => "-1439 to 1439 minutes",
         };
         write!(f, "the {} is not {range}", self.field)
     }
 }
 
-/// Why a text is no date `YYYY-MM-DD` or no moment `YYYY-MM-DD HH:MM:SS`.
+/// Why a text is no date `YYYY-MM-DD`, no zone offset `+HHMM`, or no moment `YYYY-MM-DD HH:MM:SS`, which may have an offset.
 #[derive(Clone, Copy, PartialEq, Eq, Hash, Debug)]
 #[non_exhaustive]
 pub enum ParseError {
@@ -98,11 +107,21 @@ pub enum ParseError {
     Field(FieldError),
 }
 
+impl ParseError {
+    /// The same in a text with more bytes before it.
+    pub(crate) fn behind(self, bytes: usize) -> ParseError {
+        match self {
+            ParseError::Shape { offset } => ParseError::Shape { offset: bytes + offset },
+            other => other,
+        }
+    }
+}
+
 impl fmt::Display for ParseError {
     fn fmt(&self, f: &mut fmt::Formatter) -> fmt::Result {
         match self {
             ParseError::Shape { offset } => write!(f, "the text has another shape from byte {offset}"),
-            ParseError::Field(_) => write!(f, "no such date or time"),
+            ParseError::Field(_) => write!(f, "no such date, time or zone offset"),
         }
     }
 }
@@ -166,6 +185,11 @@ pub enum WriteError {
         /// How many bytes it has.
         needed: usize,
     },
+    /// 12: `%s` is to be written, and the moment has no zone offset.
+    NoZoneOffset {
+        /// Where the `%` of the first `%s` stands in the format.
+        offset: usize,
+    },
 }
 
 impl WriteError {
@@ -176,6 +200,7 @@ impl WriteError {
             1 => Err(WriteError::Format(FormatError::TooLong)),
             3 => Err(WriteError::Format(FormatError::BadConversion { offset: place })),
             4 => Err(WriteError::BufferTooSmall { needed: place }),
+            12 => Err(WriteError::NoZoneOffset { offset: place }),
             _ => unreachable!("the writer refuses no valid moment by {number}"),
         }
     }
@@ -185,6 +210,7 @@ impl WriteError {
         match self {
             WriteError::Format(error) => error.number(),
             WriteError::BufferTooSmall { .. } => 4,
+            WriteError::NoZoneOffset { .. } => 12,
         }
     }
 
@@ -193,6 +219,7 @@ impl WriteError {
         match *self {
             WriteError::Format(error) => error.place(),
             WriteError::BufferTooSmall { needed } => needed,
+            WriteError::NoZoneOffset { offset } => offset,
         }
     }
 }
@@ -202,6 +229,9 @@ impl fmt::Display for WriteError {
         match self {
             WriteError::Format(_) => write!(f, "the format cannot be opened"),
             WriteError::BufferTooSmall { needed } => write!(f, "the text has {needed} bytes, more than the buffer"),
+            WriteError::NoZoneOffset { offset } => {
+                write!(f, "the seconds from 1970 are to be written at byte {offset} of the format, and the moment has no zone offset")
+            }
         }
     }
 }
@@ -209,6 +239,37 @@ impl fmt::Display for WriteError {
 impl From<FormatError> for WriteError {
     fn from(error: FormatError) -> WriteError {
         WriteError::Format(error)
+    }
+}
+
+/// Why a moment is not written as a `String`.
+#[derive(Clone, PartialEq, Eq, Debug)]
+#[non_exhaustive]
+pub enum StringError {
+    /// It is not written.
+    Write(WriteError),
+    /// It is written and is not UTF-8, since the format is not.
+    Utf8(FromUtf8Error),
+}
+
+impl fmt::Display for StringError {
+    fn fmt(&self, f: &mut fmt::Formatter) -> fmt::Result {
+        match self {
+            StringError::Write(_) => write!(f, "the moment is not written"),
+            StringError::Utf8(_) => write!(f, "the text is not UTF-8"),
+        }
+    }
+}
+
+impl From<WriteError> for StringError {
+    fn from(error: WriteError) -> StringError {
+        StringError::Write(error)
+    }
+}
+
+impl From<FromUtf8Error> for StringError {
+    fn from(error: FromUtf8Error) -> StringError {
+        StringError::Utf8(error)
     }
 }
 
@@ -248,12 +309,12 @@ pub enum ReadError {
     },
     /// 7: a number is outside its range.
     OutOfRange {
-        /// Where its first digit stands in the text.
+        /// Where its first digit stands in the text, or the sign of a zone offset.
         offset: usize,
     },
     /// 8: a fact is said again, differently.
     Contradiction {
-        /// Where its first digit or letter stands in the text.
+        /// Where its first digit or letter stands in the text, or the sign of a zone offset.
         offset: usize,
     },
     /// 9, place 1: no day fits all that is said.
@@ -374,7 +435,7 @@ impl From<FormatError> for ReadError {
 
 #[cfg(feature = "std")]
 mod sources {
-    use super::{FieldError, FormatError, ParseError, ReadError, WriteError};
+    use super::{FieldError, FormatError, ParseError, ReadError, StringError, WriteError};
     use std::error::Error;
 
     impl Error for FieldError {}
@@ -395,6 +456,15 @@ mod sources {
             match self {
                 WriteError::Format(error) => Some(error),
                 _ => None,
+            }
+        }
+    }
+
+    impl Error for StringError {
+        fn source(&self) -> Option<&(dyn Error + 'static)> {
+            match self {
+                StringError::Write(error) => Some(error),
+                StringError::Utf8(error) => Some(error),
             }
         }
     }

@@ -2,17 +2,17 @@
 //! pointers with their true lengths, and Rust's borrows keep the written slice apart from the others; nothing else is asked of a caller.
 use crate::engine::Engine;
 
-/// Year, month, day, hour, minute, second.
-pub type MomentWords = [u32; 6];
+/// Year, month, day, hour, minute, second, whether there is a zone offset, and its minutes in two's complement.
+pub type MomentWords = [u32; 8];
 
 /// Number, place, the day, said and number of hour, minute and second, the other day, the other hour, the days examined, the forms of the
-/// last weekday name and of the last month name.
-pub type ReadingWords = [u32; 18];
+/// last weekday name and of the last month name, said and minutes of the zone offset.
+pub type ReadingWords = [u32; 20];
 
 /// The part in which two days differ; for each kind of fact, from 0 on, where its words begin and end.
 pub type ReasonWords = [u32; 33];
 
-/// What a format is opened for: flags and widths are taken for writing, and refused for reading.
+/// What a format is opened for: flags, widths and `%s` are taken for writing, and refused for reading.
 #[derive(Clone, Copy)]
 pub enum Use {
     Reading = 0,
@@ -99,7 +99,7 @@ pub fn strftime(format: &[u8], moment: &MomentWords, out: &mut [u8]) -> (u32, us
 
 pub fn strptime(format: &[u8], text: &[u8], engine: Engine) -> ReadingWords {
     let (engine, budget) = engine.numbers();
-    let mut reading = [0; 18];
+    let mut reading = [0; 20];
     unsafe {
         c::larusqem_strptime_words(format.as_ptr(), format.len(), text.as_ptr(), text.len(), engine, budget, &mut reading);
     }
@@ -116,7 +116,7 @@ pub fn write(elements: &[u32], moment: &MomentWords, out: &mut [u8]) -> (u32, us
 
 pub fn read(elements: &[u32], text: &[u8], engine: Engine) -> ReadingWords {
     let (engine, budget) = engine.numbers();
-    let mut reading = [0; 18];
+    let mut reading = [0; 20];
     unsafe {
         c::larusqem_read_words(elements.as_ptr(), elements.len(), text.as_ptr(), text.len(), engine, budget, &mut reading);
     }

@@ -1,6 +1,6 @@
 //! Formats that are opened once.
 use crate::engine::Engine;
-use crate::error::{FormatError, ReadError, WriteError};
+use crate::error::{FormatError, ReadError, StringError, WriteError};
 use crate::ffi;
 use crate::moment::Moment;
 use crate::reading::Reading;
@@ -40,19 +40,22 @@ impl Elements {
         WriteError::judge(ffi::write(&self.0, &moment.words(), out))
     }
 
-    fn write(&self, moment: Moment) -> Vec<u8> {
+    fn write(&self, moment: Moment) -> Result<Vec<u8>, WriteError> {
         let mut out = vec![0; 64];
-        let written = self.write_to(moment, &mut out).or_else(|refused| {
-            out.resize(refused.place(), 0);
-            self.write_to(moment, &mut out)
-        });
-        out.truncate(written.expect("an opened format is refused only for room, and says how much"));
-        out
+        let written = match self.write_to(moment, &mut out) {
+            Err(WriteError::BufferTooSmall { needed }) => {
+                out.resize(needed, 0);
+                self.write_to(moment, &mut out)
+            }
+            written => written,
+        };
+        out.truncate(written?);
+        Ok(out)
     }
 }
 
-/// A format (RULES 4) that was opened once, for any number of writings and readings. It has no flags and no widths, since a text is not
-/// read by them: a [`WriteFormat`] takes them.
+/// A format (RULES 4) that was opened once, for any number of writings and readings. It has no flags, no widths and no `%s`, since a text
+/// is not read by them: a [`WriteFormat`] takes them.
 ///
 /// ```
 /// use larusqem::{Date, Format, FormatError, Moment};
@@ -104,7 +107,7 @@ impl Format {
     /// assert_eq!(format.write(Moment::midnight(Date::new(2017, 1, 1).unwrap())), b"2016-W52-7");
     /// ```
     pub fn write(&self, moment: Moment) -> Vec<u8> {
-        self.elements.write(moment)
+        self.elements.write(moment).expect("a format without %s is refused only for room, and says how much")
     }
 
     /// Writes a moment as a `String`. This fails only where the format itself is not UTF-8, since its bytes are copied.
@@ -161,7 +164,7 @@ impl FromStr for Format {
     }
 }
 
-/// A format for writing alone, which takes flags and widths (RULES 4.4), and was opened once for any number of writings.
+/// A format for writing alone, which takes flags and widths (RULES 4.4) and `%s`, and was opened once for any number of writings.
 ///
 /// After the `%` may stand a flag and then a width, 1 to 99. A number is filled on the left with blanks by `_`, with zeros by `0`, not at
 /// all by `-`, and otherwise with its own fill; a name, `%p` or `%P` with blanks, and `^` makes it capitals. Nothing is cut. A label in
@@ -177,6 +180,18 @@ impl FromStr for Format {
 /// assert_eq!(write(987, 9, 1), "  1  SEPTEMBER   987");
 ///
 /// assert_eq!(WriteFormat::new("%Y %^d").unwrap_err(), FormatError::BadConversion { offset: 3 });
+/// ```
+///
+/// `%s` writes the seconds from 1970-01-01 00:00:00 UTC, for which the moment must have a zone offset:
+///
+/// ```
+/// use larusqem::{Moment, Offset, WriteError, WriteFormat};
+///
+/// let seconds = WriteFormat::new("at %s").unwrap();
+/// let moment: Moment = "1934-03-05 07:08:09".parse().unwrap();
+/// assert_eq!(seconds.write_string(moment.with_offset(Offset::UTC)).unwrap(), "at -1130604711");
+/// assert_eq!(seconds.write_string(moment.with_offset(Offset::from_minutes(90))).unwrap(), "at -1130610111");
+/// assert_eq!(seconds.write(moment), Err(WriteError::NoZoneOffset { offset: 3 }));
 /// ```
 ///
 /// The compiler keeps it from a reading, which would be refused:
@@ -195,19 +210,19 @@ impl WriteFormat {
         Ok(WriteFormat { elements: Elements::open(format.as_ref(), ffi::Use::Writing)? })
     }
 
-    /// As [`Format::write_to`].
+    /// As [`Format::write_to`]; refused too where the format has `%s` and the moment no zone offset.
     pub fn write_to(&self, moment: Moment, out: &mut [u8]) -> Result<usize, WriteError> {
         self.elements.write_to(moment, out)
     }
 
-    /// As [`Format::write`].
-    pub fn write(&self, moment: Moment) -> Vec<u8> {
+    /// As [`Format::write`]. The only refusal is that the format has `%s` and the moment no zone offset.
+    pub fn write(&self, moment: Moment) -> Result<Vec<u8>, WriteError> {
         self.elements.write(moment)
     }
 
-    /// As [`Format::write_string`].
-    pub fn write_string(&self, moment: Moment) -> Result<String, FromUtf8Error> {
-        String::from_utf8(self.write(moment))
+    /// As [`Format::write_string`], and refused as [`WriteFormat::write`] is.
+    pub fn write_string(&self, moment: Moment) -> Result<String, StringError> {
+        Ok(String::from_utf8(self.write(moment)?)?)
     }
 }
 
@@ -220,7 +235,7 @@ impl FromStr for WriteFormat {
     }
 }
 
-/// A format without flags and widths writes the same.
+/// A format without flags, widths and `%s` writes the same.
 impl From<Format> for WriteFormat {
     fn from(format: Format) -> WriteFormat {
         WriteFormat { elements: format.elements }

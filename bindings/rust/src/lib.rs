@@ -72,6 +72,22 @@
 //! A [`WriteFormat`] takes them, and so does [`strftime`]: `%-d` writes no zero in front, `%_3d` fills to three places with blanks, `%^a`
 //! writes capitals. A [`Format`], which also reads, refuses them, and so does [`strptime`].
 //!
+//! # Zone offsets
+//!
+//! A [`Moment`] has an [`Offset`] or none, and so has a [`Reading`]: how many minutes its time is ahead of UTC. `%z` writes and reads it as a
+//! sign, two digits of hours and two of minutes, without white space before it; where there is none, nothing is written. `%s` takes the
+//! offset off and writes the seconds from 1970-01-01 00:00:00 UTC. Like flags it is for a [`WriteFormat`] and [`strftime`] alone, and it is
+//! refused where there is no offset. Which day and hour a text fits does not depend on the offset: they are those that it says.
+//!
+//! ```
+//! use larusqem::{Format, Offset, WriteFormat};
+//!
+//! let reading = Format::new("%F %T %z").unwrap().read("1934-03-05 07:08:09 +0130").unwrap();
+//! assert_eq!(reading.offset, Offset::from_minutes(90));
+//! let moment = reading.moment().unwrap();
+//! assert_eq!(WriteFormat::new("%s").unwrap().write(moment).unwrap(), b"-1130610111");
+//! ```
+//!
 //! # Engines
 //!
 //! The day is looked for by an [`Engine`]: one that passes over what cannot fit, or a plain one that examines day after day. Both give the
@@ -98,7 +114,7 @@
 //! # What is proved
 //!
 //! The C functions of the repository's library. This crate gives them types, and is tested. A [`Date`] or a [`Moment`] that exists is
-//! valid, by the proved functions.
+//! valid, by the proved functions; so is an [`Offset`], by a range that is tested against them.
 //!
 //! Every call is pure: no locale, time zone, clock or global state, and any number of threads may share a [`Format`] or [`WriteFormat`].
 //!
@@ -118,15 +134,17 @@ mod error;
 mod ffi;
 mod format;
 mod moment;
+mod offset;
 mod quarrel;
 mod reading;
 mod shape;
 
 pub use date::{Date, Weekday};
 pub use engine::Engine;
-pub use error::{Field, FieldError, FormatError, ParseError, ReadError, WriteError};
+pub use error::{Field, FieldError, FormatError, ParseError, ReadError, StringError, WriteError};
 pub use format::{Format, WriteFormat};
 pub use moment::Moment;
+pub use offset::Offset;
 pub use quarrel::{Kind, Part, Quarrel, Words};
 pub use reading::{NameForm, Reading};
 
@@ -134,8 +152,8 @@ pub use reading::{NameForm, Reading};
 pub const LONGEST_WRITING: usize = 25_344;
 
 /// Writes a moment by a format (RULES 5) over the start of `out`, and says how many bytes that is. A refusal leaves all of `out` as it
-/// came. The format may have flags and widths. For many moments, or where the length is not known, open a [`WriteFormat`] or a [`Format`];
-/// [`LONGEST_WRITING`] bytes are enough for any.
+/// came. The format may have flags, widths and `%s`. For many moments, or where the length is not known, open a [`WriteFormat`] or a
+/// [`Format`]; [`LONGEST_WRITING`] bytes are enough for any.
 ///
 /// ```
 /// use larusqem::{strftime, FormatError, Moment, WriteError};
@@ -153,8 +171,8 @@ pub fn strftime(format: impl AsRef<[u8]>, moment: Moment, out: &mut [u8]) -> Res
     WriteError::judge(ffi::strftime(format.as_ref(), &moment.words(), out))
 }
 
-/// Reads a text by a format (RULES 6 to 8), which has no flags and no widths. Text left over is no refusal: [`Reading::is_whole`] tells.
-/// For many texts, open a [`Format`].
+/// Reads a text by a format (RULES 6 to 8), which has no flags, no widths and no `%s`. Text left over is no refusal:
+/// [`Reading::is_whole`] tells. For many texts, open a [`Format`].
 ///
 /// ```
 /// use larusqem::strptime;

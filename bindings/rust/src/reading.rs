@@ -3,6 +3,7 @@ use crate::date::Date;
 use crate::error::{FormatError, ReadError};
 use crate::ffi;
 use crate::moment::Moment;
+use crate::offset::Offset;
 use crate::quarrel::{Part, Quarrel};
 use alloc::format;
 use alloc::string::ToString;
@@ -63,6 +64,8 @@ pub struct Reading {
     pub weekday_form: Option<NameForm>,
     /// The form of the last month name, where one was read. A number, as by `%m`, is no name.
     pub month_form: Option<NameForm>,
+    /// The zone offset, where it was said. Day and hour are those that the text says, whatever the offset.
+    pub offset: Option<Offset>,
 }
 
 impl Reading {
@@ -81,17 +84,20 @@ impl Reading {
         self.unread == text.as_ref().len()
     }
 
-    /// The moment, where day, hour, minute and second are all said.
+    /// The moment, where day, hour, minute and second are all said; with the zone offset, where that is said too.
     ///
     /// ```
     /// use larusqem::strptime;
     ///
     /// let reading = strptime("%F %T", "1934-03-05 7:08:09").unwrap();
     /// assert_eq!(reading.moment().unwrap().to_string(), "1934-03-05 07:08:09");
+    /// let reading = strptime("%F %T %z", "1934-03-05 7:08:09 +0130").unwrap();
+    /// assert_eq!(reading.moment().unwrap().to_string(), "1934-03-05 07:08:09 +0130");
     /// assert_eq!(strptime("%F", "1934-03-05").unwrap().moment(), None);
     /// ```
     pub fn moment(&self) -> Option<Moment> {
-        Moment::new(self.date?, self.hour?, self.minute?, self.second?).ok()
+        let moment = Moment::new(self.date?, self.hour?, self.minute?, self.second?).ok()?;
+        Some(moment.with_offset(self.offset))
     }
 
     /// What the words of a reading of a text say. The reason is asked for where it is needed alone, so that no other reading takes longer.
@@ -101,7 +107,7 @@ impl Reading {
         reason: impl FnOnce() -> ffi::ReasonWords,
     ) -> Result<Reading, ReadError> {
         let [number, place, year, month, day, hour_said, hour, minute_said, minute, second_said, second, ..] = words;
-        let [.., other_year, other_month, other_day, other_hour, examined, weekday_form, month_form] = words;
+        let [.., other_year, other_month, other_day, other_hour, examined, weekday_form, month_form, zone_said, zone] = words;
         let offset = place as usize;
         let said = |said: u32, number: u32| (said == 1).then_some(number);
         Err(match (number, place) {
@@ -115,6 +121,7 @@ impl Reading {
                     examined,
                     weekday_form: NameForm::from_number(weekday_form),
                     month_form: NameForm::from_number(month_form),
+                    offset: said(zone_said, zone).map(|minutes| Offset::known(minutes as i32)),
                 })
             }
             (1, _) => ReadError::Format(FormatError::TooLong),
@@ -136,7 +143,8 @@ impl Reading {
     }
 }
 
-/// As the program `date_lines` shows it: `1934-03-05 07:08:--`, an unsaid day `-` and an unsaid hour, minute or second `--`.
+/// As the program `date_lines` shows it: `1934-03-05 07:08:--`, an unsaid day `-` and an unsaid hour, minute or second `--`. The zone
+/// offset is not shown.
 impl fmt::Display for Reading {
     fn fmt(&self, f: &mut fmt::Formatter) -> fmt::Result {
         let day = self.date.map_or("-".to_string(), |date| date.to_string());

@@ -11,7 +11,8 @@ pub fn numbers<const N: usize>(text: &str, shape: &str) -> Result<[u32; N], Pars
         return Err(ParseError::Shape { offset });
     }
     let mut numbers = [0; N];
-    for (number, digits) in numbers.iter_mut().zip(text.split(|byte| !byte.is_ascii_digit())) {
+    let runs = text.split(|byte| !byte.is_ascii_digit()).filter(|digits| !digits.is_empty());
+    for (number, digits) in numbers.iter_mut().zip(runs) {
         *number = digits.iter().fold(0, |n, digit| n * 10 + u32::from(digit - b'0'));
     }
     Ok(numbers)

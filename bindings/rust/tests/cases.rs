@@ -1,6 +1,6 @@
 //! Worked cases through the Rust types, by a format that is opened once and by one that is not; readings by every engine.
-use larusqem::{strftime, strptime, strptime_with, Date, Engine, Field, Format, FormatError, Kind, Moment, NameForm, ParseError, Part};
-use larusqem::{ReadError, Reading, Weekday, WriteError, WriteFormat, LONGEST_WRITING};
+use larusqem::{strftime, strptime, strptime_with, Date, Engine, Field, Format, FormatError, Kind, Moment, NameForm, Offset, ParseError};
+use larusqem::{Part, ReadError, Reading, StringError, Weekday, WriteError, WriteFormat, LONGEST_WRITING};
 
 fn date(year: u32, month: u32, day: u32) -> Date {
     Date::new(year, month, day).unwrap()
@@ -14,6 +14,10 @@ fn midnight(year: u32, month: u32, day: u32) -> Moment {
     Moment::midnight(date(year, month, day))
 }
 
+fn minutes(minutes: i32) -> Offset {
+    Offset::from_minutes(minutes).unwrap()
+}
+
 fn write(format: &str, m: Moment) -> String {
     let opened = Format::new(format).unwrap();
     let text = write_styled(format, m);
@@ -23,12 +27,12 @@ fn write(format: &str, m: Moment) -> String {
     text
 }
 
-/// By a format that may have flags and widths.
+/// By a format that may have flags, widths and `%s`.
 fn write_styled(format: &str, m: Moment) -> String {
     let mut out = [0; 128];
     let n = strftime(format, m, &mut out).unwrap();
     let opened: WriteFormat = format.parse().unwrap();
-    assert_eq!(opened.write(m), &out[..n]);
+    assert_eq!(opened.write(m).unwrap(), &out[..n]);
     assert_eq!(opened.write_to(m, &mut [0; 128]), Ok(n));
     let text = opened.write_string(m).unwrap();
     assert_eq!(text.as_bytes(), &out[..n]);
@@ -188,7 +192,7 @@ fn longest() {
     assert_eq!(strftime(&widest, spring, &mut out[1..]), refused);
     assert_eq!(out, [b'.'; LONGEST_WRITING]);
     assert_eq!(strftime(&widest, spring, &mut out), Ok(LONGEST_WRITING));
-    assert_eq!(WriteFormat::new(&widest).unwrap().write(spring), out);
+    assert_eq!(WriteFormat::new(&widest).unwrap().write(spring).unwrap(), out);
     assert_eq!(WriteFormat::new(widest + "%"), Err(FormatError::TooLong));
     let format = Format::new(vec![b' '; 1024]).unwrap();
     assert_eq!(format.read(vec![b' '; 1024]).unwrap().unread, 1024);
@@ -201,10 +205,128 @@ fn reading() {
     assert_eq!(read_day("%G %V %u", "2009 53 5"), Some(date(2010, 1, 1)));
     assert_eq!(read_day("%d %b %Y", "29 Feb 2000"), Some(date(2000, 2, 29)));
     assert_eq!(read_day("%c", "MON mar 5 7:8:9 1934"), Some(date(1934, 3, 5)));
-    let all = |r: Reading| (r.unread, r.date, r.hour, r.minute, r.second);
-    assert_eq!(all(read("", "x").unwrap()), (0, None, None, None, None));
-    assert_eq!(all(read("%M", "0").unwrap()), (1, None, None, Some(0), None));
-    assert_eq!(all(read("%c", "Mon Mar  5 07:08:09 1934").unwrap()), (24, Some(date(1934, 3, 5)), Some(7), Some(8), Some(9)));
+    let all = |r: Reading| (r.unread, r.date, r.hour, r.minute, r.second, r.offset);
+    assert_eq!(all(read("", "x").unwrap()), (0, None, None, None, None, None));
+    assert_eq!(all(read("%M", "0").unwrap()), (1, None, None, Some(0), None, None));
+    assert_eq!(all(read("%c", "Mon Mar  5 07:08:09 1934").unwrap()), (24, Some(date(1934, 3, 5)), Some(7), Some(8), Some(9), None));
+    assert_eq!(all(read("%T %z", "7:8:9 -0030").unwrap()), (11, None, Some(7), Some(8), Some(9), Some(minutes(-30))));
+}
+
+/// Each offset is written, shown and read back as a sign, two digits of hours and two of minutes.
+#[test]
+fn every_offset() {
+    let spring = moment("1934-03-05 07:08:09");
+    let format = Format::new("%z").unwrap();
+    assert_eq!(write("<%z>", spring), "<>");
+    for (sign, hours, rest) in [1, -1].into_iter().flat_map(|sign| (0..24).flat_map(move |h| (0..60).map(move |m| (sign, h, m)))) {
+        let offset = minutes(sign * (60 * hours + rest));
+        let text = format!("{}{hours:02}{rest:02}", if sign < 0 { '-' } else { '+' });
+        let written = if text == "-0000" { "+0000" } else { &text };
+        let there = spring.with_offset(offset);
+        assert_eq!(format.write(there), written.as_bytes());
+        assert_eq!((offset.to_string(), text.parse()), (written.to_string(), Ok(offset)));
+        assert_eq!(there.to_string().parse(), Ok(there));
+        let reading = format.read(&text).unwrap();
+        assert_eq!((reading.unread, reading.offset, reading.date), (5, Some(offset), None));
+    }
+    assert_eq!(read("%z", "-0000"), read("%z", "+0000"));
+}
+
+#[test]
+fn offsets_that_are_read() {
+    for (format, text, unread, offset) in
+        [("%z", "+00000", 5, 0), ("%z%M", "+013005", 7, 90), ("at %z", "at \t-1200", 9, -720), ("%z %z", "+0000 -0000", 11, 0)]
+    {
+        let reading = read(format, text).unwrap();
+        assert_eq!((reading.unread, reading.offset), (unread, Some(minutes(offset))), "{format} {text}");
+    }
+    // the day is that of the text, not of UTC
+    for text in ["Mon 5 Mar 1934 00:30 +0130", "Mon 5 Mar 1934 23:30 -2359"] {
+        let reading = read("%a %d %b %Y %R %z", text).unwrap();
+        assert_eq!((reading.date, reading.moment()), (Some(date(1934, 3, 5)), None));
+    }
+    let no_match = |offset| Err(ReadError::NoMatch { offset });
+    for (format, text, refused) in [
+        ("%z", "", no_match(0)),
+        ("%z", "0130", no_match(0)),
+        ("%z", " +0130", no_match(0)),
+        ("%z", "+ 130", no_match(0)),
+        ("%z", "+013", no_match(0)),
+        ("%z", "+01:30", no_match(0)),
+        ("%z", "Z", no_match(0)),
+        ("%d %z", "5 \u{2212}0130", no_match(2)),
+        ("%d %z", "5 +2400", Err(ReadError::OutOfRange { offset: 2 })),
+        ("%d %z", "5 -0060", Err(ReadError::OutOfRange { offset: 2 })),
+        ("%z %z", "+0130 +0131", Err(ReadError::Contradiction { offset: 6 })),
+        ("%z %z", "+0130 -0130", Err(ReadError::Contradiction { offset: 6 })),
+        ("%z %z", "+0130 +9999", Err(ReadError::OutOfRange { offset: 6 })),
+        ("%z %z", "+0130 130", no_match(6)),
+    ] {
+        assert_eq!(read(format, text), refused, "{format} {text}");
+    }
+}
+
+#[test]
+fn seconds_from_1970() {
+    for (text, seconds) in [
+        ("1970-01-01 00:00:00 +0000", "0"),
+        ("1970-01-01 00:00:00 +0001", "-60"),
+        ("1970-01-01 01:30:00 +0130", "0"),
+        ("1969-12-31 23:59:59 +0000", "-1"),
+        ("1969-12-31 23:59:60 +0000", "0"),
+        ("1969-12-31 23:00:00 -0100", "0"),
+        ("1934-03-05 07:08:09 +0130", "-1130610111"),
+        ("1934-03-05 07:08:09 -0030", "-1130602911"),
+        ("2000-02-29 12:00:00 -2359", "951911940"),
+        ("2016-12-31 23:59:60 +0000", "1483228800"),
+        ("2017-01-01 00:00:00 +0000", "1483228800"),
+        ("0001-01-01 00:00:00 +2359", "-62135683140"),
+        ("9999-12-31 23:59:60 -2359", "253402387140"),
+    ] {
+        let there = moment(text);
+        assert_eq!(write_styled("%s", there), seconds);
+        assert_eq!(write_styled("(%s|%-d)", there), format!("({seconds}|{})", there.date().day()));
+        let nowhere = there.with_offset(None);
+        assert_eq!(WriteFormat::new("%d %s%s").unwrap().write(nowhere), Err(WriteError::NoZoneOffset { offset: 3 }));
+    }
+    let spring = moment("1934-03-05 07:08:09");
+    let mut out = [7; 16];
+    let format = WriteFormat::new("%z%s").unwrap();
+    let refused = WriteError::NoZoneOffset { offset: 2 };
+    assert_eq!((refused.number(), refused.place()), (12, 2));
+    assert_eq!(strftime("%z%s", spring, &mut out), Err(refused));
+    assert_eq!(format.write_to(spring, &mut out), Err(refused));
+    assert_eq!(format.write_to(spring, &mut []), Err(refused));
+    assert_eq!(format.write_string(spring), Err(StringError::Write(refused)));
+    assert_eq!(strftime("%s%Q", spring, &mut out), Err(WriteError::Format(FormatError::BadConversion { offset: 2 })));
+    assert_eq!(format.write_to(spring.with_offset(Offset::UTC), &mut out[..15]), Err(WriteError::BufferTooSmall { needed: 16 }));
+    assert_eq!(out, [7; 16]);
+    assert_eq!(format.write_to(spring.with_offset(Offset::UTC), &mut out), Ok(16));
+    assert_eq!(&out, b"+0000-1130604711");
+    assert!(matches!(WriteFormat::new(b"\xb0%s").unwrap().write_string(spring.with_offset(Offset::UTC)), Err(StringError::Utf8(_))));
+}
+
+#[test]
+fn refused_offsets() {
+    let bad = FormatError::BadConversion { offset: 3 };
+    for conversion in ["%5z", "%_z", "%-z", "%0z", "%^z", "%Ez", "%Oz", "%5s", "%_s", "%-s", "%0s", "%^s", "%Es", "%Os"] {
+        let format = format!("%d {conversion}");
+        assert_eq!(WriteFormat::new(&format), Err(bad), "{format}");
+        assert_eq!(Format::new(&format), Err(bad), "{format}");
+    }
+    assert_eq!(Format::new("%d %s"), Err(bad));
+    assert_eq!(strptime("%d %s", "5 0"), Err(ReadError::Format(bad)));
+    for wrong in [1440, -1440, 65536, i32::MIN, i32::MAX] {
+        assert_eq!(Offset::from_minutes(wrong), None);
+        let refusal = Offset::try_from(wrong).unwrap_err();
+        assert_eq!((refusal.field(), refusal.number(), refusal.place()), (Field::Offset, 2, 7));
+        assert_eq!(refusal.to_string(), "the zone offset is not -1439 to 1439 minutes");
+    }
+    assert_eq!((i32::from(minutes(-1439)), Offset::try_from(1439)), (-1439, Ok(minutes(1439))));
+    assert!(minutes(-1439) < minutes(-30) && minutes(-30) < Offset::UTC && Offset::UTC < minutes(1));
+    let spring = moment("1934-03-05 07:08:09");
+    assert!(spring < spring.with_offset(minutes(-30)) && spring.with_offset(minutes(-30)) < spring.with_offset(Offset::UTC));
+    assert!(spring.with_offset(Offset::UTC) < moment("1934-03-05 07:08:10"));
 }
 
 #[test]
@@ -424,6 +546,12 @@ fn exact_texts() {
     for (text, offset) in [("1934-03-05", 10), ("1934-03-05 07:08", 16), ("1934-03-05T07:08:09", 10), ("1934-03-05 07:08:09Z", 19)] {
         assert_eq!(text.parse::<Moment>(), Err(ParseError::Shape { offset }), "{text}");
     }
+    for (text, offset) in [("", 0), ("0130", 0), ("+", 1), ("+013", 4), ("+01300", 5), ("+01:30", 3), (" +0130", 0), ("\u{2212}0130", 0)] {
+        assert_eq!(text.parse::<Offset>(), Err(ParseError::Shape { offset }), "{text}");
+        let behind = format!("1934-03-05 07:08:09 {text}");
+        assert_eq!(behind.parse::<Moment>(), Err(ParseError::Shape { offset: 20 + offset }), "{behind}");
+    }
+    assert_eq!("1934-03-05 07:08:0\u{664} +0130".parse::<Moment>(), Err(ParseError::Shape { offset: 18 }));
     let field = |refused: ParseError| match refused {
         ParseError::Field(error) => error.field(),
         other => panic!("{other}"),
@@ -434,6 +562,10 @@ fn exact_texts() {
     }
     assert_eq!(field("1934-03-05 24:00:00".parse::<Moment>().unwrap_err()), Field::Hour);
     assert_eq!(field("1934-03-05 23:59:61".parse::<Moment>().unwrap_err()), Field::Second);
+    for text in ["+2400", "-2400", "+0060", "-9999"] {
+        assert_eq!(field(text.parse::<Offset>().unwrap_err()), Field::Offset);
+        assert_eq!(field(format!("1934-03-05 07:08:09 {text}").parse::<Moment>().unwrap_err()), Field::Offset);
+    }
 }
 
 #[test]
@@ -441,10 +573,13 @@ fn shown_to_people() {
     assert_eq!(date(34, 3, 5).to_string(), "0034-03-05");
     assert_eq!(moment("0034-03-05 07:08:60").to_string(), "0034-03-05 07:08:60");
     assert_eq!(format!("{:>7}|{:9}|", Field::Day, Weekday::Sunday), "    day|Sunday   |");
+    assert_eq!(format!("{:>7}|{:7}|{}", minutes(-30), minutes(1439), Field::Offset), "  -0030|+2359  |zone offset");
+    assert_eq!(format!("{:?}", minutes(-30)), "Offset { minutes: -30 }");
     assert_eq!(Date::new(1900, 2, 29).unwrap_err().to_string(), "the day is not 1 to the month's length");
     let shown = |format, text| read(format, text).unwrap().to_string();
     assert_eq!(shown("%d %b %Y %H:%M", "5 Mar 1934 07:08"), "1934-03-05 07:08:--");
     assert_eq!(shown("%S", "9"), "- --:--:09");
+    assert_eq!(shown("%F %z", "1934-03-05 +0130"), "1934-03-05 --:--:--");
     let refused = |format, text| read(format, text).unwrap_err().to_string();
     assert_eq!(refused("%H%M", "930"), "the number at byte 0 of the text is outside its range");
     assert_eq!(format!("{:>9}|{:6}|", Kind::Weekday, Part::Year), "  weekday|year  |");
@@ -463,6 +598,9 @@ fn errors_have_sources() {
     assert_eq!(source(&strftime("%Q", Moment::midnight(Date::FIRST), &mut []).unwrap_err()), unknown);
     assert_eq!(source(&"1934-13-01".parse::<Date>().unwrap_err()), Some("the month is not 1 to 12".to_string()));
     assert_eq!(source(&strptime("%d %b", "30 Feb").unwrap_err()), None);
+    let unsaid = WriteFormat::new("%s").unwrap().write_string(Moment::midnight(Date::FIRST)).unwrap_err();
+    let why = "the seconds from 1970 are to be written at byte 0 of the format, and the moment has no zone offset";
+    assert_eq!((unsaid.to_string(), source(&unsaid)), ("the moment is not written".to_string(), Some(why.to_string())));
     let field: &dyn Error = &Date::new(0, 1, 1).unwrap_err();
     assert!(field.downcast_ref::<larusqem::FieldError>().is_some() && field.source().is_none());
 }
