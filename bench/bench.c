@@ -53,7 +53,7 @@ static struct tm dates[DATES];
 static struct larusqem_moment moments[DATES];
 static volatile uint64_t sink;
 
-/* dates of the years 1000 to 9999, for both libraries; the C library's have their weekday and day of the year filled in */
+/* dates of the years 1000 to 9999 with zone offsets, for both libraries; the C library's have weekday and day of the year filled in */
 static void make_dates(void) {
     for (int i = 0; i < DATES; i++) {
         struct tm t = {0};
@@ -64,8 +64,12 @@ static void make_dates(void) {
         t.tm_sec = (int)below(60);
         timegm(&t);
         dates[i] = t;
-        moments[i] = (struct larusqem_moment){(uint32_t)(t.tm_year + 1900), (uint32_t)(t.tm_mon + 1), (uint32_t)t.tm_mday,
-                                              (uint32_t)t.tm_hour, (uint32_t)t.tm_min, (uint32_t)t.tm_sec};
+        moments[i] = (struct larusqem_moment){{(uint32_t)(t.tm_year + 1900), (uint32_t)(t.tm_mon + 1), (uint32_t)t.tm_mday},
+                                              (uint32_t)t.tm_hour, (uint32_t)t.tm_min, (uint32_t)t.tm_sec, 1, 0};
+    }
+    for (int i = 0; i < DATES; i++) {
+        moments[i].offset = (int32_t)below(2879) - 1439;
+        dates[i].tm_gmtoff = 60L * moments[i].offset;
     }
 }
 
@@ -105,11 +109,23 @@ static void write_opened(void) {
     for (int i = 0; i < DATES; i++) sink += larusqem_write(elements, element_count, moments[i], out, sizeof out).place;
 }
 
+/* %s of the C library goes by the local zone: there, the seconds from 1970 by a zone offset take timegm and snprintf */
+static int is_seconds(void) { return strcmp(format, "%s") == 0; }
+
+static size_t put_seconds(char *to, size_t room, const struct tm *date) {
+    struct tm t = *date;
+    return (size_t)snprintf(to, room, "%lld", (long long)timegm(&t) - date->tm_gmtoff);
+}
+
+static void write_their_seconds(void) {
+    for (int i = 0; i < DATES; i++) sink += put_seconds(out, sizeof out, &dates[i]);
+}
+
 /* ends the program where the two libraries do not write the same for a date */
 static void check_writing(void) {
     char theirs[256];
     for (int i = 0; i < DATES; i++) {
-        size_t length = strftime(theirs, sizeof theirs, format, &dates[i]);
+        size_t length = is_seconds() ? put_seconds(theirs, sizeof theirs, &dates[i]) : strftime(theirs, sizeof theirs, format, &dates[i]);
         struct larusqem_answer a = larusqem_strftime(format, format_length, moments[i], out, sizeof out);
         if (a.number != LARUSQEM_DONE || a.place != length || memcmp(theirs, out, length) != 0)
             fail("not written as the C library writes it", format, theirs);
@@ -117,12 +133,13 @@ static void check_writing(void) {
 }
 
 static void writing(void) {
-    static const char *formats[] = {"%c", "%F %T", "%G-W%V-%u", "%A %d %B %Y", "%-d %^b %_5Y"};
-    printf("| write | C library | ours, format opened each time | ratio | ours, opened once | ratio |\n|---|---|---|---|---|---|\n");
+    static const char *formats[] = {"%c", "%F %T", "%F %T %z", "%s", "%G-W%V-%u", "%A %d %B %Y", "%-d %^b %_5Y"};
+    printf("| write | C library (`%%s`: timegm and snprintf) | ours, format opened each time | ratio | ours, opened once | ratio |\n"
+           "|---|---|---|---|---|---|\n");
     for (size_t k = 0; k < COUNT(formats); k++) {
         open_format(formats[k], LARUSQEM_FOR_WRITING);
         check_writing();
-        row_to_c(write_theirs, write_anew, write_opened);
+        row_to_c(is_seconds() ? write_their_seconds : write_theirs, write_anew, write_opened);
     }
     printf("\n");
 }
@@ -167,7 +184,7 @@ static void read_chrono(void) {
 /* readings with nothing to judge by day or hour, and one that judges the hour */
 static void reading_clocks(void) {
     static const struct { const char *format, *text; } cases[] = {
-        {"%M:%S", "08:09"}, {"month %n%M min", "month   8 min"}, {"%H:%M:%S", "07:08:09"}};
+        {"%M:%S", "08:09"}, {"month %n%M min", "month   8 min"}, {"%H:%M:%S", "07:08:09"}, {"%z", "+0130"}};
     printf("| read, no day to judge | C library | ours, format opened each time | ratio | ours, opened once | ratio |\n");
     printf("|---|---|---|---|---|---|\n");
     for (size_t k = 0; k < COUNT(cases); k++) {
@@ -184,8 +201,9 @@ static void check_reading(void) {
         struct tm t = dates[i], theirs = {0};
         struct larusqem_reading r = larusqem_read(elements, element_count, texts[i], text_lengths[i]);
         t.tm_sec = 0;
-        if (r.number != LARUSQEM_DONE || r.year != moments[i].year || r.month != moments[i].month || r.day != moments[i].day ||
-            r.hour != moments[i].hour || r.minute != moments[i].minute)
+        if (r.number != LARUSQEM_DONE || r.year != moments[i].date.year || r.month != moments[i].date.month ||
+            r.day != moments[i].date.day || r.hour != moments[i].hour || r.minute != moments[i].minute ||
+            (r.offset_said && r.offset != moments[i].offset))
             fail("not read back", format, texts[i]);
         if (!strptime(texts[i], format, &theirs) || timegm(&theirs) != timegm(&t))
             fail("not read back by the C library", format, texts[i]);
@@ -197,7 +215,8 @@ static void check_reading(void) {
 
 /* readings with their conclusion: the day is judged, and theirs made a time */
 static void reading_dates(void) {
-    static const char *formats[] = {"%d %b %Y %H:%M", "%Y-%m-%d %H:%M", "%a %d %b %Y %H:%M", "%A %d %B %Y %H:%M", "%d %b %Y %I:%M %p"};
+    static const char *formats[] = {"%d %b %Y %H:%M",    "%Y-%m-%d %H:%M",    "%Y-%m-%d %H:%M %z",
+                                    "%a %d %b %Y %H:%M", "%A %d %B %Y %H:%M", "%d %b %Y %I:%M %p"};
     printf("| read, day and time | C library, strptime and timegm | chrono, opened once | ours, format opened each time | "
            "to C | to chrono | ours, opened once | to C | to chrono |\n|---|---|---|---|---|---|---|---|---|\n");
     for (size_t k = 0; k < COUNT(formats); k++) {
@@ -348,7 +367,7 @@ static struct larusqem_date any_day(void) {
 static void say(struct timed *t, char letter, struct larusqem_date d) {
     char conversion[] = {'%', letter, ' ', 0};
     size_t length = strlen(t->text);
-    struct larusqem_moment m = {d.year, d.month, d.day, 0, 0, 0};
+    struct larusqem_moment m = {.date = d};
     strcat(t->format, conversion);
     t->text[length + larusqem_strftime(conversion, 3, m, t->text + length, 16).place] = 0;
 }
