@@ -1,12 +1,13 @@
 #!/usr/bin/env python3
-"""Runs the lists, readings, forms, counts, reasons, sentences and writings that docs/RULES.md shows: python3 tests/rules.py FOLDER PREFIX
+"""Runs the lists, readings, forms, zone offsets, counts, reasons, sentences and writings that docs/RULES.md shows:
+python3 tests/rules.py FOLDER PREFIX
 
 The list and the report of the section on each program must be what the program in FOLDER makes of it. Each row of its tables of texts,
 formats and answers is run as a list of one text; the number, the place and, with 0, the date must be those of date_lines. Each row of its
 table of moments, formats and answers is run by the library that is installed under PREFIX; all of the buffer must be as the row says. Each
 row of its table of days examined is run there too, by both engines, and with the smallest budget that is enough and the largest that is
-not; each row of its table of the forms of names, by both engines; and each row of its table of reasons. For each sentence of quarrels there
-is a list of one text that must get it.
+not; each row of its tables of the forms of names and of zone offsets, by both engines; and each row of its table of reasons. For each
+sentence of quarrels there is a list of one text that must get it.
 """
 import ctypes
 import itertools
@@ -19,9 +20,12 @@ ROOT = os.path.dirname(os.path.dirname(os.path.abspath(__file__)))
 COUNTS = r"(?m)^\| `([^`|]*)` \| `([^`|]*)` \| (\d+) \| (\d+) \|"
 ROW = r"(?m)^\| (`[^|]*`|any text[^|`]*?)(?: \*)? \| (`[^|]*`|empty) \| (\d+), place (\d+)([^|\n]*)"
 NAMED = r"(?m)^\| `([^`|]*)` \| `([^`|]*)` \| [^|]* \| (none|full|middle|short) \| (none|full|middle|short) \|"
+OFFSET = r"(?m)^\| `([^`|]*)` \| `([^`|]*)` \| [^|]* \| (unsaid|-?\d+) \|$"
 EXAMPLE = r"(?ms)^### 9\.\d `(\w+)`$.*?^```\n(.*?)^```\n\ngets[^`]*```\n(.*?)^```$"
 FORMS = ["none", "full", "middle", "short"]
 PARTS = ["", "year", "month", "day"]
+# the words of a zone offset that is unsaid: the second is not looked at
+UNSAID = [0, 1440]
 BLANKS = {"": 0, "a blank and ": 1, "two blanks and ": 2, "three blanks and ": 3, "seven blanks and ": 7}
 # a format and a text for each sentence of quarrels, in the order of their table
 REFUSED = [
@@ -61,9 +65,14 @@ def readings(rules):
 def written(library, form, moment, room):
     """The number, the place and the buffer, of which each byte was a #."""
     buffer = ctypes.create_string_buffer(b"#" * room, room)
-    fields = (ctypes.c_uint32 * 6)(*moment)
+    fields = (ctypes.c_uint32 * 8)(*moment)
     result = library.larusqem_strftime_words(form.encode(), ctypes.c_size_t(len(form)), fields, buffer, ctypes.c_size_t(room))
     return result >> 32, result & 0xFFFFFFFF, buffer.raw.decode()
+
+
+def zone(offset):
+    """The words of a zone offset that is said."""
+    return [1, int(offset[0] + "1") * (60 * int(offset[1:3]) + int(offset[3:5])) % 2**32]
 
 
 def writings(rules):
@@ -72,8 +81,12 @@ def writings(rules):
     for row in rows(rules, "| moment | format | answer"):
         given, formats, answer = row.strip("|").split("|")
         if "the same" not in given:
-            dates = re.findall(r"(\d+)-(\d+)-(\d+)(?: (\d+):(\d+):(\d+))?", given) or [("1", "1", "1", "", "", "")]
-            moments = [[int(field or 0) for field in date] for date in dates]
+            dates = re.findall(r"(\d+)-(\d+)-(\d+)(?: (\d+):(\d+):(\d+))?( [+-]\d{4})?", given) or [("1", "1", "1", "", "", "", "")]
+            moments = [[*(int(field or 0) for field in date[:6]), *(zone(date[6][1:]) if date[6] else UNSAID)] for date in dates]
+        elif "zone offset unsaid" in given:
+            moments = [[*moment[:6], *UNSAID] for moment in moments]
+        elif said := re.search(r" with ([+-]\d{4})", given):
+            moments = [[*moment[:6], *zone(said[1])] for moment in moments]
         asked = list(itertools.product(moments, re.findall(r"`([^`]*)`", formats) or [""]))
         room = int((re.search(r"a buffer of (\d+) bytes", given) or [0, 64])[1])
         refused = re.search(r"([1-9]\d*), place (\d+)", answer)
@@ -90,7 +103,7 @@ def writings(rules):
 
 def words_of(library, form, text, engine, budget):
     """The words of a reading."""
-    words = (ctypes.c_uint32 * 18)()
+    words = (ctypes.c_uint32 * 20)()
     lengths = [ctypes.c_size_t(len(form)), ctypes.c_size_t(len(text))]
     arguments = [form.encode(), lengths[0], text.encode(), lengths[1], ctypes.c_uint32(engine), ctypes.c_uint32(budget), words]
     library.larusqem_strptime_words(*arguments)
@@ -111,8 +124,15 @@ def forms(library, rules):
     """A text, a format and an engine, each with the forms that they shall give and that they give, of a weekday and of a month."""
     for text, form, weekday, month in re.findall(NAMED, rules):
         for engine in (0, 1):
-            given = words_of(library, form, text, engine, 0)[16:]
+            given = words_of(library, form, text, engine, 0)[16:18]
             yield (form, text, engine), [weekday, month], [FORMS[number] for number in given]
+
+
+def offsets(library, rules):
+    """A text, a format and an engine, each with the words of the zone offset that they shall give and that they give."""
+    for text, form, minutes in re.findall(OFFSET, "\n".join(rows(rules, "| text | format | answer | zone offset"))):
+        expected = [0, 0] if minutes == "unsaid" else [1, int(minutes) % 2**32]
+        yield from (((form, text, engine), expected, words_of(library, form, text, engine, 0)[18:]) for engine in (0, 1))
 
 
 def shown(words):
@@ -164,6 +184,7 @@ def main(folder, prefix):
         "lists": [(text, report, reported(os.path.join(folder, name), text)) for name, text, report in re.findall(EXAMPLE, rules)],
         "readings": [(text, report, reported(date_lines, text)) for text, report in readings(rules)],
         "forms": list(forms(library, rules)),
+        "zone offsets": list(offsets(library, rules)),
         "counts": list(counts(library, rules)),
         "reasons": list(reasons(library, rules)),
         "sentences": list(sentences(quarrels, rules)),
@@ -177,7 +198,8 @@ def main(folder, prefix):
     rows_read = len(rows(rules, "| text | format | answer")) == len(cases["readings"])
     rows_counted = len(rows(rules, "| said | by")) == len(re.findall(COUNTS, rules))
     rows_named = len(rows(rules, "| text | format | answer | weekday | month")) == len(re.findall(NAMED, rules))
-    if not (rows_read and rows_counted and rows_named and all(cases.values())):
+    rows_offset = 2 * len(rows(rules, "| text | format | answer | zone offset")) == len(cases["zone offsets"])
+    if not (rows_read and rows_counted and rows_named and rows_offset and all(cases.values())):
         print("docs/RULES.md has a row of a text, a format and an answer that was not understood")
         return 1
     return 1 if wrong else 0

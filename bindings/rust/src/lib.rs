@@ -74,8 +74,8 @@
 //!
 //! # Zone offsets
 //!
-//! A [`Moment`] has an [`Offset`] or none, and so has a [`Reading`]: how many minutes its time is ahead of UTC. `%z` writes and reads it as a
-//! sign, two digits of hours and two of minutes, without white space before it; where there is none, nothing is written. `%s` takes the
+//! A [`Moment`] has an [`Offset`] or none, and so has a [`Reading`]: how many minutes its time is ahead of UTC. `%z` writes and reads it as
+//! a sign, two digits of hours and two of minutes, without white space before it; where there is none, nothing is written. `%s` takes the
 //! offset off and writes the seconds from 1970-01-01 00:00:00 UTC. Like flags it is for a [`WriteFormat`] and [`strftime`] alone, and it is
 //! refused where there is no offset. Which day and hour a text fits does not depend on the offset: they are those that it says.
 //!
