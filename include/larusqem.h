@@ -182,9 +182,9 @@ struct larusqem_date {
 /*
  * What is written: year 1 to 9999, month 1 to 12, day 1 to the month's length, hour 0 to 23, minute 0 to 59, second 0 to 60, and a zone
  * offset, -1439 to 1439 minutes, or unsaid. It is unsaid where `offset_said` is 0, and `offset` is then not looked at; with any other
- * number it is said. Who sets one member after the other sets `offset_said` too. An initialiser that ends before it leaves it 0:
- * {{1934, 3, 5}, 7, 8, 9} has no offset, and so has {1934, 3, 5, 7, 8, 9}, which was written when there was none. The date is a struct,
- * so that a program of that time which sets `moment.year` and the others does not compile, and cannot leave `offset_said` unset.
+ * number it is said. Who sets one member after the other sets `offset_said` too. An initialiser that ends before it leaves it 0: there is
+ * no offset in {{1934, 3, 5}, 7, 8, 9}, nor in {1934, 3, 5, 7, 8, 9}, as programs have it from before there were any. The date is a struct
+ * of its own, so that such a program does not compile where it sets `moment.year` and would leave `offset_said` unset.
  */
 struct larusqem_moment {
     struct larusqem_date date;
@@ -355,7 +355,7 @@ void larusqem_explain_read_words(const uint32_t *elements, size_t elements_lengt
                                  uint32_t reason[LARUSQEM_REASON_WORDS]);
 
 /* Each member is the word of its place, and nothing lies between or after them. All members are uint32_t, or int32_t, which may be reached
-   as uint32_t too; so the library reaches each of them rightly, and a pointer to the struct serves as one to its words. */
+   as uint32_t too. So the library may reach each of them, and a pointer to the struct serves as one to its words. */
 #if defined __cplusplus
 #define LARUSQEM_ASSERT(name, fact) static_assert(fact, #name)
 #elif defined __STDC_VERSION__ && __STDC_VERSION__ >= 201112L
