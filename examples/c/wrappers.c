@@ -384,6 +384,7 @@ static void offsets(void)
         m = with(wrong[i]);
         CHECK(answers(write_by("%F", m, sizeof out), LARUSQEM_BAD_MOMENT, 7) && untouched(0));
         CHECK(answers(write_opened("%F", m, sizeof out), LARUSQEM_BAD_MOMENT, 7) && untouched(0));
+        CHECK(answers(write_by("%F%Q", m, sizeof out), LARUSQEM_BAD_MOMENT, 7) && untouched(0));
         m.offset_said = 0;
         CHECK(answers(write_by("%F", m, sizeof out), LARUSQEM_DONE, 10));
     }
