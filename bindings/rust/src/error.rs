@@ -107,16 +107,6 @@ pub enum ParseError {
     Field(FieldError),
 }
 
-impl ParseError {
-    /// The same in a text with more bytes before it.
-    pub(crate) fn behind(self, bytes: usize) -> ParseError {
-        match self {
-            ParseError::Shape { offset } => ParseError::Shape { offset: bytes + offset },
-            other => other,
-        }
-    }
-}
-
 impl fmt::Display for ParseError {
     fn fmt(&self, f: &mut fmt::Formatter) -> fmt::Result {
         match self {

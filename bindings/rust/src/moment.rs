@@ -122,8 +122,10 @@ impl FromStr for Moment {
             None => (text, None),
         };
         let [year, month, day, hour, minute, second] = shape::numbers(text, SHAPE)?;
-        let offset = offset.map(str::parse::<Offset>).transpose().map_err(|refused| refused.behind(SHAPE.len() + 1))?;
-        Ok(Moment::try_from((year, month, day, hour, minute, second))?.with_offset(offset))
+        match offset.map(str::parse::<Offset>).transpose() {
+            Err(ParseError::Shape { offset }) => Err(ParseError::Shape { offset: SHAPE.len() + 1 + offset }),
+            offset => Ok(Moment::try_from((year, month, day, hour, minute, second))?.with_offset(offset?)),
+        }
     }
 }
 

@@ -565,7 +565,9 @@ fn exact_texts() {
     for text in ["+2400", "-2400", "+0060", "-9999"] {
         assert_eq!(field(text.parse::<Offset>().unwrap_err()), Field::Offset);
         assert_eq!(field(format!("1934-03-05 07:08:09 {text}").parse::<Moment>().unwrap_err()), Field::Offset);
+        assert_eq!(field(format!("1934-13-05 07:08:61 {text}").parse::<Moment>().unwrap_err()), Field::Month);
     }
+    assert_eq!("1934-13-05 07:08:09 0130".parse::<Moment>(), Err(ParseError::Shape { offset: 20 }));
 }
 
 #[test]
