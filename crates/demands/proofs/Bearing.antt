@@ -7,4 +7,4 @@ use Rattle.demands.specs.Bearing.{Bearing}
 
 pub bearing : Bearing
 unfolding dayKinds hourKinds monthKinds
-bearing = record { day = refl; hour = refl; month = refl; minute-is = refl; second-is = refl }
+bearing = record { day = refl; hour = refl; month = refl; minute-is = refl; second-is = refl; zone-offset-is = refl }

@@ -8,7 +8,7 @@ use mathlib.Core.Logic.{_⊎_, inl, inr, ⊎-elim}
 use mathlib.Core.Path.{_≡_, refl, sym, ap, _∙_}
 use native.Mathlib.Decide.{ℕ-discrete}
 use native.Mathlib.Omega.{arith}
-use borrow.Author.Tests.{le-leb, leb-true, ltb-true, eqb-true, ne-eqb}
+use borrow.Author.Tests.{le-leb, le-ltb, leb-true, ltb-true, eqb-true, ne-eqb}
 use lib.Dec.{eqb, leb, ltb}
 use lib.ListN.{length, getD, drop, length-append}
 use lib.Seq.{drop-append-seam, drop-append-add}
@@ -27,11 +27,11 @@ use Rattle.format.specs.Conversions as conversions
 use Rattle.format.specs.Conversions.{among, conversionOf, isNumber}
 use Rattle.format.specs.Opening as opening
 use Rattle.format.specs.Opening.{Opening, Whole, BadAt, opening, flags, flagRun, widthRun, conversion, letter, withStyle, styled, piece}
-use Rattle.format.specs.Opening.{longest, unstyled, isUnstyled, takesFlag, before, conversionAt, acted, nothing, openFrom}
+use Rattle.format.specs.Opening.{longest, unstyled, isUnstyled, takesFlag, bare, takesStyle, toRead, before, conversionAt, acted, nothing, openFrom}
 use Rattle.format.specs.Opening.{compositeTo, openTo, signed, pieceOf, signAt, styleFrom}
 use Rattle.format.specs.declared.conversions.Conversion.{Conversion}
 use Rattle.format.specs.declared.conversions.Form.{Form}
-use Rattle.format.specs.declared.conversions.Form.the-variants.{Zeros, Blanks, FromSunday, Short, Full, Lower, Unknown}
+use Rattle.format.specs.declared.conversions.Form.the-variants.{Zeros, Blanks, FromSunday, Short, Full, Lower, Zone, Seconds, Unknown}
 use Rattle.format.specs.declared.opening.Side.{Side}
 use Rattle.format.specs.declared.opening.Side.the-variants.{Writer, Reader}
 use Rattle.format.specs.declared.opening.Sign.{Sign}
@@ -43,14 +43,16 @@ use Rattle.values.specs.Values.{value}
 use Rattle.values.specs.declared.Moment.{Moment}
 use Rattle.values.specs.declared.MomentFields.the-variants.{Valid}
 use Rattle.strftime.specs.Writing as writer
-use Rattle.strftime.specs.Writing.{formed, converted, element, text, put, byFormat, forMoment, forFields, writing}
+use Rattle.strftime.specs.Writing.{formed, converted, element, text, put, isSeconds, lacking, byFormat, forMoment, forFields, writing}
 use Rattle.strftime.specs.declared.Fields.{Fields}
 use Rattle.strftime.proofs.Complete.{puts-text}
+use Rattle.demands.proofs.Seconds.{no-seconds}
 use Rattle.strftime.proofs.Lengths.{by-form, element-styled}
 use Rattle.strptime.specs.Answers as reader
 use Rattle.strptime.specs.Answers.{reading}
 use Rattle.calendar.specs.Calendar as calendar
 use Rattle.values.specs.Moments as moments
+use Rattle.values.specs.Offsets as offsets
 use Rattle.values.specs.Values as values
 use Rattle.text.specs.Names as tables
 use Rattle.text.specs.Naming as naming
@@ -204,7 +206,7 @@ module _ (f w c : ℕ) (known : among f (0 ∷ flags) ≡ true) (h : w ≤ 99) (
 
   unread : (eqb f 0 && eqb w 0) ≡ false → opening Reader (format f w c) ≡ nothing (BadAt 0)
   unfolding opening openTo openFrom format pieceOf signed signAt acted
-  unread n = rw (refused-first n)
+  unread n = unfold toRead in rw (refused-first n)
 
 -- ---- the letters
 
@@ -253,6 +255,8 @@ isName FromSunday = false
 isName (Short t) = true
 isName (Full t) = true
 isName (Lower t) = true
+isName Zone = false
+isName Seconds = false
 isName Unknown = false
 
 name-form : (c : ℕ) → among c names ≡ true → isName (conversionOf c .form) ≡ true
@@ -266,6 +270,8 @@ no-number FromSunday e = clash (cc)
 no-number (Short t) e = refl
 no-number (Full t) e = refl
 no-number (Lower t) e = refl
+no-number Zone e = clash (cc)
+no-number Seconds e = clash (cc)
 no-number Unknown e = clash (cc)
 
 -- ---- what is written
@@ -288,14 +294,14 @@ other-refused : (f w c : ℕ) → among c others ≡ true → (eqb f 0 && eqb w 
     → withStyle (record { flag = f; width = w }) (letter c) ≡ Refuse
 other-refused f w c o n =
     among-same (λ b. withStyle (record { flag = f; width = w }) (letter b))
-    (λ b. cond (isUnstyled (record { flag = f; width = w })) (letter b) Refuse)
+    (λ b. cond (isUnstyled (record { flag = f; width = w })) (cond (among b bare) (Convert b (record { flag = f; width = w })) (letter b)) Refuse)
     others
-    (unfold others letter withStyle conversions.computes in refl)
+    (unfold others letter withStyle takesStyle bare conversions.computes in refl)
     c o
     ∙ unfold isUnstyled in rw n
 
 -- a moment, and a conversion that takes a flag and a width
-module _ (t : Fields) (m : Moment) (valid : momentOf (t .year) (t .month) (t .day) (t .hour) (t .minute) (t .second) ≡ Valid m)
+module _ (t : Fields) (m : Moment) (valid : momentOf (t .year) (t .month) (t .day) (t .hour) (t .minute) (t .second) (t .offset) ≡ Valid m)
     (f w c : ℕ) (known : among f (0 ∷ flags) ≡ true) (h : w ≤ 99) (a : among c letters ≡ true) where
   abbrev style : Style
   style = record { flag = f; width = w }
@@ -323,17 +329,34 @@ module _ (t : Fields) (m : Moment) (valid : momentOf (t .year) (t .month) (t .da
       let n : e / 262144 % 128 ≡ w = rw q r in
       append-nil (element m e) ∙ element-styled m e (omega arith) (ap conversionOf (sym p)) (rw (g, n))
 
-  module _ (v : letter c ≡ Convert c unstyled) where
+  -- one of a number or of a name, which is no %s
+  module _ (u : among c (numbers ++ names) ≡ true) where
+    by-flag : {t : Bool} → takesFlag f (conversionOf c .form) ≡ t → takesStyle style c ≡ t
+    unfolding takesStyle
+    by-flag k =
+        let n = among-same (λ b. among b bare) (λ b. false) (numbers ++ names) (unfold numbers names bare conversions.computes in refl) c u in
+        rw n k
+
+    no-s : isSeconds (conversionAt 0 style c) ≡ false
+    unfolding isSeconds
+    no-s =
+        let e = conversionAt 0 style c in
+        let l = letter-small c a in
+        let p : e % 256 ≡ c = omega arith in
+        let n = among-same (λ b. eqb b 115) (λ b. false) (numbers ++ names) (unfold numbers names conversions.computes in refl) c u in
+        rw (le-ltb e 256 (omega arith), p) n
+
     taken : takesFlag f (conversionOf c .form) ≡ true → Writes (format f w c) t (converted style (conversionOf c) m)
     taken k b =
         let o : opening Writer (format f w c) ≡ record { elements = conversionAt 0 style c ∷ []; ended = Whole } =
-        opens f w c known h (is-letter c a) ∙ unfold withStyle acted before nothing in rw (v, k) in
-        puts-text (format f w c) t b few (ap (λ (o : Opening). o .ended) o) valid
+        opens f w c known h (is-letter c a) ∙ unfold withStyle acted before nothing in rw (converts c u, by-flag k) in
+        let lacks = ap (λ (o : Opening). lacking (m .offset) (o .elements)) o ∙ no-seconds (m .offset) (conversionAt 0 style c) no-s in
+        puts-text (format f w c) t b few (ap (λ (o : Opening). o .ended) o) valid lacks
         ∙ ap (λ (x : List ℕ). put x b) (ap (λ (o : Opening). text m (o .elements)) o ∙ written)
 
     not-taken : takesFlag f (conversionOf c .form) ≡ false → (b : List ℕ) → writing (format f w c) t b ≡ writer.refused 3 0 b
     not-taken k b =
-        refused-by b (opens f w c known h (is-letter c a) ∙ unfold withStyle acted in rw (v, k))
+        refused-by b (opens f w c known h (is-letter c a) ∙ unfold withStyle acted in rw (converts c u, by-flag k))
 
   other : among c others ≡ true → (eqb f 0 && eqb w 0) ≡ false → (b : List ℕ) → writing (format f w c) t b ≡ writer.refused 3 0 b
   other o n b =
@@ -371,15 +394,15 @@ filled-by f w own width v a =
     refl refl (fill-below own 0 (plain v) (omega arith)) refl
 
 -- by the forms of numbers: the weekday from Sunday, those filled with blanks, and the others
-module _ (f w width v : ℕ) (a : among f (0 ∷ bytes "_-0") ≡ true) where
-  not-sunday : (t : Bool) → Column f w (cond t 32 48) width v (formed (record { flag = f; width = w }) (cond t Blanks Zeros) width v)
+module _ (m : Moment) (f w width v : ℕ) (a : among f (0 ∷ bytes "_-0") ≡ true) where
+  not-sunday : (t : Bool) → Column f w (cond t 32 48) width v (formed m (record { flag = f; width = w }) (cond t Blanks Zeros) width v)
   unfolding formed
   not-sunday true = filled-by f w 32 width v a
   not-sunday false = filled-by f w 48 width v a
 
   formed-column : (c : ℕ)
       → Column f w (cond (among c blanks) 32 48) width (cond (eqb c (code "w")) (v % 7) v)
-      (formed (record { flag = f; width = w }) (formOf c) width v)
+      (formed m (record { flag = f; width = w }) (formOf c) width v)
   unfolding formOf
   formed-column c =
       elim (ℕ-discrete c 119) [
@@ -392,7 +415,7 @@ number-column : (f w c : ℕ) (m : Moment) → among c numbers ≡ true → amon
 unfolding column digitsOf
 number-column f w c m n a =
     by-form (record { flag = f; width = w }) (conversionOf c) m (number-form c n) refl
-    ∙ formed-column f w (conversionOf c .width) (value (conversionOf c .kind) m) a c
+    ∙ formed-column m f w (conversionOf c .width) (value (conversionOf c .kind) m) a c
 
 -- ---- names
 
@@ -401,9 +424,9 @@ capital-small [] = refl
 capital-small (b ∷ s) = rw (capital-fold b, capital-small s)
 
 -- alone, with a width, and in capitals
-module _ (w : ℕ) where
+module _ (m : Moment) (w : ℕ) where
   name-column : (f : Form) → isName f ≡ true → (width v : ℕ)
-      → formed (record { flag = 0; width = w }) f width v ≡ fill 32 w (formed unstyled f width v)
+      → formed m (record { flag = 0; width = w }) f width v ≡ fill 32 w (formed m unstyled f width v)
   unfolding isName formed writer.name writer.caseBy cased
   name-column Zeros e width v = clash (cc)
   name-column Blanks e width v = clash (cc)
@@ -411,10 +434,12 @@ module _ (w : ℕ) where
   name-column (Short t) e width v = rw (fill-below 32 0 (short (nameFor t v)) (omega arith))
   name-column (Full t) e width v = rw (fill-below 32 0 (nameFor t v) (omega arith))
   name-column (Lower t) e width v = rw (fill-below 32 0 (map fold (nameFor t v)) (omega arith))
+  name-column Zone e width v = clash (cc)
+  name-column Seconds e width v = clash (cc)
   name-column Unknown e width v = clash (cc)
 
   capital-column : (f : Form) → isName f ≡ true → (width v : ℕ)
-      → formed (record { flag = 94; width = w }) f width v ≡ fill 32 w (map capital (formed unstyled f width v))
+      → formed m (record { flag = 94; width = w }) f width v ≡ fill 32 w (map capital (formed m unstyled f width v))
   unfolding isName formed writer.name writer.caseBy cased
   capital-column Zeros e width v = clash (cc)
   capital-column Blanks e width v = clash (cc)
@@ -422,6 +447,8 @@ module _ (w : ℕ) where
   capital-column (Short t) e width v = rw (fill-below 32 0 (short (nameFor t v)) (omega arith))
   capital-column (Full t) e width v = rw (fill-below 32 0 (nameFor t v) (omega arith))
   capital-column (Lower t) e width v = rw (fill-below 32 0 (map fold (nameFor t v)) (omega arith), capital-small (nameFor t v))
+  capital-column Zone e width v = clash (cc)
+  capital-column Seconds e width v = clash (cc)
   capital-column Unknown e width v = clash (cc)
 
 -- ---- which flags are taken
@@ -461,36 +488,34 @@ among-split (b ∷ x) y c e = split-more (eqb c b) (among c x) (among c y) (amon
 
 -- ---- the whole
 
-module _ (t : Fields) (m : Moment) (v : momentOf (t .year) (t .month) (t .day) (t .hour) (t .minute) (t .second) ≡ Valid m)
+module _ (t : Fields) (m : Moment) (v : momentOf (t .year) (t .month) (t .day) (t .hour) (t .minute) (t .second) (t .offset) ≡ Valid m)
     (w c : ℕ) (h : w ≤ 99) (a : among c letters ≡ true) where
   abbrev row : Conversion
   row = conversionOf c
 
-  converts-number : among c numbers ≡ true → letter c ≡ Convert c unstyled
-  converts-number n =
-      converts c (among-passes (λ c. among c (numbers ++ names)) numbers (unfold numbers names every conversions.computes in refl) c n)
+  either-number : among c numbers ≡ true → among c (numbers ++ names) ≡ true
+  either-number n = among-passes (λ c. among c (numbers ++ names)) numbers (unfold numbers names every conversions.computes in refl) c n
 
   number : among c numbers ≡ true → (f : ℕ) → among f (0 ∷ bytes "_-0") ≡ true → Writes (format f w c) t (column f w c m)
   number n f k b =
       let known = among-passes (λ f. among f (0 ∷ flags)) (0 ∷ bytes "_-0") (unfold flags every conversions.computes in refl) f k in
-      taken t m v f w c known h a (converts-number n) (number-takes f c n k) b ∙ ap (λ (x : List ℕ). put x b) (number-column f w c m n k)
+      taken t m v f w c known h a (either-number n) (number-takes f c n k) b ∙ ap (λ (x : List ℕ). put x b) (number-column f w c m n k)
 
   module _ (n : among c names ≡ true) where
-    converts-name : letter c ≡ Convert c unstyled
-    converts-name =
-        converts c (among-passes (λ c. among c (numbers ++ names)) names (unfold numbers names every conversions.computes in refl) c n)
+    either-name : among c (numbers ++ names) ≡ true
+    either-name = among-passes (λ c. among c (numbers ++ names)) names (unfold numbers names every conversions.computes in refl) c n
 
     name : Writes (format 0 w c) t (fill 32 w (converted unstyled row m))
     unfolding converted takesFlag
     name b =
-        taken t m v 0 w c (unfold among in refl) h a converts-name refl b
-        ∙ ap (λ (x : List ℕ). put x b) (name-column w (row .form) (name-form c n) (row .width) (value (row .kind) m))
+        taken t m v 0 w c (unfold among in refl) h a either-name refl b
+        ∙ ap (λ (x : List ℕ). put x b) (name-column m w (row .form) (name-form c n) (row .width) (value (row .kind) m))
 
     capitals : Writes (format 94 w c) t (fill 32 w (map capital (converted unstyled row m)))
     unfolding converted takesFlag
     capitals b =
-        taken t m v 94 w c (unfold flags conversions.computes in refl) h a converts-name (rw (no-number (row .form) (name-form c n))) b
-        ∙ ap (λ (x : List ℕ). put x b) (capital-column w (row .form) (name-form c n) (row .width) (value (row .kind) m))
+        taken t m v 94 w c (unfold flags conversions.computes in refl) h a either-name (rw (no-number (row .form) (name-form c n))) b
+        ∙ ap (λ (x : List ℕ). put x b) (capital-column m w (row .form) (name-form c n) (row .width) (value (row .kind) m))
 
   refuses : (f : ℕ) → among f (0 ∷ flags) ≡ true → belongs f c ≡ false → (eqb f 0 && eqb w 0) ≡ false
       → (b : List ℕ) → writing (format f w c) t b ≡ writer.refused 3 0 b
@@ -501,17 +526,17 @@ module _ (t : Fields) (m : Moment) (v : momentOf (t .year) (t .month) (t .day) (
       ⊎-elim
       (λ (u : among c numbers ≡ true).
       let g = refused-flag true (0 ∷ bytes "_-0") (unfold flags every conversions.computes in refl) f k (rw u at (apart .0)) in
-      not-taken t m v f w c k h a (converts-number u) (rw (number-form c u, is-number c) g) b)
+      not-taken t m v f w c k h a (either-number u) (rw (number-form c u, is-number c) g) b)
       (λ (u : among c (names ++ others) ≡ true).
       ⊎-elim
       (λ (n : among c names ≡ true).
       let g = refused-flag false (0 ∷ bytes "^") (unfold flags every conversions.computes in refl) f k (rw n at (apart .1)) in
-      not-taken t m v f w c k h a (converts-name n) (rw (no-number (row .form) (name-form c n)) g) b)
+      not-taken t m v f w c k h a (either-name n) (rw (no-number (row .form) (name-form c n)) g) b)
       (λ (o : among c others ≡ true). other t m v f w c k h a o z b)
       (among-split names others c u))
       (among-split numbers (names ++ others) c a)
 
-pub columns : (t : Fields) (m : Moment) → momentOf (t .year) (t .month) (t .day) (t .hour) (t .minute) (t .second) ≡ Valid m
+pub columns : (t : Fields) (m : Moment) → momentOf (t .year) (t .month) (t .day) (t .hour) (t .minute) (t .second) (t .offset) ≡ Valid m
     → (w c : ℕ) → w ≤ 99 → among c (numbers ++ (names ++ others)) ≡ true → Columns t m w c
 unfolding flags
 columns t m v w c h a =
@@ -526,5 +551,5 @@ columns t m v w c h a =
 -- the cases, by computing
 pub columns-hold : map (λ (c : Case). c .0) columnCases ≡ map (λ (c : Case). c .1) columnCases
 unfolding cases.computes columnCases fold capital cased digits plain fill isDigit digitRun decimal calendar.computes moments.computes
-    values.computes tables.computes naming.computes conversions.computes opening.computes writer.computes
+    offsets.computes values.computes tables.computes naming.computes conversions.computes opening.computes writer.computes
 columns-hold = refl

@@ -9,9 +9,10 @@ use native.Mathlib.Decide.{ℕ-discrete}
 use native.Mathlib.Omega.{arith}
 use borrow.Author.Tests.{eq-eqb, ne-eqb, leb-true}
 use lib.Dec.{leb}
+use lib.IntN.{pos, _-ℤ_}
 use Rattle.laws.proofs.Cases.{clash}
 use Rattle.laws.proofs.Lists.{every-member}
-use Rattle.kinds.specs.Kinds.{dayKinds, hourKinds, minute, second, computes}
+use Rattle.kinds.specs.Kinds.{dayKinds, hourKinds, minute, second, zoneOffset, computes}
 use Rattle.laws.specs.Lists.{every}
 use Rattle.calendar.specs.Calendar.{dateOf, dayNumber}
 use Rattle.calendar.specs.declared.Date.{Date}
@@ -25,13 +26,17 @@ use Rattle.judge.specs.declared.Verdict.{Verdict}
 use Rattle.judge.specs.declared.Verdict.the-variants.{Unsaid as NotSaid, Impossible, Open, Agreed}
 use Rattle.judge.proofs.Demand.{day-judged, hour-judged}
 use Rattle.judge.proofs.Engines.{by-skipping}
+use Rattle.values.specs.Offsets.{isOffset, offsetNumber, offsetOf}
+use Rattle.values.specs.declared.offsets.Offset.{Offset}
+use Rattle.values.specs.declared.offsets.Offset.the-variants.{Unsaid as NoOffset, Minutes}
+use Rattle.demands.proofs.Offsets.{offset-none, offset-said, said-number, said-valid, back, offset-most}
 use Rattle.strptime.specs.Answers.{naming, examining, saidOf, withDay, withSearched, judged, reading}
 use Rattle.strptime.specs.declared.Day.{Day}
 use Rattle.strptime.specs.declared.Day.the-variants.{NoDate, On}
 use Rattle.strptime.specs.declared.Said.{Said}
 use Rattle.strptime.specs.declared.Said.the-variants.{Unsaid, Is}
 use Rattle.demands.specs.Facts.{Fact, Says, facts, Matched}
-use Rattle.demands.specs.Demand.{SomeSaid, NoneSaid, DayAgrees, HourAgrees, DayIs, HourIs, NumberIs, DayStands, Answered}
+use Rattle.demands.specs.Demand.{SomeSaid, NoneSaid, DayAgrees, HourAgrees, DayIs, HourIs, NumberIs, OffsetIs, DayStands, Answered}
 use Rattle.demands.proofs.Matched.{read, matched-is, handed, ends-at, forms-are}
 use Rattle.demands.proofs.Verdicts.{Leaves, LeavesHour, day-none, day-two, then-none, then-two, then-done, done-place}
 use Rattle.demands.proofs.Written.{day-would, hour-would}
@@ -196,6 +201,31 @@ module _ (f s : List ℕ) (m : Matched f s) where
             λ z. let d : a ≡ n = omega (arith, sym e ∙ handed f s m k n .1 z) in is ∙ ap Is d,
           )
 
+  -- the zone offset, whose fact is in its range
+  offset-left : (o : Offset) → (offsetOf (said kept zoneOffset) ≡ o) ↔ OffsetIs f s o
+  offset-left o = go (said kept zoneOffset) refl o
+    where
+      go : (y : ℕ) → said kept zoneOffset ≡ y → (o : Offset) → (offsetOf y ≡ o) ↔ OffsetIs f s o
+      go zero e NoOffset = (λ q n z. omega (arith, sym e ∙ handed f s m zoneOffset n .1 z), λ z. offset-none)
+      go zero e (Minutes z) = (
+        λ q. let r = offset-none in clash (cc),
+        λ r. absurd (omega (arith, sym e ∙ handed f s m zoneOffset (offsetNumber z) .1 (r .1))),
+      )
+      go (suc a) e NoOffset = (
+        λ q. let r = offset-said a (offset-most f s a (handed f s m zoneOffset a .0 e)) in clash (cc),
+        λ z. absurd (z a (handed f s m zoneOffset a .0 e)),
+      )
+      go (suc a) e (Minutes z) =
+          let l = offset-most f s a (handed f s m zoneOffset a .0 e) in
+          let is = offset-said a l in (
+            λ q.
+                let d : pos (suc a) -ℤ pos 1440 ≡ z = cc in
+                (rw d at (said-valid a l), rw (ap offsetNumber (sym d) ∙ said-number a) (handed f s m zoneOffset a .0 e)),
+            λ r.
+                let d : a ≡ offsetNumber z = omega (arith, sym e ∙ handed f s m zoneOffset (offsetNumber z) .1 (r .1)) in
+                is ∙ ap Minutes (rw d (back z (r .0))),
+          )
+
   -- dates of two days are the same only if the days are
   same-day : (a b : ℕ) → IsDay a → IsDay b → dateOf a ≡ dateOf b → a ≡ b
   same-day a b p q e =
@@ -251,14 +281,24 @@ module _ (f s : List ℕ) (m : Matched f s) where
                 (stands .0 (r .0), some-said hourKinds (o .0), o .1),
             λ r. rw e (then-two t v w a b .1 (stands .1 (r .0), i .«open» a b .1 (not-none hourKinds (r .1), r .2))),
           );
-          done = λ x h n c. (
+          done = λ x h n c o. (
             λ q.
-                let r = then-done t v w x h n c .0 (rw e at q) in
-                (day-left v j x .0 (r .0), hour-left w i h .0 (r .1), number-left minute n .0 (r .2), number-left second c .0 (r .3)),
+                let r = then-done t v w x h n c o .0 (rw e at q) in (
+                  day-left v j x .0 (r .0),
+                  hour-left w i h .0 (r .1),
+                  number-left minute n .0 (r .2),
+                  number-left second c .0 (r .3),
+                  offset-left o .0 (r .4),
+                ),
             λ r.
                 rw e
-                (then-done t v w x h n c .1
-                (day-left v j x .1 (r .0), hour-left w i h .1 (r .1), number-left minute n .1 (r .2), number-left second c .1 (r .3))),
+                (then-done t v w x h n c o .1 (
+                  day-left v j x .1 (r .0),
+                  hour-left w i h .1 (r .1),
+                  number-left minute n .1 (r .2),
+                  number-left second c .1 (r .3),
+                  offset-left o .1 (r .4),
+                )),
           );
           unread = λ q. rw e (done-place t v w (rw e at q) ∙ ends-at f s m);
           forms = λ q. rw (e, eq-eqb (withDay t v w .number) 0 (rw e at q)) (forms-are f s m);

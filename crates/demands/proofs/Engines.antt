@@ -92,6 +92,7 @@ module _ (f s : List ℕ) (m : Matched f s) where
         hour = refl;
         minute = refl;
         second = refl;
+        offset = refl;
         forms = refl;
         shown = refl;
       }))
@@ -173,6 +174,7 @@ module _ (f s : List ℕ) where
             hour = refl;
             minute = refl;
             second = refl;
+            offset = refl;
             forms = refl;
             shown = refl;
           })

@@ -4,10 +4,11 @@ use Prim.Native.Nat.{ℕ, _≤_}
 use mathlib.Core.Bool.{Bool, true, false, cond}
 use mathlib.Core.List.{List, [], _∷_}
 use mathlib.Core.Logic.{⊎-elim}
-use mathlib.Core.Path.{_≡_, refl}
+use mathlib.Core.Path.{_≡_, refl, sym, _∙_}
 use borrow.Author.Tests.{eqb-true, eqb-false}
 use lib.Dec.{eqb}
 use lib.ListN.{length}
+use Rattle.kinds.specs.Kinds.{zoneOffset}
 use Rattle.matching.specs.Elements.{readElement}
 use Rattle.matching.specs.Extents.{extent, saidAt, firstSaid}
 use Rattle.matching.specs.declared.elements.Item.{Item}
@@ -18,7 +19,7 @@ use Rattle.demands.specs.Facts.{Fact, saying, factsFrom, Says}
 use Rattle.demands.specs.Reasons.{FirstOf, here, later, Spelled}
 use Rattle.demands.proofs.Spelled.{Words, element-words}
 
-module _ (k : ℕ) (s : List ℕ) where
+module _ (k : ℕ) (s : List ℕ) (named : k ≡ zoneOffset → ⊥) where
   -- the first of some facts that is of kind k, and where it stands
   pub record Stands (xs : List Fact) (x : Extent) : Type 0 where
     pub fact : Fact
@@ -43,7 +44,7 @@ module _ (k : ℕ) (s : List ℕ) where
             record {
               fact = own;
               first = here (eqb-true j k e);
-              spelled = record { some = h .1; within = h .2; bytes = w .1 };
+              spelled = record { some = h .1; within = h .2; bytes = w .1 (λ z. named (sym (eqb-true j k e) ∙ z)) };
               at = refl;
             }
         go false e =

@@ -7,11 +7,13 @@ pub mod Examined
 pub mod FirstSaid
 pub mod Matched
 pub mod NameCases
+pub mod Offsets
 pub mod Names
 pub mod Quarrels
 pub mod ReasonCases
 pub mod Reasons
 pub mod Rows
+pub mod Seconds
 pub mod Spelled
 pub mod Starred
 pub mod Verdicts

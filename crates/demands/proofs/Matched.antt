@@ -9,7 +9,7 @@ use native.Mathlib.Omega.{arith}
 use borrow.Author.Tests.{le-leb, leb-true}
 use lib.Dec.{leb}
 use lib.ListN.{length, getD, replicate}
-use Rattle.kinds.specs.Kinds.{month, weekday}
+use Rattle.kinds.specs.Kinds.{kinds, month, weekday}
 use Rattle.format.specs.Conversions.{among}
 use Rattle.format.specs.Opening.{Ended, Whole, BadAt, opening, longest}
 use Rattle.format.specs.declared.opening.Side.the-variants.{Reader}
@@ -70,7 +70,7 @@ read f s = readAll (opening Reader f .elements) s start noForms
 
 none-kept : (k n : ℕ) → Kept (start .facts) k n → ⊥
 unfolding start unsaid
-none-kept k n e = omega (arith, zeros 18 k)
+none-kept k n e = omega (arith, zeros kinds k)
   where
     zeros : (m k : ℕ) → getD {A = ℕ} (replicate m 0) k 0 ≡ 0
     zeros zero k = refl

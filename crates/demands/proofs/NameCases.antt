@@ -21,6 +21,7 @@ use Rattle.judge.specs.Search as search
 use Rattle.judge.specs.Verdicts as verdicts
 use Rattle.matching.specs.Elements as elements
 use Rattle.matching.specs.Steps as reading
+use Rattle.values.specs.Offsets as offsets
 use Rattle.strptime.specs.Answers as answers
 use Rattle.demands.specs.Starred as cases
 use Rattle.demands.specs.Facts as facts
@@ -32,7 +33,7 @@ pub all-named : map (λ (c : Case). c .0) nameCases ≡ map (λ (c : Case). c .1
 unfolding cases.computes facts.computes forms.computes fold cased digits plain fill isDigit digitRun decimal goesOn firstForm readName
     isSpace spaces calendar.computes moments.computes values.computes names.computes naming.computes conversions.computes opening.computes
     writer.computes agreement.computes search.computes verdicts.computes engines.computes elements.computes reading.computes
-    answers.computes
+    answers.computes offsets.computes
 all-named = refl
 
 pub all-forms : map (λ (c : Case). c .0) formCases ≡ map (λ (c : Case). c .1) formCases

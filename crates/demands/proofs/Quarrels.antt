@@ -1,7 +1,7 @@
 -- The kinds that a reading names for a 9 quarrel, and are those that trying each in order leaves: over the facts of the text and what the
 -- writer would write.
 -- Assumes nothing.
-use Prim.Native.Nat.{ℕ, zero, suc, _<_}
+use Prim.Native.Nat.{ℕ, zero, suc, _<_, _≤_}
 use mathlib.Core.List.{List, List·Memᴰ as Member}
 use mathlib.Core.Bool.{true}
 use mathlib.Core.Logic.{_⊎_, _↔_, inl, inr}
@@ -15,9 +15,13 @@ use Rattle.judge.specs.declared.Engine.{Engine}
 use Rattle.judge.specs.declared.Facts.{Facts}
 use Rattle.matching.specs.Extents.{nowhere, firstSaid}
 use Rattle.matching.specs.declared.extents.Extent.{Extent}
+use lib.Dec.{lit≤}
+use Rattle.kinds.specs.Kinds.{zoneOffset}
 use Rattle.reasons.specs.Quarrels.{kindsOf, noneAgrees, quarrelling}
 use Rattle.reasons.specs.Reasons.{factsIn, quarrelWords, explainedBy}
+use Rattle.reasons.specs.Private.{lastKind}
 use Rattle.reasons.specs.declared.About.{About}
+use Rattle.reasons.specs.declared.About.the-variants.{Day, Hour}
 use Rattle.reasons.proofs.Minimal.{Candidate, valueOf, AgreesAround, without-other, minimal}
 use Rattle.reasons.proofs.Named.{Left, left-word, named-left}
 use Rattle.reasons.proofs.Ranges.{these-member, member-these}
@@ -32,6 +36,12 @@ use Rattle.demands.proofs.Matched.{handed}
 one-more : (x : ℕ) → (x ≡ 0 → ⊥) → (n : ℕ) × (x ≡ suc n)
 one-more zero d = absurd (d refl)
 one-more (suc n) d = (n, refl)
+
+-- kinds that bear on either are at most 15
+last-most : (a : About) → lastKind a ≤ 15
+unfolding lastKind
+last-most Day = lit≤ tt
+last-most Hour = lit≤ tt
 
 -- a: the day or the hour; fields: of a candidate; would: what the writer would write for it; none: no candidate agrees
 module _ (a : About) (e : Engine) (f s : List ℕ) (m : Matched f s) (fields : ℕ → Fields)
@@ -57,12 +67,16 @@ module _ (a : About) (e : Engine) (f s : List ℕ) (m : Matched f s) (fields : �
     unfolding factsIn
     says-kept k n x = handed f s m k n .1 x
 
+    -- a kind that is left bears on the day or the hour, and so is no zone offset
+    not-zone : (k : ℕ) → Left a es s k → k ≡ zoneOffset → ⊥
+    not-zone k l z = omega (arith, z, l .1, last-most a)
+
     -- a kind that is left is named, and the other way round
-    left-stands : (k : ℕ) → Left a es s k → Stands k s (facts f s) (firstSaid k es s 0)
+    left-stands : (k : ℕ) (l : Left a es s k) → Stands k s (not-zone k l) (facts f s) (firstSaid k es s 0)
     unfolding facts
     left-stands k l =
         let x = one-more (said left k) (l .2) in
-        stands k s es 0 (omega arith) (x .0) (kept-says k (x .0) (minimal a kept none .fewer k (x .0) (x .1)))
+        stands k s (not-zone k l) es 0 (omega arith) (x .0) (kept-says k (x .0) (minimal a kept none .fewer k (x .0) (x .1)))
 
     left-named : (k : ℕ) → Left a es s k → Named e f s k
     unfolding nowhere

@@ -24,6 +24,7 @@ use Rattle.matching.specs.Extents as extents
 use Rattle.matching.specs.Steps as reading
 use Rattle.reasons.specs.Quarrels as quarrels
 use Rattle.reasons.specs.Reasons as reasons
+use Rattle.values.specs.Offsets as offsets
 use Rattle.strptime.specs.Answers as answers
 use Rattle.demands.specs.ReasonCases as cases
 use Rattle.demands.specs.ReasonCases.{reasonCases}
@@ -33,5 +34,5 @@ pub all-explained : map (λ (c : Case). c .0) reasonCases ≡ map (λ (c : Case)
 unfolding cases.computes bytes range flatMap fold cased digits plain isDigit digitRun decimal goesOn firstForm readName isSpace spaces
     calendar.computes moments.computes values.computes names.computes naming.computes conversions.computes opening.computes
     agreement.computes search.computes verdicts.computes engines.computes elements.computes extents.computes reading.computes
-    quarrels.computes reasons.computes answers.computes
+    quarrels.computes reasons.computes answers.computes offsets.computes
 all-explained = refl

@@ -1,25 +1,27 @@
 -- Demand 1: every answer is a row of the table.
 -- Assumes nothing.
 use Prim.Native.Nat.{ℕ, zero, _≤_, _<_}
-use mathlib.Core.Bool.{false, false≢true}
+use mathlib.Core.Bool.{true, false, false≢true}
 use mathlib.Core.List.{List, [], _∷_, _++_}
 use mathlib.Core.Path.{_≡_, refl, sym, _∙_}
 use native.Mathlib.Nat.{zero-add}
 use native.Mathlib.Omega.{arith}
 use borrow.Author.Tests.{ne-eqb, leb-true, leb-false}
 use lib.Dec.{eqb, leb}
-use lib.ListN.{length, drop}
+use lib.ListN.{length, take, drop}
 use lib.Seq.{sets, sets-eq, length-sets, drop-append-seam}
+use Rattle.laws.specs.Bytes.{bytes}
+use Rattle.laws.specs.Lists.{every}
 use Rattle.laws.proofs.Cases.{either, picked}
 use Rattle.format.specs.Conversions.{among}
-use Rattle.format.specs.Opening.{Ended, Whole, BadAt, opening, longest}
+use Rattle.format.specs.Opening.{Ended, Whole, BadAt, opening, longest, isByte}
 use Rattle.format.specs.declared.opening.Side.the-variants.{Writer, Reader}
 use Rattle.format.proofs.Refused.{bad-within}
 use Rattle.calendar.specs.Calendar.{within, lastYear, monthLength, dateFault}
 use Rattle.values.specs.Moments.{momentFault, momentOf}
 use Rattle.values.specs.declared.Moment.{Moment}
 use Rattle.values.specs.declared.MomentFields.{MomentFields}
-use Rattle.strftime.specs.Writing.{numbered, text, refused, put, byFormat, forMoment, forFields, writing}
+use Rattle.strftime.specs.Writing.{numbered, text, refused, put, lacking, offered, byFormat, forMoment, forFields, writing}
 use Rattle.strftime.specs.declared.Fields.{Fields}
 use Rattle.judge.specs.Engines.{searched}
 use Rattle.judge.specs.declared.Engine.{Engine}
@@ -44,26 +46,34 @@ use Rattle.strptime.specs.declared.Shown.the-variants.{Nothing, Hours}
 use Rattle.matching.specs.declared.State.{State}
 use Rattle.strptime.proofs.Places.{all-within}
 use Rattle.matching.proofs.Walk.{Placed}
+use Rattle.values.specs.Offsets.{isOffset}
+use Rattle.values.specs.declared.offsets.Offset.{Offset}
+use Rattle.strftime.specs.declared.Lack.{Lack}
+use Rattle.strftime.specs.declared.Lack.the-variants as Lacks
 use Rattle.demands.specs.Demand.{beforeNine}
+use Rattle.demands.proofs.Seconds.{seconds-stand}
 use Rattle.demands.specs.Rows.{OneOf, WritingRow, readingNumbers, ReadingRow}
 
 -- ---- the writer
 
--- the first bad field, or 0, is one of 0 to 6
-fault-few : (y m d h n s : ℕ) → OneOf (0 ∷ 1 ∷ 2 ∷ 3 ∷ 4 ∷ 5 ∷ 6 ∷ []) (momentFault y m d h n s)
+-- the first bad field, or 0, is one of 0 to 7
+fault-few : (y m d h n s : ℕ) (o : Offset) → OneOf (0 ∷ 1 ∷ 2 ∷ 3 ∷ 4 ∷ 5 ∷ 6 ∷ 7 ∷ []) (momentFault y m d h n s o)
 unfolding momentFault dateFault among
-fault-few y m d h n s =
-    let P : ℕ → Type 0 = OneOf (0 ∷ 1 ∷ 2 ∷ 3 ∷ 4 ∷ 5 ∷ 6 ∷ []) in
+fault-few y m d h n s o =
+    let P : ℕ → Type 0 = OneOf (0 ∷ 1 ∷ 2 ∷ 3 ∷ 4 ∷ 5 ∷ 6 ∷ 7 ∷ []) in
     let date : P (dateFault y m d) =
     picked P (within 1 lastYear y) (picked P (within 1 12 m) (picked P (within 1 (monthLength y m) d) refl refl) refl) refl in
-    picked P (eqb (dateFault y m d) 0) (picked P (leb h 23) (picked P (leb n 59) (picked P (leb s 60) refl refl) refl) refl) date
+    picked P (eqb (dateFault y m d) 0)
+    (picked P (leb h 23) (picked P (leb n 59) (picked P (leb s 60) (picked P (isOffset o) refl refl) refl) refl) refl)
+    date
 
 module _ (f b : List ℕ) where
   -- a refusal, with what its row says of its place
-  refusal : (n p : ℕ) → OneOf (0 ∷ 1 ∷ 2 ∷ 3 ∷ 4 ∷ []) n → (n ≡ 0 → ⊥) → (n ≡ 1 → p ≡ 0) → (n ≡ 2 → OneOf (1 ∷ 2 ∷ 3 ∷ 4 ∷ 5 ∷ 6 ∷ []) p)
-      → (n ≡ 3 → p < length f) → (n ≡ 4 → length b < p) → WritingRow f b (refused n p b)
+  refusal : (n p : ℕ) → OneOf (0 ∷ 1 ∷ 2 ∷ 3 ∷ 4 ∷ 12 ∷ []) n → (n ≡ 0 → ⊥) → (n ≡ 1 → p ≡ 0)
+      → (n ≡ 2 → OneOf (1 ∷ 2 ∷ 3 ∷ 4 ∷ 5 ∷ 6 ∷ 7 ∷ []) p) → (n ≡ 3 → p < length f) → (every isByte f ≡ true → n ≡ 12 → take 2 (drop p f) ≡ bytes "%s")
+      → (n ≡ 4 → length b < p) → WritingRow f b (refused n p b)
   unfolding refused
-  refusal n p l no-0 one two three four =
+  refusal n p l no-0 one two three twelve four =
       record {
         listed = l;
         untouched = λ z. refl;
@@ -73,6 +83,7 @@ module _ (f b : List ℕ) where
         place-1 = one;
         place-2 = two;
         place-3 = three;
+        place-12 = twelve;
         place-4 = four;
       }
 
@@ -83,7 +94,7 @@ module _ (f b : List ℕ) where
       (λ e. done (leb-true (length x) (length b) e))
       (λ e.
       refusal 4 (length x) refl (λ z. omega (arith, z)) (λ z. absurd (omega (arith, z))) (λ z. absurd (omega (arith, z)))
-      (λ z. absurd (omega (arith, z))) (λ z. leb-false (length x) (length b) e))
+      (λ z. absurd (omega (arith, z))) (λ b z. absurd (omega (arith, z))) (λ z. leb-false (length x) (length b) e))
     where
       done : length x ≤ length b → WritingRow f b (record { answer = numbered 0 (length x); buffer = sets b 0 x })
       done h =
@@ -97,37 +108,54 @@ module _ (f b : List ℕ) where
             place-1 = λ z. absurd (omega (arith, z));
             place-2 = λ z. absurd (omega (arith, z));
             place-3 = λ z. absurd (omega (arith, z));
+            place-12 = λ b z. absurd (omega (arith, z));
             place-4 = λ z. absurd (omega (arith, z));
           }
 
-  format-written : (m : Moment) → WritingRow f b (byFormat f b m)
+  -- 12, at a %s
+  offered-written : length f ≤ longest → (m : Moment) → WritingRow f b (offered (opening Writer f .elements) b m)
+  unfolding offered among
+  offered-written short m = go (lacking (m .offset) (opening Writer f .elements)) refl
+    where
+      go : (l : Lack) → lacking (m .offset) (opening Writer f .elements) ≡ l
+          → WritingRow f b (offered (opening Writer f .elements) b m)
+      go Lacks.Nothing e = rw e (put-written (text m (opening Writer f .elements)))
+      go (Lacks.ZoneOffset p) e =
+          rw e
+          (refusal 12 p refl (λ z. omega (arith, z)) (λ z. absurd (omega (arith, z))) (λ z. absurd (omega (arith, z)))
+          (λ z. absurd (omega (arith, z))) (λ b z. seconds-stand f short b (m .offset) e) (λ z. absurd (omega (arith, z))))
+
+  format-written : length f ≤ longest → (m : Moment) → WritingRow f b (byFormat f b m)
   unfolding byFormat among
-  format-written m = go (opening Writer f .ended) refl
+  format-written short m = go (opening Writer f .ended) refl
     where
       go : (d : Ended) → opening Writer f .ended ≡ d → WritingRow f b (byFormat f b m)
-      go Whole e = rw e (put-written (text m (opening Writer f .elements)))
+      go Whole e = rw e (offered-written short m)
       go (BadAt p) e =
           rw e
           (refusal 3 p refl (λ z. omega (arith, z)) (λ z. absurd (omega (arith, z))) (λ z. absurd (omega (arith, z)))
-          (λ z. bad-within Writer f e) (λ z. absurd (omega (arith, z))))
+          (λ z. bad-within Writer f e) (λ b z. absurd (omega (arith, z))) (λ z. absurd (omega (arith, z))))
 
   pub writing-rows : (t : Fields) → WritingRow f b (writing f t b)
   unfolding writing forFields forMoment momentOf among
   writing-rows t =
       either (WritingRow f b) (leb (length f) longest)
-      (λ _. either (λ (x : MomentFields). WritingRow f b (forMoment (byFormat f b) b x)) (eqb fault 0) (λ _. format-written _) (λ e. bad e))
+      (λ l.
+      either (λ (x : MomentFields). WritingRow f b (forMoment (byFormat f b) b x)) (eqb fault 0)
+      (λ _. format-written (leb-true (length f) longest l) _)
+      (λ e. bad e))
       (λ _.
       refusal 1 0 refl (λ z. omega (arith, z)) (λ z. refl) (λ z. absurd (omega (arith, z))) (λ z. absurd (omega (arith, z)))
-      (λ z. absurd (omega (arith, z))))
+      (λ b z. absurd (omega (arith, z))) (λ z. absurd (omega (arith, z))))
     where
       fault : ℕ
-      fault = momentFault (t .year) (t .month) (t .day) (t .hour) (t .minute) (t .second)
+      fault = momentFault (t .year) (t .month) (t .day) (t .hour) (t .minute) (t .second) (t .offset)
 
       bad : eqb fault 0 ≡ false → WritingRow f b (refused 2 fault b)
       bad e =
           refusal 2 fault refl (λ z. omega (arith, z)) (λ z. absurd (omega (arith, z)))
-          (λ z. rw e at (fault-few (t .year) (t .month) (t .day) (t .hour) (t .minute) (t .second)))
-          (λ z. absurd (omega (arith, z))) (λ z. absurd (omega (arith, z)))
+          (λ z. rw e at (fault-few (t .year) (t .month) (t .day) (t .hour) (t .minute) (t .second) (t .offset)))
+          (λ z. absurd (omega (arith, z))) (λ b z. absurd (omega (arith, z))) (λ z. absurd (omega (arith, z)))
 
 -- ---- the reader
 
@@ -145,6 +173,7 @@ module _ (e : Engine) (f s : List ℕ) where
         no-hour = λ z. refl;
         no-minute = λ z. refl;
         no-second = λ z. refl;
+        no-offset = λ z. refl;
         no-forms = λ z. refl;
         unshown = none;
         place-1-5 = one;
@@ -180,15 +209,16 @@ module _ (e : Engine) (f s : List ℕ) where
 
   -- what is judged after k days were examined
   module _ (k : ℕ) where
-    finished-read : (p : ℕ) (d : Day) (h m c : Said) → p ≤ length s → ReadingRow e f s (examining k (finished p d h m c))
+    finished-read : (p : ℕ) (d : Day) (h m c : Said) (o : Offset) → p ≤ length s → ReadingRow e f s (examining k (finished p d h m c o))
     unfolding examining finished among
-    finished-read p d h m c l =
+    finished-read p d h m c o l =
         record {
           listed = refl;
           no-day = λ z. absurd (z refl);
           no-hour = λ z. absurd (z refl);
           no-minute = λ z. absurd (z refl);
           no-second = λ z. absurd (z refl);
+          no-offset = λ z. absurd (z refl);
           no-forms = λ z. absurd (z refl);
           unshown = λ z. refl;
           place-1-5 = λ z. absurd (false≢true z);
@@ -216,10 +246,10 @@ module _ (e : Engine) (f s : List ℕ) where
     module _ (t : State) (h : t .at ≤ length s) where
       hour-read : (d : Day) (v : Verdict) → ReadingRow e f s (examining k (withHour t d v))
       unfolding withHour done among
-      hour-read d NotSaid = finished-read (t .at) d _ _ _ h
+      hour-read d NotSaid = finished-read (t .at) d _ _ _ _ h
       hour-read d Impossible = nine 2 refl
       hour-read d (Open a b) = ten 2 (Hours a b) refl
-      hour-read d (Agreed k) = finished-read (t .at) d _ _ _ h
+      hour-read d (Agreed k) = finished-read (t .at) d _ _ _ _ h
 
       day-read : (v w : Verdict) → ReadingRow e f s (examining k (withDay t v w))
       unfolding withDay among
@@ -244,6 +274,7 @@ module _ (e : Engine) (f s : List ℕ) where
         no-hour = w .no-hour;
         no-minute = w .no-minute;
         no-second = w .no-second;
+        no-offset = w .no-offset;
         no-forms = λ z. rw (ne-eqb (r .number) 0 z);
         unshown = w .unshown;
         place-1-5 = w .place-1-5;

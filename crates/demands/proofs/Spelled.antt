@@ -1,29 +1,32 @@
 -- The words of a fact are digits, or letters, from the first to the last, and before them an element takes white space alone.
 -- Assumes nothing.
-use Prim.Native.Nat.{ℕ, zero, suc, _+_, _-_}
+use Prim.Native.Nat.{ℕ, zero, suc, _+_, _-_, _/_, _%_}
 use mathlib.Core.Bool.{Bool, true, false, cond, _&&_, and-eq-true-iff, false≢true}
 use mathlib.Core.List.{List, [], _∷_}
 use mathlib.Core.Logic.{_⊎_, inl, inr}
 use mathlib.Core.Path.{_≡_, refl, ap}
 use native.Mathlib.Omega.{arith}
 use borrow.Author.Tests.{eqb-true}
-use lib.Dec.{eqb, leb}
+use lib.Dec.{eqb, leb, eqb→eq}
 use lib.ListN.{length, take, drop}
-use Rattle.format.specs.Conversions.{conversionOf}
+use Rattle.kinds.specs.Kinds.{zoneOffset}
+use Rattle.format.specs.Conversions.{conversionOf, computes as rows-compute}
+use Rattle.format.proofs.Rows.{conversion-passes}
 use Rattle.format.specs.Opening.{isByte, letterOf}
 use Rattle.format.specs.declared.conversions.Conversion.{Conversion}
 use Rattle.format.specs.declared.conversions.Form.{Form}
-use Rattle.format.specs.declared.conversions.Form.the-variants.{Zeros, Blanks, FromSunday, Short, Full, Lower, Unknown}
+use Rattle.format.specs.declared.conversions.Form.the-variants.{Zeros, Blanks, FromSunday, Short, Full, Lower, Zone, Seconds, Unknown}
 use Rattle.laws.specs.Lists.{every}
 use Rattle.laws.proofs.Cases.{picked, either}
 use Rattle.laws.proofs.Lists.{every-member}
 use Rattle.matching.specs.Elements.{ordinary, readByte, ranged, readNumber, fromSunday, named, readNamed, readForm}
 use Rattle.matching.specs.Elements.{readConversion, readElement}
+use Rattle.matching.specs.Zones.{isSign, offsetAt, signedAt, readZone}
 use Rattle.matching.specs.Extents.{between}
 use Rattle.matching.specs.declared.elements.Item.{Item}
 use Rattle.matching.specs.declared.elements.Item.the-variants.{Skip, Fact, NoMatch, OutOfRange}
 use Rattle.text.specs.Case.{fold}
-use Rattle.text.specs.Digits.{isDigit, digitRun, decimal}
+use Rattle.text.specs.Digits.{isDigit, digitRun, decimal, readDigits}
 use Rattle.text.specs.Names as names
 use Rattle.text.specs.Names.{formsOf, goesOn, readName}
 use Rattle.text.specs.Space.{isSpace, spaces}
@@ -84,6 +87,25 @@ goes-letters (a ∷ x) (b ∷ s) g e = go (eqb (fold a) (fold b)) refl g (λ h d
         (rw y at (t .0), rest h (t .1))
     go false p h rest = absurd (false≢true h)
 
+-- ---- the kind of %z
+
+zoned : Form → ℕ → Bool
+zoned Zeros k = true
+zoned Blanks k = true
+zoned FromSunday k = true
+zoned (Short t) k = true
+zoned (Full t) k = true
+zoned (Lower t) k = true
+zoned Zone k = eqb k zoneOffset
+zoned Seconds k = true
+zoned Unknown k = true
+
+zone-kind : (c : ℕ) → conversionOf c .form ≡ Zone → conversionOf c .kind ≡ zoneOffset
+unfolding zoned
+zone-kind c e =
+    let t = conversion-passes (λ r. zoned (r .form) (r .kind)) c (unfold rows-compute every in tt) (unfold rows-compute in tt) in
+    eqb→eq (conversionOf c .kind) zoneOffset (rw e at t)
+
 -- ---- an item's words, where the element stands at an offset
 module _ (s : List ℕ) where
   abbrev Before : ℕ → ℕ → Type 0
@@ -94,7 +116,7 @@ module _ (s : List ℕ) where
 
   unfoldable pub Words : ℕ → Item → Type 0
   Words at (Skip next) = Unit {0}
-  Words at (Fact k n f from next) = Before at from × Bytes from next
+  Words at (Fact k n f from next) = Before at from × ((k ≡ zoneOffset → ⊥) → Bytes from next)
   Words at (NoMatch p) = Unit {0}
   Words at (OutOfRange p) = Unit {0}
 
@@ -111,7 +133,7 @@ module _ (s : List ℕ) where
       let digits : Bytes from (from + length ds)
       = inl (rw (between-is from (length ds), run-first (c .width) (drop from s)) (run-digits (c .width) (drop from s))) in
       picked (Words at) (eqb (length ds) 0) tt
-      (picked (Words at) (leb (c .low) (decimal 0 ds) && leb (decimal 0 ds) (c .high)) (blank, digits) tt)
+      (picked (Words at) (leb (c .low) (decimal 0 ds) && leb (decimal 0 ds) (c .high)) (blank, λ _. digits) tt)
 
   sunday-words : (at : ℕ) (i : Item) → Words at i → Words at (fromSunday i)
   unfolding fromSunday Words
@@ -129,18 +151,36 @@ module _ (s : List ℕ) where
           let r = is-read (formsOf t) (drop at s) e in
           let l = every-member (λ (x : names.Form). every isLetter (x .letters)) (formsOf t) (letters-all t) (r .form) (r .listed) in
           let none : Before at at = let z : at - at ≡ 0 = omega arith in rw z in
-          (none, inr (rw (between-is at n, ← r .long) (goes-letters (r .form .letters) (drop at s) (r .fits) l)))
+          (none, λ _. inr (rw (between-is at n, ← r .long) (goes-letters (r .form .letters) (drop at s) (r .fits) l)))
       go Nothing e = tt
 
-  form-words : (f : Form) (c : Conversion) (at : ℕ) → Words at (readForm f c s at)
+  -- a zone offset has a sign, which is neither digit nor letter; no reason names it
+  zone-words : (c : Conversion) (at : ℕ) → c .kind ≡ zoneOffset → Words at (readZone c s at)
+  unfolding readZone signedAt offsetAt Words every
+  zone-words c at e = go (drop at s)
+    where
+      go : (t : List ℕ) → Words at (signedAt (c .kind) t at)
+      go [] = tt
+      go (b ∷ t) =
+          let d = readDigits 4 t in
+          let none : Before at at = let z : at - at ≡ 0 = omega arith in rw z in
+          picked (Words at) (isSign b)
+          (picked (Words at) (eqb (d .count) 4)
+          (picked (Words at) (leb (d .value / 100) 23 && leb (d .value % 100) 59) (none, λ n. absurd (n e)) tt)
+          tt)
+          tt
+
+  form-words : (f : Form) (c : Conversion) (at : ℕ) → (f ≡ Zone → c .kind ≡ zoneOffset) → Words at (readForm f c s at)
   unfolding readForm Words
-  form-words Zeros c at = number-words c at
-  form-words Blanks c at = number-words c at
-  form-words FromSunday c at = sunday-words at (readNumber c s at) (number-words c at)
-  form-words (Short t) c at = named-words t c at
-  form-words (Full t) c at = named-words t c at
-  form-words (Lower t) c at = named-words t c at
-  form-words Unknown c at = tt
+  form-words Zeros c at z = number-words c at
+  form-words Blanks c at z = number-words c at
+  form-words FromSunday c at z = sunday-words at (readNumber c s at) (number-words c at)
+  form-words (Short t) c at z = named-words t c at
+  form-words (Full t) c at z = named-words t c at
+  form-words (Lower t) c at z = named-words t c at
+  form-words Zone c at z = zone-words c at (z refl)
+  form-words Seconds c at z = tt
+  form-words Unknown c at z = tt
 
   byte-words : (b at : ℕ) → Words at (readByte b s at)
   unfolding readByte ordinary Words
@@ -154,7 +194,7 @@ module _ (s : List ℕ) where
   unfolding readElement readConversion
   element-words e at =
       let c = conversionOf (letterOf e) in
-      picked (Words at) (isByte e) (byte-words e at) (form-words (c .form) c at)
+      picked (Words at) (isByte e) (byte-words e at) (form-words (c .form) c at (zone-kind (letterOf e)))
 
 pub from-the-first : FromTheFirst
 unfolding Words

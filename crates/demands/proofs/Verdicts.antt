@@ -11,6 +11,8 @@ use Rattle.calendar.specs.declared.Date.{Date}
 use Rattle.judge.specs.Agreement.{said}
 use Rattle.judge.specs.declared.Verdict.{Verdict}
 use Rattle.judge.specs.declared.Verdict.the-variants.{Unsaid as NotSaid, Impossible, Open, Agreed}
+use Rattle.values.specs.Offsets.{offsetOf}
+use Rattle.values.specs.declared.offsets.Offset.{Offset}
 use Rattle.strptime.specs.Answers.{showing, refused, finished, saidOf, done, withHour, withDay}
 use Rattle.strptime.specs.declared.Day.{Day}
 use Rattle.strptime.specs.declared.Day.the-variants.{NoDate, On}
@@ -42,8 +44,9 @@ Refuses n p r = (r .number ≡ n) × (r .place ≡ p)
 abbrev pub Shows : ℕ → Shown → Reading → Type 0
 Shows p x r = (r .number ≡ 10) × (r .place ≡ p) × (r .shown ≡ x)
 
-abbrev pub Finishes : Day → Said → Said → Said → Reading → Type 0
-Finishes x h m c r = (r .number ≡ 0) × (r .day ≡ x) × (r .hour ≡ h) × (r .minute ≡ m) × (r .second ≡ c)
+abbrev pub Finishes : Day → Said → Said → Said → Offset → Reading → Type 0
+Finishes x h m c o r =
+    (r .number ≡ 0) × (r .day ≡ x) × (r .hour ≡ h) × (r .minute ≡ m) × (r .second ≡ c) × (r .offset ≡ o)
 
 module _ (t : State) where
   abbrev pub minute : Said
@@ -51,6 +54,9 @@ module _ (t : State) where
 
   abbrev pub second : Said
   second = saidOf (said (t .facts) kinds.second)
+
+  abbrev pub offset : Offset
+  offset = offsetOf (said (t .facts) kinds.zoneOffset)
 
   -- ---- the hour
 
@@ -78,13 +84,13 @@ module _ (t : State) where
   )
   hour-two d (Agreed h) a b = (λ e. absurd (omega (arith, e .0)), λ e. clash (cc))
 
-  hour-done : (d : Day) (w : Verdict) (x : Day) (h m c : Said)
-      → Finishes x h m c (withHour t d w) ↔ ((d ≡ x) × LeavesHour w h × (minute ≡ m) × (second ≡ c))
+  hour-done : (d : Day) (w : Verdict) (x : Day) (h m c : Said) (o : Offset)
+      → Finishes x h m c o (withHour t d w) ↔ ((d ≡ x) × LeavesHour w h × (minute ≡ m) × (second ≡ c) × (offset ≡ o))
   unfolding withHour done finished refused showing
-  hour-done d NotSaid x h m c = (λ e. (e .1, sym (e .2), e .3, e .4), λ e. (refl, e .0, sym (e .1), e .2, e .3))
-  hour-done d Impossible x h m c = (λ e. absurd (omega (arith, e .0)), λ e. absurd (e .1))
-  hour-done d (Open a b) x h m c = (λ e. absurd (omega (arith, e .0)), λ e. absurd (e .1))
-  hour-done d (Agreed k) x h m c = (λ e. (e .1, sym (e .2), e .3, e .4), λ e. (refl, e .0, sym (e .1), e .2, e .3))
+  hour-done d NotSaid x h m c o = (λ e. (e .1, sym (e .2), e .3, e .4, e .5), λ e. (refl, e .0, sym (e .1), e .2, e .3, e .4))
+  hour-done d Impossible x h m c o = (λ e. absurd (omega (arith, e .0)), λ e. absurd (e .1))
+  hour-done d (Open a b) x h m c o = (λ e. absurd (omega (arith, e .0)), λ e. absurd (e .1))
+  hour-done d (Agreed k) x h m c o = (λ e. (e .1, sym (e .2), e .3, e .4, e .5), λ e. (refl, e .0, sym (e .1), e .2, e .3, e .4))
 
   hour-place : (d : Day) (w : Verdict) → withHour t d w .number ≡ 0 → withHour t d w .place ≡ t .at
   unfolding withHour done finished refused showing
@@ -133,17 +139,17 @@ module _ (t : State) where
       let g = hour-two (On (dateOf k)) w a b in
       (λ e. ((On (dateOf k), refl), g .0 e), λ e. g .1 (e .1))
 
-  pub then-done : (v w : Verdict) (x : Day) (h m c : Said)
-      → Finishes x h m c (withDay t v w) ↔ (Leaves v x × LeavesHour w h × (minute ≡ m) × (second ≡ c))
+  pub then-done : (v w : Verdict) (x : Day) (h m c : Said) (o : Offset)
+      → Finishes x h m c o (withDay t v w) ↔ (Leaves v x × LeavesHour w h × (minute ≡ m) × (second ≡ c) × (offset ≡ o))
   unfolding withDay refused showing
-  then-done NotSaid w x h m c =
-      let g = hour-done NoDate w x h m c in
-      (λ e. let r = g .0 e in (sym (r .0), r .1, r .2, r .3), λ e. g .1 (sym (e .0), e .1, e .2, e .3))
-  then-done Impossible w x h m c = (λ e. absurd (omega (arith, e .0)), λ e. absurd (e .0))
-  then-done (Open a b) w x h m c = (λ e. absurd (omega (arith, e .0)), λ e. absurd (e .0))
-  then-done (Agreed k) w x h m c =
-      let g = hour-done (On (dateOf k)) w x h m c in
-      (λ e. let r = g .0 e in (sym (r .0), r .1, r .2, r .3), λ e. g .1 (sym (e .0), e .1, e .2, e .3))
+  then-done NotSaid w x h m c o =
+      let g = hour-done NoDate w x h m c o in
+      (λ e. let r = g .0 e in (sym (r .0), r .1, r .2, r .3, r .4), λ e. g .1 (sym (e .0), e .1, e .2, e .3, e .4))
+  then-done Impossible w x h m c o = (λ e. absurd (omega (arith, e .0)), λ e. absurd (e .0))
+  then-done (Open a b) w x h m c o = (λ e. absurd (omega (arith, e .0)), λ e. absurd (e .0))
+  then-done (Agreed k) w x h m c o =
+      let g = hour-done (On (dateOf k)) w x h m c o in
+      (λ e. let r = g .0 e in (sym (r .0), r .1, r .2, r .3, r .4), λ e. g .1 (sym (e .0), e .1, e .2, e .3, e .4))
 
   -- a finished reading's place
   pub done-place : (v w : Verdict) → withDay t v w .number ≡ 0 → withDay t v w .place ≡ t .at

@@ -17,7 +17,7 @@ use Rattle.format.specs.Conversions.{among}
 use Rattle.format.specs.Opening as opening
 use Rattle.format.specs.Opening.{Whole, opening}
 use Rattle.format.specs.declared.opening.Side.the-variants.{Writer}
-use Rattle.strftime.specs.Writing.{element, text, put, byFormat, forMoment, forFields, writing}
+use Rattle.strftime.specs.Writing.{element, text, put, isSeconds, offered, byFormat, forMoment, forFields, writing}
 use Rattle.values.specs.Values as values
 use Rattle.judge.specs.Agreement as agreement
 use Rattle.judge.specs.Engines as engines
@@ -26,6 +26,9 @@ use Rattle.judge.specs.Verdicts as verdicts
 use Rattle.matching.specs.Elements as elements
 use Rattle.matching.specs.Steps as reading
 use Rattle.strptime.specs.Answers as answers
+use Rattle.values.specs.Offsets as offsets
+use Rattle.demands.proofs.Seconds.{no-seconds}
+use mathlib.Core.Bool.{false}
 use Rattle.demands.specs.WhiteSpace.{WhiteSpace, Copied, spaceBytes, isAnswered, met}
 
 -- ---- the reader
@@ -33,7 +36,7 @@ use Rattle.demands.specs.WhiteSpace.{WhiteSpace, Copied, spaceBytes, isA
 computed : map met (range 0 256) ≡ map (λ b. replicate 4 (among b spaceBytes)) (range 0 256)
 unfolding met spaceBytes isAnswered range bytes isSpace spaces isDigit digitRun decimal conversions.computes opening.computes
     values.computes agreement.computes search.computes verdicts.computes engines.computes elements.computes reading.computes
-    answers.computes
+    answers.computes offsets.computes
 computed = refl
 
 -- ---- the writer
@@ -44,8 +47,10 @@ unfolding opening.computes
 alone b n = rw (ne-eqb b (code "%") n)
 
 copied : (b : ℕ) → b < 256 → (b ≡ code "%" → ⊥) → Copied b
-unfolding writing forFields forMoment byFormat put text element
-copied b l n t m v c rest = rw (v, alone b n, alone b n, lt-ltb b 256 l, le-leb 1 (length (c ∷ rest)) (omega arith))
+unfolding writing forFields forMoment byFormat offered put text element
+copied b l n t m v c rest =
+    let s : isSeconds b ≡ false = unfold isSeconds in rw (lt-ltb b 256 l) in
+    rw (v, alone b n, alone b n, no-seconds (m .offset) b s, lt-ltb b 256 l, le-leb 1 (length (c ∷ rest)) (omega arith))
 
 pub white-space : (b : ℕ) → b < 256 → WhiteSpace b
 white-space b l =

@@ -2,7 +2,7 @@
 -- Assumes nothing.
 use Prim.Native.Char.{code}
 use Prim.Native.Nat.{ℕ, zero, suc, _^_, _≤_, _<_}
-use mathlib.Core.Bool.{Bool, true, _&&_, and-eq-true-iff}
+use mathlib.Core.Bool.{Bool, true, false, _&&_, and-eq-true-iff}
 use mathlib.Core.List.{List, [], _∷_, map, append-nil}
 use mathlib.Core.Logic.{_⊎_, _↔_, inl, inr, ⊎-elim}
 use mathlib.Core.Path.{_≡_, refl, sym, ap, _∙_}
@@ -33,14 +33,17 @@ use Rattle.text.specs.Naming as naming
 use Rattle.text.specs.Naming.{nameFor}
 use Rattle.text.proofs.ReadBack.{filled-length, filled-digits, filled-back}
 use Rattle.values.specs.Moments.{momentOf, momentFault}
+use Rattle.values.specs.Offsets.{isOffset}
 use Rattle.values.specs.Values.{value, dateValue, hourValue}
 use Rattle.values.specs.declared.Moment.{Moment}
 use Rattle.values.specs.declared.MomentFields.the-variants.{Valid}
 use Rattle.values.proofs.Ranges.{highest, date-ranged, hour-ranged}
 use Rattle.strftime.proofs.Lengths.{by-form, element-plain, number-plain}
+use Rattle.values.specs.declared.offsets.Offset.the-variants.{Unsaid as NoOffset}
 use Rattle.strftime.specs.Writing as writer
-use Rattle.strftime.specs.Writing.{numbered, formed, element, text, put, byFormat, forMoment, forFields, writing}
+use Rattle.strftime.specs.Writing.{numbered, formed, element, text, put, isSeconds, offered, byFormat, forMoment, forFields, writing}
 use Rattle.strftime.specs.declared.Fields.{Fields}
+use Rattle.demands.proofs.Seconds.{no-seconds}
 use Rattle.demands.specs.Writes.{letters, letterFor, wrote, written, IsHalf, WouldWrite, onDay, atHour, halves}
 
 -- ---- one conversion, written
@@ -54,10 +57,11 @@ fields m =
       hour = m .hour;
       minute = m .minute;
       second = m .second;
+      offset = m .offset;
     }
 
 abbrev IsMoment : Moment → Type 0
-IsMoment m = momentOf (m .date .year) (m .date .month) (m .date .day) (m .hour) (m .minute) (m .second) ≡ Valid m
+IsMoment m = momentOf (m .date .year) (m .date .month) (m .date .day) (m .hour) (m .minute) (m .second) (m .offset) ≡ Valid m
 
 -- the conversion of kind k, as an element
 abbrev elementFor : ℕ → ℕ
@@ -67,10 +71,10 @@ abbrev alone : ℕ → Opening
 alone e = record { elements = e ∷ []; ended = Whole }
 
 module _ (k : ℕ) (m : Moment) (v : IsMoment m) (o : opening Writer (code "%" ∷ letterFor k ∷ []) ≡ alone (elementFor k))
-    {x : List ℕ} (e : element m (elementFor k) ≡ x) (short : length x ≤ 9) where
+    (s : isSeconds (elementFor k) ≡ false) {x : List ℕ} (e : element m (elementFor k) ≡ x) (short : length x ≤ 9) where
   wrote-is : wrote k (fields m) ≡ record { answer = numbered 0 (length x); buffer = sets (replicate 9 0) 0 x }
-  unfolding wrote writing forFields forMoment byFormat put text
-  wrote-is = rw (v, o, o, e, append-nil x, le-leb (length x) 9 short)
+  unfolding wrote writing forFields forMoment byFormat offered put text
+  wrote-is = rw (v, o, o, no-seconds (m .offset) (elementFor k) s, e, append-nil x, le-leb (length x) 9 short)
 
   written-is : written k (fields m) ≡ x
   unfolding written
@@ -126,6 +130,13 @@ small k p q = ltb-true _ 256 (same-at (λ j. ltb (letterFor j) 256) (λ j. true)
     computed : map (λ j. ltb (letterFor j) 256) (range 1 15) ≡ map (λ j. true) (range 1 15)
     computed = unfold letterFor letters range conversions.computes in refl
 
+-- and none is %s
+not-s : (k : ℕ) → 1 ≤ k → k ≤ 15 → isSeconds (elementFor k) ≡ false
+not-s k p q = same-at (λ j. isSeconds (elementFor j)) (λ j. false) 15 1 computed k p (omega arith)
+  where
+    computed : map (λ j. isSeconds (elementFor j)) (range 1 15) ≡ map (λ j. false) (range 1 15)
+    computed = unfold isSeconds letterFor letters range conversions.computes in refl
+
 -- ---- kinds 1 to 14
 
 module _ (k : ℕ) (p : 1 ≤ k) (q : k ≤ 14) (m : Moment) (v : IsMoment m) (r : value k m ≤ getD highest k 0) where
@@ -145,10 +156,11 @@ module _ (k : ℕ) (p : 1 ≤ k) (q : k ≤ 14) (m : Moment) (v : IsMoment m) (r
       let short : length x ≤ 9 = omega (arith, long, f .2) in
       let back : decimal 0 x ≡ value k m = filled-back w (value k m) (omega (arith, f .0)) in
       let o = opens k p (omega arith) in
-      let is = written-is k m v o number-written short in (
+      let z = not-s k p (omega arith) in
+      let is = written-is k m v o z number-written short in (
         λ y. ⊎-elim (λ z. sym back ∙ rw is at (z .1 .2)) (λ z. absurd (omega (arith, z .0))) (y .shows),
         λ e. record {
-          done = rw (wrote-is k m v o number-written short);
+          done = rw (wrote-is k m v o z number-written short);
           shows = inl (λ z. omega arith, rw is (omega (arith, long, f .1), filled-digits w (value k m), back ∙ e));
         },
       )
@@ -181,10 +193,11 @@ module _ (m : Moment) (v : IsMoment m) (r : value halfOfDay m ≤ 1) where
   half-would n =
       let short = half-short (value halfOfDay m) r in
       let o = opens halfOfDay (lit≤ tt) (lit≤ tt) in
-      let is = written-is halfOfDay m v o half-written short in
+      let z = not-s halfOfDay (lit≤ tt) (lit≤ tt) in
+      let is = written-is halfOfDay m v o z half-written short in
       let same = half-is (value halfOfDay m) n r in (
         λ y. ⊎-elim (λ z. absurd (z .0 refl)) (λ z. same .0 (rw is at (z .1))) (y .shows),
-        λ e. record { done = rw (wrote-is halfOfDay m v o half-written short); shows = inr (refl, rw is (same .1 e)) },
+        λ e. record { done = rw (wrote-is halfOfDay m v o z half-written short); shows = inr (refl, rw is (same .1 e)) },
       )
 
 -- ---- a day, and an hour
@@ -192,10 +205,10 @@ module _ (m : Moment) (v : IsMoment m) (r : value halfOfDay m ≤ 1) where
 -- a day of the calendar
 module _ (d : ℕ) (l : 1 ≤ d) (h : d ≤ days) where
   midnight : Moment
-  midnight = record { date = dateOf d; hour = 0; minute = 0; second = 0 }
+  midnight = record { date = dateOf d; hour = 0; minute = 0; second = 0; offset = NoOffset }
 
   is-midnight : IsMoment midnight
-  unfolding midnight momentOf momentFault
+  unfolding midnight momentOf momentFault isOffset
   is-midnight = rw (valid-no-fault _ _ _ (number-of-date d l h .valid))
 
   pub day-would : (k n : ℕ) → 1 ≤ k → k ≤ 12 → WouldWrite k n (onDay d) ↔ (dateValue k (dateOf d) ≡ n)
@@ -208,10 +221,10 @@ module _ (d : ℕ) (l : 1 ≤ d) (h : d ≤ days) where
 -- an hour of the day, on the first day
 module _ (h : ℕ) (l : h ≤ 23) where
   moment : Moment
-  moment = record { date = record { year = 1; month = 1; day = 1 }; hour = h; minute = 0; second = 0 }
+  moment = record { date = record { year = 1; month = 1; day = 1 }; hour = h; minute = 0; second = 0; offset = NoOffset }
 
   is-moment : IsMoment moment
-  unfolding moment momentOf momentFault computes
+  unfolding moment momentOf momentFault isOffset computes
   is-moment = rw (le-leb h 23 l)
 
   half-at : (n : ℕ) → WouldWrite halfOfDay n (atHour h) ↔ (hourValue halfOfDay h ≡ n)

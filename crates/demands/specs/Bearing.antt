@@ -2,7 +2,7 @@
 -- 8.4). Demand 3 and the counts speak of these lists by name; this says what is in them.
 use mathlib.Core.List.{[], _∷_}
 use mathlib.Core.Path.{_≡_}
-use Rattle.kinds.specs.Kinds.{dayKinds, hourKinds, minute, second}
+use Rattle.kinds.specs.Kinds.{dayKinds, hourKinds, minute, second, zoneOffset}
 use Rattle.judge.specs.Engines.{monthKinds}
 
 pub record Bearing : Type 0 where
@@ -11,3 +11,4 @@ pub record Bearing : Type 0 where
   pub month : monthKinds ≡ 1 ∷ 2 ∷ 3 ∷ 4 ∷ []
   pub minute-is : minute ≡ 16
   pub second-is : second ≡ 17
+  pub zone-offset-is : zoneOffset ≡ 18

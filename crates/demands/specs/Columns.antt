@@ -33,7 +33,7 @@ unfoldable pub names : List ℕ
 names = bytes "bhBaApP"
 
 unfoldable pub others : List ℕ
-others = bytes "cxXDFRTrnt%"
+others = bytes "cxXDFRTrnt%zs"
 
 -- % with a flag, a width and a letter; a flag or a width is 0 where there is none
 unfoldable pub asked : ℕ → List ℕ

@@ -3,8 +3,9 @@
 use Prim.Native.Nat.{ℕ}
 use mathlib.Core.List.{List, [], _∷_, List·Memᴰ as Member}
 use mathlib.Core.Logic.{_↔_}
+use mathlib.Core.Bool.{true}
 use mathlib.Core.Path.{_≡_}
-use Rattle.kinds.specs.Kinds.{dayKinds, hourKinds, month, weekday, minute, second}
+use Rattle.kinds.specs.Kinds.{dayKinds, hourKinds, month, weekday, minute, second, zoneOffset}
 use Rattle.calendar.specs.Calendar.{dateOf}
 use Rattle.format.specs.Opening.{opening}
 use Rattle.format.specs.declared.opening.Side.the-variants.{Reader}
@@ -15,6 +16,9 @@ use Rattle.strptime.specs.declared.Day.the-variants.{NoDate, On}
 use Rattle.strptime.specs.declared.Said.{Said}
 use Rattle.strptime.specs.declared.Said.the-variants.{Unsaid, Is}
 use Rattle.strptime.specs.declared.Shown.the-variants.{Days, Hours}
+use Rattle.values.specs.declared.offsets.Offset.{Offset}
+use Rattle.values.specs.declared.offsets.Offset.the-variants.{Unsaid as NoOffset, Minutes}
+use Rattle.values.specs.Offsets.{isOffset, offsetNumber}
 use Rattle.demands.specs.Facts.{Says, lastForm, facts, endFrom}
 use Rattle.demands.specs.Writes.{WouldWrite, onDay, atHour}
 
@@ -52,6 +56,11 @@ module _ (f s : List ℕ) where
   NumberIs k Unsaid = (n : ℕ) → Says (facts f s) k n → ⊥
   NumberIs k (Is n) = Says (facts f s) k n
 
+  -- the zone offset likewise, whose number in a fact is 1439 more
+  abbrev pub OffsetIs : Offset → Type 0
+  OffsetIs NoOffset = (n : ℕ) → Says (facts f s) zoneOffset n → ⊥
+  OffsetIs (Minutes z) = (isOffset (Minutes z) ≡ true) × Says (facts f s) zoneOffset (offsetNumber z)
+
   -- the day is not refused
   abbrev pub DayStands : Type 0
   DayStands = (x : Day) × DayIs x
@@ -71,11 +80,11 @@ module _ (f s : List ℕ) where
     pub two-hours : (a b : ℕ)
         → ((reading f s .number ≡ 10) × (reading f s .place ≡ 2) × (reading f s .shown ≡ Hours a b))
         ↔ (DayStands × SomeSaid hourKinds × Earliest IsHour HourAgrees a b)
-    -- 0: done, with exactly the day, hour, minute and second that the facts give
-    pub done : (x : Day) (h m c : Said)
+    -- 0: done, with exactly the day, hour, minute, second and zone offset that the facts give
+    pub done : (x : Day) (h m c : Said) (o : Offset)
         → ((reading f s .number ≡ 0) × (reading f s .day ≡ x) × (reading f s .hour ≡ h) × (reading f s .minute ≡ m)
-        × (reading f s .second ≡ c))
-        ↔ (DayIs x × HourIs h × NumberIs minute m × NumberIs second c)
+        × (reading f s .second ≡ c) × (reading f s .offset ≡ o))
+        ↔ (DayIs x × HourIs h × NumberIs minute m × NumberIs second c × OffsetIs o)
     -- its place is where the last element stopped
     pub unread : reading f s .number ≡ 0 → reading f s .place ≡ endFrom (opening Reader f .elements) s 0
     -- and its forms are those of the last weekday name and of the last month name

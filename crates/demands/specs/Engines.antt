@@ -11,6 +11,7 @@ use Rattle.judge.specs.declared.Engine.the-variants.{Skipping, Plain, Within}
 use Rattle.judge.specs.declared.Facts.{Facts}
 use Rattle.judge.specs.declared.Searched.the-variants.{Judged}
 use Rattle.judge.specs.declared.Verdict.{Verdict}
+use Rattle.values.specs.declared.offsets.Offset.the-variants.{Unsaid as NoOffset}
 use Rattle.strptime.specs.Answers.{readingBy, reading}
 use Rattle.matching.specs.Steps.{noForms}
 use Rattle.strptime.specs.declared.Day.the-variants.{NoDate}
@@ -32,6 +33,7 @@ pub record SameBut (r q : Reading) : Type 0 where
   pub hour : r .hour ≡ q .hour
   pub minute : r .minute ≡ q .minute
   pub second : r .second ≡ q .second
+  pub offset : r .offset ≡ q .offset
   pub forms : r .forms ≡ q .forms
   pub shown : r .shown ≡ q .shown
 
@@ -45,6 +47,7 @@ refusedAt b =
       hour = Unsaid;
       minute = Unsaid;
       second = Unsaid;
+      offset = NoOffset;
       forms = noForms;
       shown = Nothing;
       examined = b;

@@ -4,8 +4,11 @@ use Prim.Native.Nat.{ℕ, _≤_, _<_}
 use mathlib.Core.Bool.{true}
 use mathlib.Core.List.{List, [], _∷_}
 use mathlib.Core.Path.{_≡_}
-use lib.ListN.{length, drop}
+use lib.ListN.{length, take, drop}
+use Rattle.laws.specs.Bytes.{bytes}
+use Rattle.laws.specs.Lists.{every}
 use Rattle.format.specs.Conversions.{among}
+use Rattle.format.specs.Opening.{isByte}
 use Rattle.judge.specs.declared.Engine.{Engine}
 use Rattle.judge.specs.declared.Engine.the-variants.{Within}
 use Rattle.strftime.specs.Writing.{Result}
@@ -14,6 +17,7 @@ use Rattle.strptime.specs.declared.Day.the-variants.{NoDate}
 use Rattle.strptime.specs.declared.Reading.{Reading}
 use Rattle.strptime.specs.declared.Said.the-variants.{Unsaid}
 use Rattle.strptime.specs.declared.Shown.the-variants.{Nothing}
+use Rattle.values.specs.declared.offsets.Offset.the-variants.{Unsaid as NoOffset}
 use Rattle.demands.specs.Demand.{beforeNine}
 
 -- a number is one of these
@@ -22,17 +26,18 @@ OneOf ns n = among n ns ≡ true
 
 -- a writing's result w, by a format f into a buffer b
 pub record WritingRow (f b : List ℕ) (w : Result) : Type 0 where
-  pub listed : OneOf (0 ∷ 1 ∷ 2 ∷ 3 ∷ 4 ∷ []) (w .answer .number)
+  pub listed : OneOf (0 ∷ 1 ∷ 2 ∷ 3 ∷ 4 ∷ 12 ∷ []) (w .answer .number)
   -- a refusal changes no byte of the buffer
   pub untouched : (w .answer .number ≡ 0 → ⊥) → w .buffer ≡ b
   -- a finished writing changes none past the count
   pub fits : w .answer .number ≡ 0 → w .answer .place ≤ length b
   pub same-length : length (w .buffer) ≡ length b
   pub past-the-count : w .answer .number ≡ 0 → drop (w .answer .place) (w .buffer) ≡ drop (w .answer .place) b
-  -- places: 0; a field, 1 to 6; an offset of the format; more bytes than the buffer has
+  -- places: 0; a field, 1 to 7; an offset of the format, with 12 that of a %s; more bytes than the buffer has
   pub place-1 : w .answer .number ≡ 1 → w .answer .place ≡ 0
-  pub place-2 : w .answer .number ≡ 2 → OneOf (1 ∷ 2 ∷ 3 ∷ 4 ∷ 5 ∷ 6 ∷ []) (w .answer .place)
+  pub place-2 : w .answer .number ≡ 2 → OneOf (1 ∷ 2 ∷ 3 ∷ 4 ∷ 5 ∷ 6 ∷ 7 ∷ []) (w .answer .place)
   pub place-3 : w .answer .number ≡ 3 → w .answer .place < length f
+  pub place-12 : every isByte f ≡ true → w .answer .number ≡ 12 → take 2 (drop (w .answer .place) f) ≡ bytes "%s"
   pub place-4 : w .answer .number ≡ 4 → length b < w .answer .place
 
 -- the numbers of a reading
@@ -47,6 +52,7 @@ pub record ReadingRow (e : Engine) (f s : List ℕ) (r : Reading) : Type 0 where
   pub no-hour : (r .number ≡ 0 → ⊥) → r .hour ≡ Unsaid
   pub no-minute : (r .number ≡ 0 → ⊥) → r .minute ≡ Unsaid
   pub no-second : (r .number ≡ 0 → ⊥) → r .second ≡ Unsaid
+  pub no-offset : (r .number ≡ 0 → ⊥) → r .offset ≡ NoOffset
   pub no-forms : (r .number ≡ 0 → ⊥) → r .forms ≡ noForms
   pub unshown : (r .number ≡ 10 → ⊥) → r .shown ≡ Nothing
   -- places: 0; an offset of the format; an offset of the text, or its end; the day or the hour; the budget

@@ -5,15 +5,16 @@ use mathlib.Core.List.{List, [], _∷_, _++_}
 use lib.ListN.{replicate}
 use Rattle.laws.specs.Bytes.{bytes}
 use Rattle.calendar.specs.declared.Date.{Date}
+use Rattle.values.specs.declared.offsets.Offset.the-variants.{Unsaid as NoOffset}
 use Rattle.strftime.specs.Writing.{writing}
 use Rattle.strftime.specs.declared.Fields.{Fields}
 use Rattle.strptime.specs.Answers.{reading}
 use Rattle.strptime.specs.declared.Shown.{Shown}
 use Rattle.strptime.specs.declared.Shown.the-variants.{Nothing, Days, Hours}
 
--- a moment
+-- a moment, without a zone offset
 unfoldable pub moment : ℕ → ℕ → ℕ → ℕ → ℕ → ℕ → Fields
-moment y m d h n s = record { year = y; month = m; day = d; hour = h; minute = n; second = s }
+moment y m d h n s = record { year = y; month = m; day = d; hour = h; minute = n; second = s; offset = NoOffset }
 
 -- a date at midnight
 unfoldable pub midnight : ℕ → ℕ → ℕ → Fields

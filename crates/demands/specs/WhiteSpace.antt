@@ -37,7 +37,7 @@ met b =
 -- a format of one byte writes it, for every moment, over a buffer's first byte
 abbrev pub Copied : ℕ → Type 0
 Copied b =
-    (t : Fields) (m : Moment) → momentOf (t .year) (t .month) (t .day) (t .hour) (t .minute) (t .second) ≡ Valid m
+    (t : Fields) (m : Moment) → momentOf (t .year) (t .month) (t .day) (t .hour) (t .minute) (t .second) (t .offset) ≡ Valid m
     → (c : ℕ) (rest : List ℕ) → writing (b ∷ []) t (c ∷ rest) ≡ record { answer = numbered 0 1; buffer = b ∷ rest }
 
 pub record WhiteSpace (b : ℕ) : Type 0 where

@@ -13,6 +13,7 @@ use Rattle.kinds.specs.Kinds.{halfOfDay}
 use Rattle.calendar.specs.Calendar.{dateOf}
 use Rattle.text.specs.Case.{fold}
 use Rattle.text.specs.Digits.{isDigit, decimal}
+use Rattle.values.specs.declared.offsets.Offset.the-variants.{Unsaid as NoOffset}
 use Rattle.strftime.specs.Writing.{Result, writing}
 use Rattle.strftime.specs.declared.Fields.{Fields}
 
@@ -47,10 +48,18 @@ pub record WouldWrite (k n : ℕ) (t : Fields) : Type 0 where
   pub done : wrote k t .answer .number ≡ 0
   pub shows : ((k ≡ halfOfDay → ⊥) × IsNumber n (written k t)) ⊎ ((k ≡ halfOfDay) × IsHalf n (written k t))
 
--- the fields of a day, by its day number, at midnight; and of an hour, on the first day
+-- the fields of a day, by its day number, at midnight; and of an hour, on the first day; no zone offset is said
 unfoldable pub onDay : ℕ → Fields
 onDay d =
-    record { year = dateOf d .year; month = dateOf d .month; day = dateOf d .day; hour = 0; minute = 0; second = 0 }
+    record {
+      year = dateOf d .year;
+      month = dateOf d .month;
+      day = dateOf d .day;
+      hour = 0;
+      minute = 0;
+      second = 0;
+      offset = NoOffset;
+    }
 
 unfoldable pub atHour : ℕ → Fields
-atHour h = record { year = 1; month = 1; day = 1; hour = h; minute = 0; second = 0 }
+atHour h = record { year = 1; month = 1; day = 1; hour = h; minute = 0; second = 0; offset = NoOffset }

@@ -188,7 +188,7 @@ own-bytes c = T→eq (every isByte (ownFormat c)) (own-passes (every isByte) c (
     T→eq true t = refl
     T→eq false t = absurd t
 
-composite-elements : (side : Side) (depth sign c : ℕ) → sign + 1 < longest → Elements side (compositeTo side depth sign c)
+pub composite-elements : (side : Side) (depth sign c : ℕ) → sign + 1 < longest → Elements side (compositeTo side depth sign c)
 unfolding compositeTo nothing every signAt
 composite-elements side zero sign c h = refl
 composite-elements side (suc depth) sign c h =

@@ -237,7 +237,7 @@ own-alike f g c (x ∷ xs) e n =
     let more : map (λ (x : Composite). f (x .format)) xs ≡ map (λ (x : Composite). g (x .format)) xs = cc in
     picked (λ (s : List ℕ). f s ≡ g s) (eqb c (x .letter)) (cc) (own-alike f g c xs more n)
 
-composites-alike : (sign c : ℕ) → compositeTo Writer 2 sign c ≡ compositeTo Reader 2 sign c
+pub composites-alike : (sign c : ℕ) → compositeTo Writer 2 sign c ≡ compositeTo Reader 2 sign c
 unfolding compositeTo ownFormat
 composites-alike sign c =
     own-alike (λ s. openFrom Writer (compositeTo Writer 1) (Of sign) 0 0 s) (λ s. openFrom Reader (compositeTo Reader 1) (Of sign) 0 0 s) c

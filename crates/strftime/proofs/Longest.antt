@@ -150,7 +150,7 @@ longest-needed t b v h =
 -- ---- no more: what each piece of a format can write
 
 -- a byte is below 256, and a conversion's letter is
-abbrev Lettered : Act → Type 0
+abbrev pub Lettered : Act → Type 0
 Lettered (Byte b) = b < 256
 Lettered (Convert c y) = c < 256
 Lettered (Open c) = Unit {0}
@@ -163,7 +163,7 @@ style-lettered y (Convert c x) u = picked Lettered (takesStyle y c) (letter-belo
 style-lettered y (Open c) u = picked Lettered (isUnstyled y) tt tt
 style-lettered y Refuse u = tt
 
-piece-lettered : (b : ℕ) (s : List ℕ) → b < 256 → Lettered (pieceOf Writer b s .act)
+pub piece-lettered : (b : ℕ) (s : List ℕ) → b < 256 → Lettered (pieceOf Writer b s .act)
 unfolding pieceOf signed styled
 piece-lettered b s h =
     let f = flagRun s in
