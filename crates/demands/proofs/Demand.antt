@@ -26,7 +26,7 @@ use Rattle.judge.specs.declared.Verdict.{Verdict}
 use Rattle.judge.specs.declared.Verdict.the-variants.{Unsaid as NotSaid, Impossible, Open, Agreed}
 use Rattle.judge.proofs.Demand.{day-judged, hour-judged}
 use Rattle.judge.proofs.Engines.{by-skipping}
-use Rattle.values.specs.Offsets.{isOffset, offsetNumber, offsetOf}
+use Rattle.values.specs.Offsets.{offsetNumber, offsetOf}
 use Rattle.values.specs.declared.offsets.Offset.{Offset}
 use Rattle.values.specs.declared.offsets.Offset.the-variants.{Unsaid as NoOffset, Minutes}
 use Rattle.demands.proofs.Offsets.{offset-none, offset-said, said-number, said-valid, back, offset-most}

@@ -20,3 +20,4 @@ pub mod Verdicts
 pub mod Walk
 pub mod WhiteSpace
 pub mod Written
+pub mod Zones

@@ -1,14 +1,14 @@
 -- A zone offset as the number of a fact, and back; and the number of such a fact that a text says.
 -- Assumes nothing.
-use Prim.Native.Nat.{ℕ, zero, suc, _+_, _-_, _≤_, _<_}
-use mathlib.Core.Bool.{true, false}
+use Prim.Native.Nat.{ℕ, suc, _+_, _-_, _≤_}
+use mathlib.Core.Bool.{true}
 use mathlib.Core.List.{List, [], _∷_}
 use mathlib.Core.Logic.{⊎-elim}
-use mathlib.Core.Path.{_≡_, refl, sym, ap, _∙_}
+use mathlib.Core.Path.{_≡_, refl, ap, _∙_}
 use native.Mathlib.Omega.{arith}
 use borrow.Author.Tests.{le-leb, le-ltb, lt-ltb, ltb-true, ltb-false, leb-true}
 use lib.Dec.{ltb}
-use lib.IntN.{ℤ, pos, negsuc, natAbs, subℕ, predℤ, _+ℤ_, _-ℤ_, +ℤ-assoc, -ℤ-one}
+use lib.IntN.{ℤ, pos, negsuc, natAbs, _+ℤ_, _-ℤ_, +ℤ-assoc, -ℤ-one}
 use lib.ListN.{length}
 use Rattle.laws.proofs.Cases.{either}
 use Rattle.kinds.specs.Kinds.{zoneOffset}
@@ -18,7 +18,6 @@ use Rattle.matching.specs.Elements.{readElement}
 use Rattle.matching.specs.declared.elements.Item.{Item}
 use Rattle.matching.specs.declared.elements.Item.the-variants.{Skip, Fact as Reads, NoMatch, OutOfRange}
 use Rattle.matching.proofs.Sound.{Finds, Sound, sound}
-use Rattle.matching.proofs.Told.{Told}
 use Rattle.values.specs.Offsets.{isOffset, offsetNumber, offsetOf}
 use Rattle.values.specs.declared.offsets.Offset.the-variants.{Unsaid, Minutes}
 use Rattle.values.proofs.Ranges.{highest}

@@ -2,15 +2,14 @@
 -- Assumes nothing.
 use Prim.Native.Char.{code}
 use Prim.Native.Nat.{ℕ, zero, suc, _+_, _-_, _≤_, _<_}
-use mathlib.Core.Bool.{Bool, true, false, cond, _&&_, and-eq-true-iff}
+use mathlib.Core.Bool.{true, false, and-eq-true-iff}
 use mathlib.Core.List.{List, [], _∷_, _++_}
 use mathlib.Core.Path.{_≡_, refl, sym, ap, _∙_}
 use native.Mathlib.Decide.{decLe}
 use native.Mathlib.Nat.{lt-of-not-le}
-use native.Mathlib.Numerals.{add-one}
 use native.Mathlib.Omega.{arith}
 use borrow.Author.Tests.{lt-ltb, le-ltb, ltb-true, eqb-true}
-use lib.Dec.{eqb, leb}
+use lib.Dec.{eqb}
 use lib.ListN.{length, take, drop, getD}
 use lib.Seq.{drop-drop}
 use Rattle.laws.specs.Bytes.{bytes}
@@ -18,17 +17,17 @@ use Rattle.laws.specs.Lists.{every}
 use Rattle.laws.proofs.Cases.{either, picked, clash}
 use Rattle.format.specs.Conversions.{among, isConversion, isComposite, computes as rows-compute}
 use Rattle.format.specs.Opening.{Ended, Whole, BadAt, Opening, opening, openTo, openFrom, compositeTo, longest, isByte, letterOf, afterSign}
-use Rattle.format.specs.Opening.{conversionAt, letter, piece, paired, conversion, after-E, after-O, flagRun, widthRun, styleFrom}
+use Rattle.format.specs.Opening.{conversionAt, letter, paired, conversion, after-E, after-O, flagRun, widthRun, styleFrom}
 use Rattle.format.specs.Opening.{isUnstyled, bare, takesStyle, withStyle, styled, signed, pieceOf, before, composed, acted, nothing, signAt}
 use Rattle.format.specs.Opening.{isElement}
 use Rattle.format.specs.declared.opening.Act.{Act}
 use Rattle.format.specs.declared.opening.Act.the-variants.{Byte, Convert, Open, Refuse}
 use Rattle.format.specs.declared.opening.Piece.{Piece}
 use Rattle.format.specs.declared.opening.Side.the-variants.{Writer, Reader}
-use Rattle.format.specs.declared.opening.Sign.the-variants.{Own, Of}
+use Rattle.format.specs.declared.opening.Sign.the-variants.{Own}
 use Rattle.format.specs.declared.opening.Style.{Style}
-use Rattle.format.proofs.Elements.{letter-below, composite-elements, read-letter}
-use Rattle.format.proofs.Pieces.{Unstyled, conversion-unstyled, Follows, follows}
+use Rattle.format.proofs.Elements.{composite-elements, read-letter}
+use Rattle.format.proofs.Pieces.{Follows, follows}
 use Rattle.format.proofs.Sides.{composites-alike}
 use Rattle.format.proofs.Styles.{flag-run, width-run}
 use Rattle.values.specs.declared.offsets.Offset.{Offset}

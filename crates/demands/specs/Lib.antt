@@ -4,7 +4,8 @@
 --      starred cases are in one table, Starred (`all-hold` in proofs/Starred); which bytes are white space, and where, is in WhiteSpace
 --      (`white-space` in proofs/WhiteSpace); what flags and widths do, and who takes them, is in Columns (`columns` in proofs/Columns); how
 --      a name is read, and in which form, is in Names (`name-rule` in proofs/Names), with cases and all forms of all tables in NameCases
---      (`all-named`, `all-forms` in proofs/NameCases)
+--      (`all-named`, `all-forms` in proofs/NameCases); what %z writes, that it reads back, and that the day and the hour do not depend on
+--      it, in Offsets (`zone-rule`, `ignored` in proofs/Zones), with cases of %z and %s (`all-written`, `all-read` in proofs/Zones)
 --   3  the conclusions of RULES 8: the facts that a text says, and when it is matched, in Facts (`matched`, `handed` in proofs/Matched);
 --      what the writer would write, in Writes (`day-would`, `hour-would` in proofs/Written);
 --      how a matched text is answered, `Answered` of Demand (`answered` in proofs/Demand);
@@ -22,6 +23,7 @@ pub mod Examined
 pub mod Facts
 pub mod NameCases
 pub mod Names
+pub mod Offsets
 pub mod ReasonCases
 pub mod Reasons
 pub mod Rows

@@ -1,6 +1,6 @@
 -- Signed numbers of 32 bits and their words, as they are worked out in 64 bits.
 -- Assumes nothing.
-use Prim.Native.Nat.{ℕ, zero, suc, _+_, _-_, _^_, _≤_, _<_}
+use Prim.Native.Nat.{ℕ, suc, _-_, _^_, _≤_, _<_}
 use mathlib.Core.Bool.{Bool, true, false}
 use mathlib.Core.Path.{_≡_, refl, sym, ap, _∙_}
 use native.Mathlib.Decide.{decLt}
@@ -8,13 +8,12 @@ use native.Mathlib.Omega.{arith}
 use borrow.Author.Tests.{lt-ltb, le-ltb}
 use lib.Dec.{lit<}
 use lib.IntN.{ℤ, pos, negsuc, natAbs, _-ℤ_}
-use lib.Signed.{mag}
 use mir.Facts.{toZ-ofZ, toZ-pos}
 use mir.Syntax.{w32, w64}
 use mir.Val.{SFits, toZ, ofZ}
 use Rattle.laws.proofs.Cases.{clash}
 use Rattle.values.specs.Offsets.{isNegative}
-use Rattle.values.proofs.Seconds.{Near, fits, kept, widened}
+use Rattle.values.proofs.Seconds.{fits, kept, widened}
 use Rattle.larusqem.specs.Words.{signedOf, wordOf}
 
 -- ---- the number of a word

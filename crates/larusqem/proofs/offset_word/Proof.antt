@@ -3,7 +3,6 @@ use mathlib.Core.Path.{ap, _∙_}
 use borrow.Author.Needs.{needs}
 use mir.Facts.{toZ-ofZ}
 use mir.Syntax.{w32}
-use mir.Val.{SFits}
 use Rattle.larusqem.specs.Words.{wordOf, offsetWord}
 use Rattle.larusqem.proofs.offset_word.Statement.{statement}
 use Rattle.larusqem.proofs.offset_word.Tie as tie

@@ -1,5 +1,4 @@
 -- `larusqem::word_of` meets its contract.
-use mathlib.Core.Path.{sym}
 use native.Mathlib.Omega.{arith}
 use borrow.Author.Needs.{needs}
 use Rattle.larusqem.proofs.Signed.{wide-fits, size-most, negative-some, negative-word, positive-word}

@@ -1,5 +1,4 @@
 -- `strftime::zones::put_long` meets its contract: the digits before the last nine, and these.
-use mathlib.Core.Path.{sym}
 use native.Mathlib.Omega.{arith}
 use borrow.Author.Needs.{needs}
 use Rattle.laws.proofs.Stores.{then}

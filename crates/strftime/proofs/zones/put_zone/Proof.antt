@@ -1,13 +1,11 @@
 -- `strftime::zones::put_zone` meets its contract.
-use mathlib.Core.Path.{refl, sym, ap, _∙_}
+use mathlib.Core.Path.{refl, sym, ap}
 use native.Mathlib.Nat.{add-zero}
 use native.Mathlib.Omega.{arith}
 use borrow.Author.Needs.{needs}
 use lib.Dec.{lit<}
-use lib.IntN.{natAbs}
 use lib.ListN.{length}
 use Rattle.values.proofs.Seconds.{fits, kept, widened}
-use Rattle.strftime.specs.Zones.{zone, east}
 use Rattle.strftime.proofs.Offsets.{zone-unsaid, zone-said}
 use Rattle.strftime.proofs.zones.put_zone.Statement.{statement}
 use Rattle.strftime.proofs.zones.put_zone.Tie as tie
