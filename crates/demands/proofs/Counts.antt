@@ -9,7 +9,7 @@ use native.Mathlib.Omega.{arith}
 use Rattle.laws.specs.Lists.{every}
 use Rattle.kinds.specs.Kinds.{dayKinds}
 use Rattle.calendar.specs.Calendar.{sum, days, dateOf}
-use Rattle.judge.specs.Demand.{IsDay, AllAgree}
+use Rattle.agreement.specs.Demand.{IsDay, AllAgree}
 use Rattle.judge.specs.Engines.{monthKinds, monthAgrees, monthDays}
 use Rattle.judge.specs.declared.Engine.the-variants.{Skipping, Plain}
 use Rattle.judge.proofs.Engines.{by-plain, plain-two, plain-all, plain-most, skipping-count, month-agrees}

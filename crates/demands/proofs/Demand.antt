@@ -17,14 +17,14 @@ use Rattle.laws.specs.Lists.{every}
 use Rattle.calendar.specs.Calendar.{dateOf, dayNumber}
 use Rattle.calendar.specs.declared.Date.{Date}
 use Rattle.calendar.proofs.Dates.{number-of-date}
-use Rattle.judge.specs.Agreement.{said}
-use Rattle.judge.specs.Demand.{NoneSaid as NoneKept, IsDay, IsHour, Only, Earliest, Judged}
-use Rattle.judge.specs.Verdicts.{dayVerdict, hourVerdict}
+use Rattle.agreement.specs.Agreement.{said}
+use Rattle.agreement.specs.Demand.{NoneSaid as NoneKept, IsDay, IsHour, Only, Earliest, Judged}
+use Rattle.agreement.specs.Verdicts.{dayVerdict, hourVerdict}
+use Rattle.agreement.specs.declared.Facts.{Facts}
+use Rattle.agreement.specs.declared.Verdict.{Verdict}
+use Rattle.agreement.specs.declared.Verdict.the-variants.{Unsaid as NotSaid, Impossible, Open, Agreed}
 use Rattle.judge.specs.declared.Engine.the-variants.{Skipping}
-use Rattle.judge.specs.declared.Facts.{Facts}
-use Rattle.judge.specs.declared.Verdict.{Verdict}
-use Rattle.judge.specs.declared.Verdict.the-variants.{Unsaid as NotSaid, Impossible, Open, Agreed}
-use Rattle.judge.proofs.Demand.{day-judged, hour-judged}
+use Rattle.agreement.proofs.Demand.{day-judged, hour-judged}
 use Rattle.judge.proofs.Engines.{by-skipping}
 use Rattle.values.specs.Offsets.{offsetNumber, offsetOf}
 use Rattle.values.specs.declared.offsets.Offset.{Offset}

@@ -9,14 +9,14 @@ use native.Mathlib.Nat.{lt-of-not-le}
 use native.Mathlib.Omega.{arith}
 use Rattle.laws.proofs.Cases.{clash}
 use Rattle.kinds.specs.Kinds.{dayKinds}
+use Rattle.agreement.specs.Verdicts.{dayVerdict, hourVerdict}
+use Rattle.agreement.specs.declared.Facts.{Facts}
+use Rattle.agreement.specs.declared.Verdict.{Verdict}
 use Rattle.judge.specs.Engines.{searched}
-use Rattle.judge.specs.Verdicts.{dayVerdict, hourVerdict}
 use Rattle.judge.specs.declared.Engine.{Engine}
 use Rattle.judge.specs.declared.Engine.the-variants.{Skipping, Plain, Within}
-use Rattle.judge.specs.declared.Facts.{Facts}
 use Rattle.judge.specs.declared.Searched.{Searched}
 use Rattle.judge.specs.declared.Searched.the-variants.{Judged, OverBudget}
-use Rattle.judge.specs.declared.Verdict.{Verdict}
 use Rattle.judge.proofs.Engines as judge
 use Rattle.judge.proofs.Engines.{searched-verdict, by-skipping, by-plain}
 use Rattle.strptime.specs.Answers.{showing, refused, naming, examining, overBudget, withDay, withSearched, judged, readingBy, reading}

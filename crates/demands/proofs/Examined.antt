@@ -15,10 +15,10 @@ use Rattle.text.specs.Space.{isSpace, spaces}
 use Rattle.format.specs.Conversions as conversions
 use Rattle.format.specs.Opening as opening
 use Rattle.strftime.specs.Writing as writer
-use Rattle.judge.specs.Agreement as agreement
+use Rattle.agreement.specs.Agreement as agreement
+use Rattle.agreement.specs.Search as search
+use Rattle.agreement.specs.Verdicts as verdicts
 use Rattle.judge.specs.Engines as engines
-use Rattle.judge.specs.Search as search
-use Rattle.judge.specs.Verdicts as verdicts
 use Rattle.matching.specs.Elements as elements
 use Rattle.matching.specs.Steps as reading
 use Rattle.values.specs.Offsets as offsets

@@ -13,13 +13,13 @@ use Rattle.kinds.specs.Kinds.{kinds, month, weekday}
 use Rattle.format.specs.Conversions.{among}
 use Rattle.format.specs.Opening.{Ended, Whole, BadAt, opening, longest}
 use Rattle.format.specs.declared.opening.Side.the-variants.{Reader}
+use Rattle.agreement.specs.Verdicts.{hourVerdict}
+use Rattle.agreement.specs.declared.Verdict.{Verdict}
+use Rattle.agreement.specs.declared.Verdict.the-variants.{Unsaid, Impossible, Open, Agreed}
 use Rattle.judge.specs.Engines.{searched}
-use Rattle.judge.specs.Verdicts.{hourVerdict}
 use Rattle.judge.specs.declared.Engine.{Engine}
 use Rattle.judge.specs.declared.Searched.{Searched}
 use Rattle.judge.specs.declared.Searched.the-variants.{Judged, OverBudget}
-use Rattle.judge.specs.declared.Verdict.{Verdict}
-use Rattle.judge.specs.declared.Verdict.the-variants.{Unsaid, Impossible, Open, Agreed}
 use Rattle.strptime.specs.Answers.{showing, refused, finished, naming, examining, overBudget, done, withHour, withDay, withSearched}
 use Rattle.strptime.specs.Answers.{judged, concluded, readBy, byFormat, unlessLong, readingBy}
 use Rattle.matching.specs.Steps.{unsaid, start, noForms, isRead, readAll}

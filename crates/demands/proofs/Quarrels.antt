@@ -10,9 +10,9 @@ use native.Mathlib.Omega.{arith}
 use lib.ListN.{getD}
 use Rattle.format.specs.Opening.{opening}
 use Rattle.format.specs.declared.opening.Side.the-variants.{Reader}
-use Rattle.judge.specs.Agreement.{said}
+use Rattle.agreement.specs.Agreement.{said}
+use Rattle.agreement.specs.declared.Facts.{Facts}
 use Rattle.judge.specs.declared.Engine.{Engine}
-use Rattle.judge.specs.declared.Facts.{Facts}
 use Rattle.matching.specs.Extents.{nowhere, firstSaid}
 use Rattle.matching.specs.declared.extents.Extent.{Extent}
 use lib.Dec.{lit≤}

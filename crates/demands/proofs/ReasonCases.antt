@@ -13,10 +13,10 @@ use Rattle.text.specs.Naming as naming
 use Rattle.text.specs.Space.{isSpace, spaces}
 use Rattle.format.specs.Conversions as conversions
 use Rattle.format.specs.Opening as opening
-use Rattle.judge.specs.Agreement as agreement
+use Rattle.agreement.specs.Agreement as agreement
+use Rattle.agreement.specs.Search as search
+use Rattle.agreement.specs.Verdicts as verdicts
 use Rattle.judge.specs.Engines as engines
-use Rattle.judge.specs.Search as search
-use Rattle.judge.specs.Verdicts as verdicts
 use Rattle.laws.specs.Bytes.{bytes}
 use Rattle.laws.specs.Lists.{range}
 use Rattle.matching.specs.Elements as elements

@@ -15,13 +15,13 @@ use Rattle.calendar.proofs.Dates.{number-of-date}
 use Rattle.format.specs.Conversions.{among}
 use Rattle.format.specs.Opening.{Whole, opening, closed, opened, longest}
 use Rattle.format.specs.declared.opening.Side.the-variants.{Reader}
-use Rattle.judge.specs.Demand.{IsDay, IsHour}
-use Rattle.judge.specs.Verdicts.{dayVerdict, hourVerdict}
+use Rattle.agreement.specs.Demand.{IsDay, IsHour}
+use Rattle.agreement.specs.Verdicts.{dayVerdict, hourVerdict}
+use Rattle.agreement.specs.declared.Facts.{Facts}
+use Rattle.agreement.specs.declared.Verdict.{Verdict}
+use Rattle.agreement.specs.declared.Verdict.the-variants.{Unsaid, Impossible, Open, Agreed}
 use Rattle.judge.specs.declared.Engine.{Engine}
-use Rattle.judge.specs.declared.Facts.{Facts}
-use Rattle.judge.specs.declared.Verdict.{Verdict}
-use Rattle.judge.specs.declared.Verdict.the-variants.{Unsaid, Impossible, Open, Agreed}
-use Rattle.judge.proofs.Demand.{day-judged, hour-judged}
+use Rattle.agreement.proofs.Demand.{day-judged, hour-judged}
 use Rattle.kinds.specs.Kinds.{dayKinds, hourKinds}
 use Rattle.laws.proofs.Cases.{clash}
 use Rattle.matching.specs.Extents.{nowhere}

@@ -23,13 +23,13 @@ use Rattle.values.specs.declared.Moment.{Moment}
 use Rattle.values.specs.declared.MomentFields.{MomentFields}
 use Rattle.strftime.specs.Writing.{numbered, text, refused, put, lacking, offered, byFormat, forMoment, forFields, writing}
 use Rattle.strftime.specs.declared.Fields.{Fields}
+use Rattle.agreement.specs.declared.Verdict.{Verdict}
+use Rattle.agreement.specs.declared.Verdict.the-variants.{Unsaid as NotSaid, Impossible, Open, Agreed}
 use Rattle.judge.specs.Engines.{searched}
 use Rattle.judge.specs.declared.Engine.{Engine}
 use Rattle.judge.specs.declared.Engine.the-variants.{Within}
 use Rattle.judge.specs.declared.Searched.{Searched}
 use Rattle.judge.specs.declared.Searched.the-variants.{Judged, OverBudget}
-use Rattle.judge.specs.declared.Verdict.{Verdict}
-use Rattle.judge.specs.declared.Verdict.the-variants.{Unsaid as NotSaid, Impossible, Open, Agreed}
 use Rattle.judge.proofs.Engines.{searched-over}
 use Rattle.strptime.specs.Answers as reader
 use Rattle.strptime.specs.Answers.{showing, finished, naming, examining, overBudget, done, withHour, withDay, withSearched}

@@ -8,9 +8,9 @@ use Rattle.laws.proofs.Cases.{clash}
 use Rattle.kinds.specs.Kinds as kinds
 use Rattle.calendar.specs.Calendar.{dateOf}
 use Rattle.calendar.specs.declared.Date.{Date}
-use Rattle.judge.specs.Agreement.{said}
-use Rattle.judge.specs.declared.Verdict.{Verdict}
-use Rattle.judge.specs.declared.Verdict.the-variants.{Unsaid as NotSaid, Impossible, Open, Agreed}
+use Rattle.agreement.specs.Agreement.{said}
+use Rattle.agreement.specs.declared.Verdict.{Verdict}
+use Rattle.agreement.specs.declared.Verdict.the-variants.{Unsaid as NotSaid, Impossible, Open, Agreed}
 use Rattle.values.specs.Offsets.{offsetOf}
 use Rattle.values.specs.declared.offsets.Offset.{Offset}
 use Rattle.strptime.specs.Answers.{showing, refused, finished, saidOf, done, withHour, withDay}

@@ -13,8 +13,8 @@ use lib.Dec.{eqb}
 use lib.ListN.{length, length-set}
 use lib.Seq.{getD-set-same, getD-set-other}
 use Rattle.kinds.specs.Kinds.{kinds, month, weekday}
-use Rattle.judge.specs.Agreement.{said}
-use Rattle.judge.specs.declared.Facts.{Facts}
+use Rattle.agreement.specs.Agreement.{said}
+use Rattle.agreement.specs.declared.Facts.{Facts}
 use Rattle.matching.specs.Elements.{readElement}
 use Rattle.matching.specs.Steps.{goes, stays, noted, noForms, later, latest, met, tell, taken, stepOn, isRead, readAll}
 use Rattle.matching.specs.declared.Forms.{Forms}

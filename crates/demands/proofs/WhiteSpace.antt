@@ -19,10 +19,10 @@ use Rattle.format.specs.Opening.{Whole, opening}
 use Rattle.format.specs.declared.opening.Side.the-variants.{Writer}
 use Rattle.strftime.specs.Writing.{element, text, put, isSeconds, offered, byFormat, forMoment, forFields, writing}
 use Rattle.values.specs.Values as values
-use Rattle.judge.specs.Agreement as agreement
+use Rattle.agreement.specs.Agreement as agreement
+use Rattle.agreement.specs.Search as search
+use Rattle.agreement.specs.Verdicts as verdicts
 use Rattle.judge.specs.Engines as engines
-use Rattle.judge.specs.Search as search
-use Rattle.judge.specs.Verdicts as verdicts
 use Rattle.matching.specs.Elements as elements
 use Rattle.matching.specs.Steps as reading
 use Rattle.strptime.specs.Answers as answers

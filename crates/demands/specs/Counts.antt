@@ -7,7 +7,7 @@ use mathlib.Core.Logic.{_↔_}
 use mathlib.Core.Path.{_≡_}
 use Rattle.kinds.specs.Kinds.{dayKinds}
 use Rattle.calendar.specs.Calendar.{sum, days}
-use Rattle.judge.specs.Demand.{IsDay, Earliest}
+use Rattle.agreement.specs.Demand.{IsDay, Earliest}
 use Rattle.judge.specs.declared.Engine.the-variants.{Skipping}
 use Rattle.strptime.specs.Answers.{readingBy}
 use Rattle.demands.specs.Demand.{SomeSaid, DayAgrees}

@@ -9,7 +9,7 @@ use Rattle.kinds.specs.Kinds.{dayKinds, hourKinds, month, weekday, minute, seco
 use Rattle.calendar.specs.Calendar.{dateOf}
 use Rattle.format.specs.Opening.{opening}
 use Rattle.format.specs.declared.opening.Side.the-variants.{Reader}
-use Rattle.judge.specs.Demand.{IsDay, IsHour, Only, Earliest}
+use Rattle.agreement.specs.Demand.{IsDay, IsHour, Only, Earliest}
 use Rattle.strptime.specs.Answers.{reading}
 use Rattle.strptime.specs.declared.Day.{Day}
 use Rattle.strptime.specs.declared.Day.the-variants.{NoDate, On}

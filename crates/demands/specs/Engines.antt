@@ -5,12 +5,12 @@ use mathlib.Core.List.{List}
 use mathlib.Core.Logic.{_↔_}
 use mathlib.Core.Path.{_≡_}
 use Rattle.kinds.specs.Kinds.{dayKinds}
+use Rattle.agreement.specs.declared.Facts.{Facts}
+use Rattle.agreement.specs.declared.Verdict.{Verdict}
 use Rattle.judge.specs.Engines.{searched}
 use Rattle.judge.specs.declared.Engine.{Engine}
 use Rattle.judge.specs.declared.Engine.the-variants.{Skipping, Plain, Within}
-use Rattle.judge.specs.declared.Facts.{Facts}
 use Rattle.judge.specs.declared.Searched.the-variants.{Judged}
-use Rattle.judge.specs.declared.Verdict.{Verdict}
 use Rattle.values.specs.declared.offsets.Offset.the-variants.{Unsaid as NoOffset}
 use Rattle.strptime.specs.Answers.{readingBy, reading}
 use Rattle.matching.specs.Steps.{noForms}

@@ -10,7 +10,7 @@ use lib.ListN.{length, getD}
 use Rattle.calendar.specs.declared.Date.{Date}
 use Rattle.format.specs.Opening.{Whole, isByte, opening, longest}
 use Rattle.format.specs.declared.opening.Side.the-variants.{Reader}
-use Rattle.judge.specs.Demand.{IsDay, IsHour}
+use Rattle.agreement.specs.Demand.{IsDay, IsHour}
 use Rattle.judge.specs.declared.Engine.{Engine}
 use Rattle.judge.specs.declared.Engine.the-variants.{Skipping}
 use Rattle.kinds.specs.Kinds.{dayKinds, hourKinds}

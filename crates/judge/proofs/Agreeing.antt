@@ -12,9 +12,9 @@ use Rattle.calendar.specs.declared.Date.{Date}
 use Rattle.kinds.specs.Kinds as kinds
 use Rattle.kinds.specs.Kinds.{dayKinds}
 use Rattle.values.specs.Values.{dateValue, dateValues}
-use Rattle.judge.specs.Agreement.{said, agrees, dateAgrees, dayAgrees}
+use Rattle.agreement.specs.Agreement.{said, agrees, dateAgrees, dayAgrees}
+use Rattle.agreement.specs.declared.Facts.{Facts}
 use Rattle.judge.specs.Private.{monthStart}
-use Rattle.judge.specs.declared.Facts.{Facts}
 use Rattle.calendar.proofs.Dates.{Valid, Found, Parts, parts, number-of-date, within-year, number-within, date-of-number}
 use Rattle.calendar.proofs.Ranges.{thursday-within, iso-year-range}
 use Rattle.calendar.proofs.Sum.{sum-mono}

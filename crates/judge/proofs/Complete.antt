@@ -8,17 +8,17 @@ use borrow.Author.Tests.{eq-eqb}
 use lib.Dec.{eqb}
 use Rattle.calendar.specs.Calendar.{date, dateFault, dayNumber, days, dateOf}
 use Rattle.kinds.specs.Kinds as kinds
-use Rattle.judge.specs.Agreement.{said, dateAgrees, dayAgrees}
+use Rattle.agreement.specs.Agreement.{said, dateAgrees, dayAgrees}
+use Rattle.agreement.specs.Search.{firstTwo}
+use Rattle.agreement.specs.Verdicts.{daysFound}
+use Rattle.agreement.specs.declared.Facts.{Facts}
+use Rattle.agreement.specs.declared.Found.{Found}
+use Rattle.agreement.specs.declared.Found.the-variants.{Nothing, One}
 use Rattle.judge.specs.Private.{dateSaid}
-use Rattle.judge.specs.Search.{firstTwo}
-use Rattle.judge.specs.Verdicts.{daysFound}
-use Rattle.judge.specs.declared.Facts.{Facts}
-use Rattle.judge.specs.declared.Found.{Found}
-use Rattle.judge.specs.declared.Found.the-variants.{Nothing, One}
 use Rattle.calendar.proofs.Dates.{Valid, no-fault-valid, valid-no-fault, number-within, date-of-number, number-of-date}
+use Rattle.agreement.proofs.Tells.{Tells, none, single, tells, tells-same}
 use Rattle.judge.proofs.Agreeing.{agreeing}
 use Rattle.judge.proofs.SpanLaws.{is-said}
-use Rattle.judge.proofs.Tells.{Tells, none, single, tells, tells-same}
 
 -- year, month and day were said
 pub record Whole (f : Facts) : Type 0 where

@@ -9,11 +9,11 @@ use Rattle.calendar.specs.declared.Date.{Date}
 use Rattle.calendar.proofs.Dates.{Valid, date-of-number}
 use Rattle.calendar.proofs.Months.{year-months}
 use Rattle.calendar.proofs.Sum.{sum-add, sum-periods}
-use Rattle.judge.specs.Agreement.{said, agrees, allAgree}
+use Rattle.agreement.specs.Agreement.{said, agrees, allAgree}
+use Rattle.agreement.specs.declared.Facts.{Facts}
 use Rattle.judge.specs.Engines.{monthKinds, monthAgrees, monthDays}
 use Rattle.judge.specs.Private.{sumWhere, saidDays, yearAgrees}
 use Rattle.judge.specs.Private.{wholeYears, inYear}
-use Rattle.judge.specs.declared.Facts.{Facts}
 use Rattle.kinds.specs.Kinds as kinds
 use Rattle.laws.specs.Lists.{every, range}
 use Rattle.values.specs.Values.{dateValue, dateValues}

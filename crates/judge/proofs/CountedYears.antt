@@ -8,9 +8,9 @@ use borrow.Author.Tests.{leb-true}
 use lib.Dec.{leb}
 use Rattle.calendar.specs.Calendar.{within, lastYear}
 use Rattle.calendar.proofs.Sum.{sum-same}
-use Rattle.judge.specs.Agreement.{said, agrees}
+use Rattle.agreement.specs.Agreement.{said, agrees}
+use Rattle.agreement.specs.declared.Facts.{Facts}
 use Rattle.judge.specs.Private.{sumWhere, saidDays, endingDays, saidYears, yearAgrees, wholeYears}
-use Rattle.judge.specs.declared.Facts.{Facts}
 use Rattle.judge.specs.declared.spans.Span.{Span}
 use Rattle.kinds.specs.Kinds as kinds
 use Rattle.judge.proofs.Counts.{where-within, within-both}

@@ -15,9 +15,9 @@ use Rattle.calendar.specs.Calendar.{sum, leap, yearLength, monthLengths, monthL
 use Rattle.calendar.proofs.Months.{no-month, year-months, month-most, year-length-most}
 use Rattle.calendar.proofs.Sum.{sum-same}
 use Rattle.calendar.proofs.Years.{grows, leap-years}
-use Rattle.judge.specs.Agreement.{said, agrees}
+use Rattle.agreement.specs.Agreement.{said, agrees}
+use Rattle.agreement.specs.declared.Facts.{Facts}
 use Rattle.judge.specs.Private.{sumWhere, countWhere, saidDays, endingYears, leapEndingYears, endingDays, inYear}
-use Rattle.judge.specs.declared.Facts.{Facts}
 use Rattle.kinds.specs.Kinds as kinds
 
 -- ---- sums where a test passes

@@ -13,21 +13,21 @@ use Rattle.calendar.specs.declared.Date.{Date}
 use Rattle.calendar.proofs.Cycle.{cycle-days, day-of-year-again, day-number-again, count-again, date-again, date-year-low, date-number-low}
 use Rattle.calendar.proofs.Cycle.{iso-year-again, iso-week-again}
 use Rattle.calendar.proofs.Years.{days-is}
-use Rattle.judge.specs.Agreement.{said, agrees, allAgree, dateAgrees, dayAgrees}
+use Rattle.agreement.specs.Agreement.{said, agrees, allAgree, dateAgrees, dayAgrees}
+use Rattle.agreement.specs.Search.{firstTwo}
+use Rattle.agreement.specs.Verdicts.{daysFound}
+use Rattle.agreement.specs.declared.Facts.{Facts}
+use Rattle.agreement.specs.declared.Found.{Found}
+use Rattle.agreement.specs.declared.Found.the-variants.{Nothing, One, Two}
 use Rattle.judge.specs.Private.{named, cycle, firstOf, repeatedFound}
-use Rattle.judge.specs.Search.{firstTwo}
-use Rattle.judge.specs.Verdicts.{daysFound}
-use Rattle.judge.specs.declared.Facts.{Facts}
-use Rattle.judge.specs.declared.Found.{Found}
-use Rattle.judge.specs.declared.Found.the-variants.{Nothing, One, Two}
 use Rattle.kinds.specs.Kinds as kinds
 use Rattle.kinds.specs.Kinds.{dayKinds}
 use Rattle.laws.specs.Lists.{every}
 use Rattle.laws.proofs.Lists.{every-member}
 use Rattle.values.specs.Values.{dateValue, dateValues}
+use Rattle.agreement.proofs.Every.{every-alike, map-member}
+use Rattle.agreement.proofs.Tells.{Tells, none, single, double, tells, tells-same}
 use Rattle.judge.proofs.DayValues.{unsaid-agree}
-use Rattle.judge.proofs.Every.{every-alike, map-member}
-use Rattle.judge.proofs.Tells.{Tells, none, single, double, tells, tells-same}
 
 -- ---- the values of a day
 

@@ -11,12 +11,12 @@ use Rattle.calendar.specs.Calendar.{daysBefore, dayOfYear, dayNumber, sundayWee
 use Rattle.calendar.specs.declared.Date.{Date}
 use Rattle.calendar.proofs.Weeks.{count-is}
 use Rattle.values.specs.Values.{dayNumberOf, dateValue, dateValues}
-use Rattle.judge.specs.Agreement.{said, noneSaid, agrees, allAgree}
-use Rattle.judge.specs.declared.Facts.{Facts}
+use Rattle.agreement.specs.Agreement.{said, noneSaid, agrees, allAgree}
+use Rattle.agreement.specs.declared.Facts.{Facts}
 use Rattle.laws.specs.Lists.{every}
 use Rattle.laws.proofs.Lists.{every-member}
 use Rattle.kinds.specs.Kinds as kinds
-use Rattle.judge.proofs.Every.{member-every}
+use Rattle.agreement.proofs.Every.{member-every}
 
 module _ (t : Date) {number before : ℕ} (e : number ≡ dayNumberOf t) (g : before ≡ daysBefore (t .year)) where
   pub before-number : before + dateValue kinds.dayOfYear t ≡ number

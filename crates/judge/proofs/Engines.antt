@@ -9,25 +9,25 @@ use borrow.Author.Tests.{le-leb, lt-leb, eq-eqb}
 use lib.Dec.{eqb, leb}
 use Rattle.laws.proofs.Cases.{either, clash}
 use Rattle.calendar.specs.Calendar.{sum, days, dateOf}
-use Rattle.judge.specs.Agreement.{said, dayBorne}
-use Rattle.judge.specs.Demand.{NoDayFact, AllAgree}
+use Rattle.agreement.specs.Agreement.{said, dayBorne}
+use Rattle.agreement.specs.Demand.{NoDayFact, AllAgree}
+use Rattle.agreement.specs.Search.{through}
+use Rattle.agreement.specs.Verdicts.{verdictOf, daysFound, dayVerdict}
+use Rattle.agreement.specs.declared.Facts.{Facts}
+use Rattle.agreement.specs.declared.Found.{Found}
+use Rattle.agreement.specs.declared.Found.the-variants.{Nothing, One, Two}
+use Rattle.agreement.specs.declared.Verdict.{Verdict}
+use Rattle.agreement.specs.declared.Verdict.the-variants.{Unsaid, Open}
 use Rattle.judge.specs.Engines.{lastExamined, plainCount, monthKinds, monthAgrees, monthDays, skippingCount, counted}
 use Rattle.judge.specs.Engines.{plainSearched, searched}
-use Rattle.judge.specs.Search.{through}
-use Rattle.judge.specs.Verdicts.{verdictOf, daysFound, dayVerdict}
 use Rattle.judge.specs.declared.Engine.{Engine}
 use Rattle.judge.specs.declared.Engine.the-variants.{Skipping, Plain, Within}
-use Rattle.judge.specs.declared.Facts.{Facts}
-use Rattle.judge.specs.declared.Found.{Found}
-use Rattle.judge.specs.declared.Found.the-variants.{Nothing, One, Two}
 use Rattle.judge.specs.declared.Searched.{Searched}
 use Rattle.judge.specs.declared.Searched.the-variants.{Judged, OverBudget}
-use Rattle.judge.specs.declared.Verdict.{Verdict}
-use Rattle.judge.specs.declared.Verdict.the-variants.{Unsaid, Open}
 use Rattle.kinds.specs.Kinds.{dayKinds}
 use Rattle.values.specs.Values.{dateValue}
-use Rattle.judge.proofs.Demand.{day-judged, all-agree, agree-all}
-use Rattle.judge.proofs.Every.{member-every}
+use Rattle.agreement.proofs.Demand.{day-judged, all-agree, agree-all}
+use Rattle.agreement.proofs.Every.{member-every}
 
 -- every engine's verdict is that of the definition
 pub searched-verdict : (e : Engine) (f : Facts) {v : Verdict} {n : ℕ} → searched e f ≡ Judged v n → v ≡ dayVerdict f

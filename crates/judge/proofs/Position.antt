@@ -5,14 +5,14 @@ use mathlib.Core.Bool.{Bool, true, false, cond}
 use mathlib.Core.Path.{_≡_, refl}
 use native.Mathlib.Omega.{arith}
 use Rattle.calendar.specs.Calendar.{sum, monthLength, daysBefore, dayOfYear, dayNumber, days}
-use Rattle.judge.specs.Search.{hit, firstTwo}
-use Rattle.judge.specs.declared.Found.{Found}
-use Rattle.judge.specs.declared.Found.the-variants.{Nothing}
+use Rattle.agreement.specs.Search.{hit, firstTwo}
+use Rattle.agreement.specs.declared.Found.{Found}
+use Rattle.agreement.specs.declared.Found.the-variants.{Nothing}
 use Rattle.calendar.proofs.Dates.{Valid, number-within}
 use Rattle.calendar.proofs.Months.{year-months}
 use Rattle.calendar.proofs.Sum.{sum-last}
 use Rattle.calendar.proofs.Years.{days-before-next}
-use Rattle.judge.proofs.SoFar.{SoFar, so-far-none, so-far-next, so-far-end}
+use Rattle.agreement.proofs.SoFar.{SoFar, so-far-none, so-far-next, so-far-end}
 
 -- at the start of a year
 pub record AtYear (p : ℕ → Bool) (year number : ℕ) (found : Found) : Type 0 where

@@ -9,12 +9,12 @@ use native.Mathlib.Decide.{decLe}
 use native.Mathlib.Nat.{eq-or-lt-of-le}
 use native.Mathlib.Omega.{arith}
 use Rattle.calendar.specs.Calendar.{sum, yearLength, monthLength, daysBefore, dayOfYear, dayNumber, days, dateOf, isoYear, lastYear}
-use Rattle.judge.specs.Agreement.{dayAgrees}
+use Rattle.agreement.specs.Agreement.{dayAgrees}
+use Rattle.agreement.specs.Search.{hit, firstTwo}
+use Rattle.agreement.specs.declared.Facts.{Facts}
+use Rattle.agreement.specs.declared.Found.{Found}
+use Rattle.agreement.specs.declared.Found.the-variants.{Nothing}
 use Rattle.judge.specs.Private.{yearSpan, yearStep, firstYear, monthSpan, yearDays, monthStart, monthDaySpan}
-use Rattle.judge.specs.Search.{hit, firstTwo}
-use Rattle.judge.specs.declared.Facts.{Facts}
-use Rattle.judge.specs.declared.Found.{Found}
-use Rattle.judge.specs.declared.Found.the-variants.{Nothing}
 use Rattle.judge.specs.declared.spans.Span.{Span}
 use Rattle.calendar.proofs.Dates.{Valid}
 use Rattle.calendar.proofs.Months.{month-most, year-months, year-length-most}

@@ -9,10 +9,10 @@ use native.Mathlib.Omega.{arith}
 use borrow.Author.Tests.{eq-eqb, ne-eqb, eqb-true, le-leb}
 use lib.Dec.{eqb}
 use Rattle.kinds.specs.Kinds as kinds
-use Rattle.judge.specs.Agreement.{said, agrees}
+use Rattle.agreement.specs.Agreement.{said, agrees}
+use Rattle.agreement.specs.declared.Facts.{Facts}
 use Rattle.judge.specs.Private.{narrowed, saidYears, yearSpan, yearStep, firstYear, isoBack, isoCan, monthSpan, yearDays}
 use Rattle.judge.specs.Private.{monthDaySpan}
-use Rattle.judge.specs.declared.Facts.{Facts}
 use Rattle.judge.specs.declared.spans.Span.{Span}
 use Rattle.laws.proofs.Cases.{picked}
 

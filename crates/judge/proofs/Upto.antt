@@ -5,10 +5,10 @@ use mathlib.Core.Bool.{Bool, true, false}
 use mathlib.Core.Path.{_≡_, refl}
 use native.Mathlib.Nat.{add-zero}
 use native.Mathlib.Omega.{arith}
-use Rattle.judge.specs.Search.{hit, isTwo, firstTwo}
-use Rattle.judge.specs.declared.Found.{Found}
-use Rattle.judge.specs.declared.Found.the-variants.{Nothing}
-use Rattle.judge.proofs.SoFar.{SoFar, so-far-none, so-far-hit, so-far-miss, so-far-end, so-far-two}
+use Rattle.agreement.specs.Search.{hit, isTwo, firstTwo}
+use Rattle.agreement.specs.declared.Found.{Found}
+use Rattle.agreement.specs.declared.Found.the-variants.{Nothing}
+use Rattle.agreement.proofs.SoFar.{SoFar, so-far-none, so-far-hit, so-far-miss, so-far-end, so-far-two}
 
 module _ (p : ℕ → Bool) (n : ℕ) where
   -- no number that was looked at is m or more, and every one from m on that passes is still to come

@@ -5,12 +5,12 @@ use mathlib.Core.Bool.{Bool, cond}
 use mathlib.Core.List.{List, [], _∷_}
 use lib.Dec.{leb}
 use Rattle.calendar.specs.Calendar.{sum, days, dateOf}
-use Rattle.judge.specs.Agreement.{dayBorne, allAgree}
-use Rattle.judge.specs.Search.{through}
-use Rattle.judge.specs.Verdicts.{daysFound, dayVerdict}
+use Rattle.agreement.specs.Agreement.{dayBorne, allAgree}
+use Rattle.agreement.specs.Search.{through}
+use Rattle.agreement.specs.Verdicts.{daysFound, dayVerdict}
+use Rattle.agreement.specs.declared.Facts.{Facts}
 use Rattle.judge.specs.declared.Engine.{Engine}
 use Rattle.judge.specs.declared.Engine.the-variants.{Skipping, Plain, Within}
-use Rattle.judge.specs.declared.Facts.{Facts}
 use Rattle.judge.specs.declared.Searched.{Searched}
 use Rattle.judge.specs.declared.Searched.the-variants.{Judged, OverBudget}
 use Rattle.kinds.specs.Kinds as kinds

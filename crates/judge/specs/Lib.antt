@@ -1,7 +1,3 @@
--- What it means to judge facts: agreement, the first two that agree, and what a verdict tells.
-pub mod Agreement
-pub mod Search
-pub mod Verdicts
+-- What the engines that look for the day give, and what they work with.
 pub mod Engines
-pub mod Demand
 pub mod Private

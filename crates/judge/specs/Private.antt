@@ -5,12 +5,12 @@ use mathlib.Core.Bool.{Bool, true, cond, not, _&&_}
 use mathlib.Core.List.{List, [], _∷_}
 use lib.Dec.{eqb, leb}
 use Rattle.calendar.specs.Calendar.{sum, leap, yearLength, monthLength}
-use Rattle.judge.specs.Agreement.{said, noneSaid, agrees}
+use Rattle.agreement.specs.Agreement.{said, noneSaid, agrees}
+use Rattle.agreement.specs.Verdicts.{verdictOf, daysFound}
+use Rattle.agreement.specs.declared.Facts.{Facts}
+use Rattle.agreement.specs.declared.Found.{Found}
+use Rattle.agreement.specs.declared.Found.the-variants.{Nothing, One, Two}
 use Rattle.judge.specs.Engines.{plainCount, skippingCount}
-use Rattle.judge.specs.Verdicts.{verdictOf, daysFound}
-use Rattle.judge.specs.declared.Facts.{Facts}
-use Rattle.judge.specs.declared.Found.{Found}
-use Rattle.judge.specs.declared.Found.the-variants.{Nothing, One, Two}
 use Rattle.judge.specs.declared.Searched.{Searched}
 use Rattle.judge.specs.declared.Searched.the-variants.{Judged, OverBudget}
 use Rattle.judge.specs.declared.plain.Scanned.{Scanned}

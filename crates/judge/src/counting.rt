@@ -1,10 +1,10 @@
 // How many days the engine that skips examines: those of the months whose year and month agree, without a walk over them.
-use crate::Facts;
-use crate::Found;
-use crate::agreement::date_kinds_agree;
 use crate::spans::earlier;
 use crate::spans::said_of;
 use crate::spans::said_years;
+use crate::testing::date_kinds_agree;
+use agreement::Facts;
+use agreement::Found;
 use calendar::Date;
 use calendar::FromNumber;
 use calendar::month_length;
@@ -12,9 +12,9 @@ use calendar::year_length;
 ghost use mathlib.Core.Path.{_≡_};
 ghost use Prim.Native.Nat.{_≤_, _<_};
 ghost use Rattle.calendar.specs.Calendar.{lastYear, dateFault, dayNumber, days};
+ghost use Rattle.agreement.specs.Search.{through};
 ghost use Rattle.judge.specs.Engines.{monthDays};
 ghost use Rattle.judge.specs.Private.{saidDays, endingYears, leapEndingYears, endingDays, wholeYears, inYear};
-ghost use Rattle.judge.specs.Search.{through};
 
 // ---- The years
 

@@ -1,27 +1,17 @@
 // The verdicts on the day and on the hour.
 use crate::Engine;
-use crate::Facts;
-use crate::Found;
 use crate::Searched;
-use crate::Verdict;
-use crate::agreement::any_said;
 use crate::plain::judge_plainly;
-use crate::search::search_hours;
 use crate::skipping::judge_skipping;
+use crate::testing::any_said;
+use agreement::Facts;
+use agreement::Verdict;
+use agreement::search_hours;
+use agreement::verdict_of;
 use calendar::Date;
 ghost use mathlib.Core.Path.{_≡_};
+ghost use Rattle.agreement.specs.Verdicts.{hourVerdict};
 ghost use Rattle.judge.specs.Engines.{searched};
-ghost use Rattle.judge.specs.Verdicts.{verdictOf, hourVerdict};
-
-pub(crate) fn verdict_of(found: Found) -> Verdict
-    ensures { λ r. ⌜ r ≡ verdictOf found ⌝ }
-{
-    match found {
-        Found::Nothing => Verdict::Impossible,
-        Found::One(only) => Verdict::Agreed(only),
-        Found::Two { first, second } => Verdict::Open { first, second },
-    }
-}
 
 // Unsaid, and no day examined, where no fact bears on the day; else by the days that agree, as day numbers.
 pub fn judge_day(engine: Engine, facts: Facts) -> Searched

@@ -1,13 +1,13 @@
 // The plain engine: each day of the calendar is examined whole, in order, up to the second that agrees.
-use crate::Facts;
-use crate::Found;
 use crate::Searched;
-use crate::agreement::any_said;
-use crate::judging::verdict_of;
-use crate::search::date_at;
-use crate::search::day_agrees;
-use crate::search::hit;
-use crate::search::is_two;
+use crate::testing::any_said;
+use crate::testing::date_at;
+use crate::testing::day_agrees;
+use agreement::Facts;
+use agreement::Found;
+use agreement::hit;
+use agreement::is_two;
+use agreement::verdict_of;
 use calendar::Date;
 use calendar::month_length;
 ghost use mathlib.Core.Path.{_≡_};

@@ -1,15 +1,6 @@
 // The engine that skips: only where a day can agree are days looked at, and years only until all repeats.
-use crate::Facts;
-use crate::Found;
 use crate::Searched;
-use crate::agreement::any_said;
-use crate::agreement::date_kinds_agree;
 use crate::counting::month_days_through;
-use crate::judging::verdict_of;
-use crate::search::date_at;
-use crate::search::day_agrees;
-use crate::search::hit;
-use crate::search::is_two;
 use crate::spans::first_year;
 use crate::spans::month_days;
 use crate::spans::month_span;
@@ -18,6 +9,15 @@ use crate::spans::said_of;
 use crate::spans::year_days;
 use crate::spans::year_span;
 use crate::spans::year_step;
+use crate::testing::any_said;
+use crate::testing::date_at;
+use crate::testing::date_kinds_agree;
+use crate::testing::day_agrees;
+use agreement::Facts;
+use agreement::Found;
+use agreement::hit;
+use agreement::is_two;
+use agreement::verdict_of;
 use calendar::Date;
 use calendar::FromFields;
 use calendar::month_length;
@@ -26,9 +26,9 @@ ghost use mathlib.Core.Bool.{true};
 ghost use mathlib.Core.Path.{_≡_};
 ghost use Prim.Native.Nat.{_+_, _≤_};
 ghost use Rattle.calendar.specs.Calendar.{sum, yearLength, lastYear};
-ghost use Rattle.judge.specs.Agreement.{dayAgrees};
-ghost use Rattle.judge.specs.Search.{firstTwo};
-ghost use Rattle.judge.specs.Verdicts.{daysFound};
+ghost use Rattle.agreement.specs.Agreement.{dayAgrees};
+ghost use Rattle.agreement.specs.Search.{firstTwo};
+ghost use Rattle.agreement.specs.Verdicts.{daysFound};
 ghost use Rattle.judge.specs.Private.{dateSaid, named, cycle, firstOf, repeatedFound, skippingJudged};
 
 // All but the year's number repeats after so many years, which have so many days: whole weeks.

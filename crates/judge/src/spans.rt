@@ -1,10 +1,10 @@
 // Where a day can agree: what facts leave of the years, of a year's months, of its days, and of a month's days.
-use crate::Facts;
-use crate::search::date_at;
+use crate::testing::date_at;
+use agreement::Facts;
 ghost use mathlib.Core.Path.{_≡_};
 ghost use Prim.Native.Nat.{_+_, _-_, _≤_, _<_, min, max};
 ghost use Rattle.kinds.specs.Kinds.{kinds};
-ghost use Rattle.judge.specs.Agreement.{said};
+ghost use Rattle.agreement.specs.Agreement.{said};
 ghost use Rattle.judge.specs.Private.{narrowed, saidYears, yearSpan, yearStep, firstYear, isoCan, monthSpan};
 ghost use Rattle.judge.specs.Private.{yearDays, monthStart, monthDaySpan};
 

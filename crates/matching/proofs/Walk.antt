@@ -13,7 +13,7 @@ use lib.ListN.{length, getD, drop, set, drop-of-length-le}
 use lib.Seq.{drop-cons}
 use types.Run.{OneOf, miss}
 use Rattle.laws.proofs.Cases.{picked}
-use Rattle.judge.specs.Agreement.{said}
+use Rattle.agreement.specs.Agreement.{said}
 use Rattle.matching.specs.Elements.{readElement}
 use Rattle.matching.specs.Steps.{here, goes, stays, noted, met, tell, taken, stepOn, isRead, readAll}
 use Rattle.matching.specs.declared.Forms.{Forms}

@@ -5,8 +5,8 @@ use mathlib.Core.List.{List, [], _∷_}
 use lib.Dec.{eqb}
 use lib.ListN.{set, replicate}
 use Rattle.kinds.specs.Kinds.{kinds, weekday, month}
-use Rattle.judge.specs.Agreement.{said}
-use Rattle.judge.specs.declared.Facts.{Facts}
+use Rattle.agreement.specs.Agreement.{said}
+use Rattle.agreement.specs.declared.Facts.{Facts}
 use Rattle.matching.specs.Elements.{readElement}
 use Rattle.matching.specs.declared.Forms.{Forms}
 use Rattle.matching.specs.declared.Outcome.{Outcome}

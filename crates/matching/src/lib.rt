@@ -1,5 +1,5 @@
 // Matching a text to the elements of a format (RULES 6): what each element reads, and the facts of all of them (RULES 7).
-use judge::Facts;
+use agreement::Facts;
 use text::NameForm;
 
 mod elements;

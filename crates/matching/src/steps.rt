@@ -5,7 +5,7 @@ use crate::State;
 use crate::Stepped;
 use crate::elements::Item;
 use crate::elements::read_element;
-use judge::Facts;
+use agreement::Facts;
 use text::NameForm;
 ghost use mathlib.Core.Bool.{not, _||_};
 ghost use mathlib.Core.Path.{_≡_};

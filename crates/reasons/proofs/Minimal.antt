@@ -11,14 +11,14 @@ use native.Mathlib.Omega.{arith}
 use lib.ListN.{length, List·getD-eq-default}
 use lib.Seq.{getD-set-same, getD-set-other, set-out}
 use Rattle.calendar.specs.Calendar.{days, dateOf}
-use Rattle.judge.specs.Agreement.{said, dateAgrees, dayAgrees, hourAgrees}
-use Rattle.judge.specs.Demand.{IsDay, IsHour, AllAgree}
-use Rattle.judge.specs.Verdicts.{daysFound}
-use Rattle.judge.specs.declared.Facts.{Facts}
-use Rattle.judge.specs.declared.Found.{Found}
-use Rattle.judge.specs.declared.Found.the-variants.{Nothing, One, Two}
-use Rattle.judge.proofs.Demand.{all-agree, agree-all}
-use Rattle.judge.proofs.Tells.{Tells, none, single, double, tells}
+use Rattle.agreement.specs.Agreement.{said, dateAgrees, dayAgrees, hourAgrees}
+use Rattle.agreement.specs.Demand.{IsDay, IsHour, AllAgree}
+use Rattle.agreement.specs.Verdicts.{daysFound}
+use Rattle.agreement.specs.declared.Facts.{Facts}
+use Rattle.agreement.specs.declared.Found.{Found}
+use Rattle.agreement.specs.declared.Found.the-variants.{Nothing, One, Two}
+use Rattle.agreement.proofs.Demand.{all-agree, agree-all}
+use Rattle.agreement.proofs.Tells.{Tells, none, single, double, tells}
 use Rattle.kinds.specs.Kinds.{dayKinds, hourKinds}
 use Rattle.laws.specs.Lists.{range}
 use Rattle.laws.proofs.Cases.{either}

@@ -9,7 +9,7 @@ use native.Mathlib.Nat.{lt-of-not-le, add-zero, add-suc, suc-add}
 use native.Mathlib.Omega.{arith}
 use borrow.Author.Tests.{eq-eqb, ne-eqb}
 use lib.ListN.{length, getD, List·getD-eq-default}
-use Rattle.judge.specs.Agreement.{said}
+use Rattle.agreement.specs.Agreement.{said}
 use Rattle.kinds.specs.Kinds.{kinds}
 use Rattle.laws.specs.Lists.{range}
 use Rattle.matching.specs.Extents.{nowhere, firstSaid}

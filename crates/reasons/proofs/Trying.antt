@@ -6,8 +6,8 @@ use mathlib.Core.Path.{_≡_, refl, ap}
 use native.Mathlib.Numerals.{add-one}
 use native.Mathlib.Omega.{arith}
 use lib.Seq.{set-getD}
-use Rattle.judge.specs.Agreement.{said}
-use Rattle.judge.specs.declared.Facts.{Facts}
+use Rattle.agreement.specs.Agreement.{said}
+use Rattle.agreement.specs.declared.Facts.{Facts}
 use Rattle.laws.specs.Lists.{range}
 use Rattle.reasons.specs.Quarrels.{noneAgrees, without, tried, allTried}
 use Rattle.reasons.specs.declared.About.{About}

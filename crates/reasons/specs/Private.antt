@@ -2,7 +2,7 @@
 use Prim.Native.Nat.{ℕ}
 use mathlib.Core.Bool.{cond}
 use mathlib.Core.List.{List, map}
-use Rattle.judge.specs.declared.Facts.{Facts}
+use Rattle.agreement.specs.declared.Facts.{Facts}
 use Rattle.kinds.specs.Kinds as kinds
 use Rattle.laws.specs.Lists.{range}
 use Rattle.matching.specs.Extents.{nowhere, firstSaid}

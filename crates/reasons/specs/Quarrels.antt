@@ -5,12 +5,12 @@ use mathlib.Core.List.{List, [], _∷_}
 use lib.Dec.{eqb}
 use lib.ListN.{set}
 use Rattle.format.specs.Conversions.{among}
-use Rattle.judge.specs.Agreement.{said, hourAgrees}
-use Rattle.judge.specs.Search.{firstTwo}
-use Rattle.judge.specs.Verdicts.{daysFound}
-use Rattle.judge.specs.declared.Facts.{Facts}
-use Rattle.judge.specs.declared.Found.{Found}
-use Rattle.judge.specs.declared.Found.the-variants.{Nothing, One, Two}
+use Rattle.agreement.specs.Agreement.{said, hourAgrees}
+use Rattle.agreement.specs.Search.{firstTwo}
+use Rattle.agreement.specs.Verdicts.{daysFound}
+use Rattle.agreement.specs.declared.Facts.{Facts}
+use Rattle.agreement.specs.declared.Found.{Found}
+use Rattle.agreement.specs.declared.Found.the-variants.{Nothing, One, Two}
 use Rattle.kinds.specs.Kinds.{dayKinds, hourKinds}
 use Rattle.reasons.specs.declared.About.{About}
 use Rattle.reasons.specs.declared.About.the-variants.{Day, Hour}

@@ -8,8 +8,8 @@ use Rattle.format.specs.Opening.{opening, opened}
 use Rattle.format.specs.declared.opening.Opened.{Opened}
 use Rattle.format.specs.declared.opening.Opened.the-variants.{Done, TooLong, Bad}
 use Rattle.format.specs.declared.opening.Side.the-variants.{Reader}
+use Rattle.agreement.specs.declared.Facts.{Facts}
 use Rattle.judge.specs.declared.Engine.{Engine}
-use Rattle.judge.specs.declared.Facts.{Facts}
 use Rattle.kinds.specs.Kinds.{kinds}
 use Rattle.laws.specs.Lists.{range}
 use Rattle.matching.specs.Extents.{nowhere, firstSaid}

@@ -1,9 +1,9 @@
 // Which facts quarrel, where no day or no hour agrees with all of them.
 use crate::About;
-use judge::Facts;
-use judge::Found;
+use agreement::Facts;
+use agreement::Found;
+use agreement::search_hours;
 use judge::search_days;
-use judge::search_hours;
 ghost use mathlib.Core.Path.{_≡_};
 ghost use Prim.Native.Nat.{_<_};
 ghost use Rattle.kinds.specs.Kinds.{kinds};

@@ -5,10 +5,10 @@ use mathlib.Core.Path.{_≡_, refl}
 use Rattle.calendar.specs.Calendar as calendar
 use Rattle.format.specs.Conversions as conversions
 use Rattle.format.specs.Opening as opening
-use Rattle.judge.specs.Agreement as agreement
+use Rattle.agreement.specs.Agreement as agreement
+use Rattle.agreement.specs.Search as search
+use Rattle.agreement.specs.Verdicts as verdicts
 use Rattle.judge.specs.Engines as engines
-use Rattle.judge.specs.Search as search
-use Rattle.judge.specs.Verdicts as verdicts
 use Rattle.laws.specs.Bytes.{bytes}
 use Rattle.laws.specs.Lists.{range}
 use Rattle.lists.specs.Lines.{onto, lines, onLines}

@@ -10,9 +10,9 @@ use Rattle.calendar.specs.Dates.{fromDayNumber}
 use Rattle.calendar.specs.declared.Date.{Date}
 use Rattle.calendar.specs.declared.FromNumber.{FromNumber}
 use Rattle.calendar.specs.declared.FromNumber.the-variants.{Day, Outside}
-use Rattle.judge.specs.Agreement.{said}
-use Rattle.judge.specs.Demand.{DayAgrees}
-use Rattle.judge.specs.declared.Facts.{Facts}
+use Rattle.agreement.specs.Agreement.{said}
+use Rattle.agreement.specs.Demand.{DayAgrees}
+use Rattle.agreement.specs.declared.Facts.{Facts}
 use Rattle.kinds.specs.Kinds as kinds
 use Rattle.kinds.specs.Kinds.{dayKinds}
 use Rattle.values.specs.Values.{dateValue, dateValues}

@@ -8,14 +8,14 @@ use lib.ListN.{length}
 use Rattle.calendar.specs.declared.Date.{Date}
 use Rattle.format.specs.Opening.{longest, mostElements, elementsIn}
 use Rattle.format.specs.declared.opening.Side.the-variants.{Reader}
+use Rattle.agreement.specs.Verdicts.{hourVerdict}
+use Rattle.agreement.specs.declared.Verdict.{Verdict}
+use Rattle.agreement.specs.declared.Verdict.the-variants.{Unsaid, Impossible, Open, Agreed}
 use Rattle.judge.specs.Engines.{searched}
-use Rattle.judge.specs.Verdicts.{hourVerdict}
 use Rattle.judge.specs.declared.Engine.{Engine}
 use Rattle.judge.specs.declared.Searched.{Searched}
 use Rattle.judge.specs.declared.Searched.the-variants.{Judged, OverBudget}
-use Rattle.judge.specs.declared.Verdict.{Verdict}
-use Rattle.judge.specs.declared.Verdict.the-variants.{Unsaid, Impossible, Open, Agreed}
-use Rattle.judge.proofs.Demand.{hour-judged}
+use Rattle.agreement.proofs.Demand.{hour-judged}
 use Rattle.laws.proofs.Cases.{picked}
 use Rattle.matching.specs.Steps.{start, noForms, readAll}
 use Rattle.matching.specs.declared.Forms.{Forms}

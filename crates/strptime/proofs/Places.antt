@@ -15,13 +15,13 @@ use Rattle.format.specs.Opening.Ended.{Whole, BadAt}
 use Rattle.format.specs.declared.opening.Side.the-variants.{Writer, Reader}
 use Rattle.format.proofs.Entries.{counted-few}
 use Rattle.format.proofs.Refused.{bad-within}
+use Rattle.agreement.specs.declared.Verdict.{Verdict}
+use Rattle.agreement.specs.declared.Verdict.the-variants.{Unsaid, Impossible, Open, Agreed}
 use Rattle.judge.specs.Engines.{searched}
 use Rattle.judge.specs.declared.Engine.{Engine}
 use Rattle.judge.specs.declared.Engine.the-variants.{Skipping, Plain, Within as Budget}
 use Rattle.judge.specs.declared.Searched.{Searched}
 use Rattle.judge.specs.declared.Searched.the-variants.{Judged, OverBudget}
-use Rattle.judge.specs.declared.Verdict.{Verdict}
-use Rattle.judge.specs.declared.Verdict.the-variants.{Unsaid, Impossible, Open, Agreed}
 use Rattle.judge.proofs.Engines.{searched-over}
 use Rattle.strptime.specs.Answers.{showing, refused, finished, naming, examining, overBudget, done, withHour, withDay, withSearched}
 use Rattle.strptime.specs.Answers.{judged, concluded, readBy, byFormat, byElements, unlessLong, readingBy, elementsReadingBy}

@@ -8,15 +8,15 @@ use Rattle.kinds.specs.Kinds as kinds
 use Rattle.calendar.specs.Calendar.{dateOf}
 use Rattle.format.specs.Opening.{Ended, Whole, BadAt, opening, longest, mostElements, elementsIn, entryPlace}
 use Rattle.format.specs.declared.opening.Side.the-variants.{Reader}
-use Rattle.judge.specs.Agreement.{said}
+use Rattle.agreement.specs.Agreement.{said}
+use Rattle.agreement.specs.Verdicts.{hourVerdict}
+use Rattle.agreement.specs.declared.Verdict.{Verdict}
+use Rattle.agreement.specs.declared.Verdict.the-variants.{Unsaid as NotSaid, Impossible, Open, Agreed}
 use Rattle.judge.specs.Engines.{searched}
-use Rattle.judge.specs.Verdicts.{hourVerdict}
 use Rattle.judge.specs.declared.Engine.{Engine}
 use Rattle.judge.specs.declared.Engine.the-variants.{Skipping}
 use Rattle.judge.specs.declared.Searched.{Searched}
 use Rattle.judge.specs.declared.Searched.the-variants.{Judged, OverBudget as TooFew}
-use Rattle.judge.specs.declared.Verdict.{Verdict}
-use Rattle.judge.specs.declared.Verdict.the-variants.{Unsaid as NotSaid, Impossible, Open, Agreed}
 use Rattle.matching.specs.Steps.{start, noForms, readAll}
 use Rattle.strptime.specs.declared.Answer.{Answer}
 use Rattle.strptime.specs.declared.Answer.the-variants.{Done, FormatTooLong, TextTooLong, BadConversion}

@@ -1,6 +1,6 @@
 -- What the reader's functions hand each other.
 use mathlib.Core.Path.{_≡_}
-use Rattle.judge.specs.Verdicts.{hourVerdict}
+use Rattle.agreement.specs.Verdicts.{hourVerdict}
 use Rattle.strptime.specs.Answers.{examining, naming, readingOf, withHour}
 use Rattle.matching.specs.declared.Forms.{Forms}
 use Rattle.strptime.specs.declared.Reading.{Reading}

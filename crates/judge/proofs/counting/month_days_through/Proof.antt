@@ -1,7 +1,7 @@
 -- `judge::counting::month_days_through` meets its contract. Assumes nothing.
 use mathlib.Core.Path.{sym, _∙_}
 use borrow.Author.Needs.{needs}
-use Rattle.judge.specs.Search.{through}
+use Rattle.agreement.specs.Search.{through}
 use Rattle.judge.proofs.CountedDays.{all-through}
 use Rattle.judge.proofs.counting.month_days_through.Statement.{statement}
 use Rattle.judge.proofs.counting.month_days_through.Tie as tie

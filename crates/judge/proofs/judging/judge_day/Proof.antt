@@ -4,12 +4,12 @@ use mathlib.Core.Path.{_≡_, sym, ap, _∙_}
 use native.Mathlib.Omega.{arith}
 use borrow.Author.Needs.{needs}
 use Rattle.calendar.proofs.Years.{days-is}
-use Rattle.judge.specs.Agreement.{dayBorne}
+use Rattle.agreement.specs.Agreement.{dayBorne}
 use Rattle.judge.specs.Engines.{searched}
 use Rattle.judge.specs.declared.Engine.{Engine}
 use Rattle.kinds.specs.Kinds.{dayKinds}
 use Rattle.laws.specs.Lists.{range}
-use Rattle.judge.proofs.Through.{skipping-borne, within-borne, plain-borne, unborne}
+use Rattle.judge.proofs.Budget.{skipping-borne, within-borne, plain-borne, unborne}
 use Rattle.judge.proofs.judging.judge_day.Statement.{statement}
 use Rattle.judge.proofs.judging.judge_day.Tie as tie
 

@@ -2,8 +2,8 @@
 use mathlib.Core.Bool.{true, false}
 use mathlib.Core.Path.{_≡_, sym, ap, _∙_}
 use borrow.Author.Needs.{needs}
-use Rattle.judge.specs.Agreement.{hourBorne}
-use Rattle.judge.specs.Verdicts.{verdictOf, hourVerdict}
+use Rattle.agreement.specs.Agreement.{hourBorne}
+use Rattle.agreement.specs.Verdicts.{verdictOf, hourVerdict}
 use Rattle.kinds.specs.Kinds.{hourKinds}
 use Rattle.laws.specs.Lists.{range}
 use Rattle.judge.proofs.judging.judge_hour.Statement.{statement}

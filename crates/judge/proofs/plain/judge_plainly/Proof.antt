@@ -1,7 +1,7 @@
 -- `judge::plain::judge_plainly` meets its contract. Assumes nothing.
 use mathlib.Core.Path.{sym, _∙_}
 use borrow.Author.Needs.{needs}
-use Rattle.judge.proofs.Through.{ended-plainly, over-plainly}
+use Rattle.judge.proofs.Budget.{ended-plainly, over-plainly}
 use Rattle.judge.proofs.plain.judge_plainly.Statement.{statement}
 use Rattle.judge.proofs.plain.judge_plainly.Tie as tie
 

@@ -6,19 +6,20 @@ use mathlib.Core.Path.{_≡_, refl, sym, ap, _∙_}
 use native.Mathlib.Omega.{arith}
 use borrow.Author.Needs.{needs}
 use Rattle.calendar.specs.Calendar.{monthLength, days, dateOf}
-use Rattle.judge.specs.Agreement.{dateAgrees, dayAgrees}
+use Rattle.agreement.specs.Agreement.{dateAgrees, dayAgrees}
+use Rattle.agreement.specs.Search.{isTwo, through}
+use Rattle.agreement.specs.declared.Facts.{Facts}
+use Rattle.agreement.specs.declared.Found.{Found}
 use Rattle.judge.specs.Private.{isoKinds}
-use Rattle.judge.specs.Search.{isTwo, through}
-use Rattle.judge.specs.declared.Facts.{Facts}
-use Rattle.judge.specs.declared.Found.{Found}
 use Rattle.laws.specs.Lists.{range}
 use Rattle.calendar.proofs.Dates.{Valid, number-within, date-of-number}
 use Rattle.calendar.proofs.Months.{month-most}
 use Rattle.calendar.proofs.Years.{days-is}
+use Rattle.agreement.proofs.SoFar.{so-far-two}
+use Rattle.agreement.proofs.Through.{through-all, through-second}
 use Rattle.judge.proofs.Position.{AtYear, AtMonth, AtDay, first-year, first-month, first-day, valid-here}
 use Rattle.judge.proofs.Position.{next-day-hit, next-day-miss, next-month, next-year, years-over, no-more-years}
-use Rattle.judge.proofs.SoFar.{so-far-two}
-use Rattle.judge.proofs.Through.{through-all, through-second, over-budget, within-budget}
+use Rattle.judge.proofs.Budget.{over-budget, within-budget}
 use Rattle.judge.proofs.plain.scan_days.Statement.{statement}
 use Rattle.judge.proofs.plain.scan_days.Tie as tie
 

@@ -2,7 +2,7 @@
 use borrow.Author.Needs.{needs}
 use Rattle.judge.specs.Engines.{lastExamined, skippingCount}
 use Rattle.judge.specs.Private.{skippingJudged}
-use Rattle.judge.proofs.Through.{last-in}
+use Rattle.agreement.proofs.Through.{last-in}
 use Rattle.judge.proofs.skipping.judge_skipping.Statement.{statement}
 use Rattle.judge.proofs.skipping.judge_skipping.Tie as tie
 

@@ -4,12 +4,12 @@ use mathlib.Core.Path.{_≡_, sym, ap, _∙_}
 use borrow.Author.Needs.{needs}
 use borrow.Author.Tests.{not-true, not-false}
 use lib.Dec.{eqb}
-use Rattle.judge.specs.Agreement.{said, noneSaid}
+use Rattle.agreement.specs.Agreement.{said, noneSaid}
+use Rattle.agreement.specs.declared.Facts.{Facts}
 use Rattle.judge.specs.Private.{named}
-use Rattle.judge.specs.declared.Facts.{Facts}
 use Rattle.kinds.specs.Kinds as kinds
 use Rattle.laws.specs.Lists.{range}
-use Rattle.judge.proofs.Every.{every-append}
+use Rattle.agreement.proofs.Every.{every-append}
 use Rattle.judge.proofs.skipping.named.Statement.{statement}
 use Rattle.judge.proofs.skipping.named.Tie as tie
 

@@ -11,8 +11,8 @@ use Rattle.calendar.specs.Dates.{fromFields}
 use Rattle.calendar.specs.declared.Date.{Date}
 use Rattle.kinds.specs.Kinds as kinds
 use Rattle.kinds.specs.Kinds.{dayKinds}
-use Rattle.judge.specs.Agreement.{said, dateAgrees}
-use Rattle.judge.specs.declared.Facts.{Facts}
+use Rattle.agreement.specs.Agreement.{said, dateAgrees}
+use Rattle.agreement.specs.declared.Facts.{Facts}
 use Rattle.laws.specs.Lists.{range}
 use Rattle.calendar.proofs.Dates.{fields-bad, fields-valid}
 use Rattle.judge.proofs.Complete.{Whole, whole, no-date, date-agrees, date-differs}

@@ -3,8 +3,8 @@ use borrow.Author.Needs.{needs}
 use mathlib.Core.Bool.{false}
 use mathlib.Core.Path.{_≡_, sym, ap, _∙_}
 use Rattle.calendar.specs.Calendar.{days}
+use Rattle.agreement.specs.Verdicts.{daysFound}
 use Rattle.judge.specs.Private.{named, repeatedFound}
-use Rattle.judge.specs.Verdicts.{daysFound}
 use Rattle.judge.proofs.Cycle.{first-small, repeats}
 use Rattle.judge.proofs.skipping.search_days.Statement.{statement}
 use Rattle.judge.proofs.skipping.search_days.Tie as tie

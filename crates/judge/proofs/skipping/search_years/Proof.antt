@@ -7,11 +7,11 @@ use native.Mathlib.Omega.{arith}
 use borrow.Author.Needs.{needs}
 use Rattle.calendar.specs.Calendar.{sum, yearLength, monthLength, daysBefore, dayOfYear, dayNumber, date, dateOf, lastYear}
 use Rattle.calendar.specs.declared.Date.{Date}
-use Rattle.judge.specs.Agreement.{dateAgrees, dayAgrees}
+use Rattle.agreement.specs.Agreement.{dateAgrees, dayAgrees}
+use Rattle.agreement.specs.Search.{hit}
+use Rattle.agreement.specs.declared.Facts.{Facts}
+use Rattle.agreement.specs.declared.Found.{Found}
 use Rattle.judge.specs.Private.{isoKinds, yearDays, monthStart, monthDaySpan}
-use Rattle.judge.specs.Search.{hit}
-use Rattle.judge.specs.declared.Facts.{Facts}
-use Rattle.judge.specs.declared.Found.{Found}
 use Rattle.judge.specs.declared.spans.Span.{Span}
 use Rattle.laws.specs.Lists.{range}
 use Rattle.calendar.proofs.Dates.{Valid, number-within, date-of-number}

@@ -1,7 +1,7 @@
 -- `strptime::answers::by_verdict` meets its contract. Assumes nothing.
 use borrow.Author.Needs.{needs}
 use mathlib.Core.Path.{sym, _∙_}
-use Rattle.judge.proofs.Demand.{day-judged}
+use Rattle.agreement.proofs.Demand.{day-judged}
 use Rattle.strptime.specs.Answers.{showing, refused, naming, examining, readingOf, withDay}
 use Rattle.strptime.specs.Private.{withDated}
 use Rattle.strptime.proofs.answers.by_verdict.Statement.{statement}

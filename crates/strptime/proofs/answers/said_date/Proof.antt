@@ -5,9 +5,9 @@ use mathlib.Core.Path.{_≡_}
 use native.Mathlib.Omega.{arith}
 use borrow.Author.Tests.{eqb-false}
 use Rattle.calendar.specs.Calendar.{days}
-use Rattle.judge.specs.Agreement.{said}
-use Rattle.judge.specs.Demand.{DayAgrees}
-use Rattle.judge.specs.declared.Facts.{Facts}
+use Rattle.agreement.specs.Agreement.{said}
+use Rattle.agreement.specs.Demand.{DayAgrees}
+use Rattle.agreement.specs.declared.Facts.{Facts}
 use Rattle.kinds.specs.Kinds as kinds
 use Rattle.strptime.proofs.Days.{year-said, month-said, day-said, as-said}
 use Rattle.strptime.proofs.answers.said_date.Statement.{statement}

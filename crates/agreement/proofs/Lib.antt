@@ -1,0 +1,5 @@
+pub mod Demand
+pub mod Every
+pub mod SoFar
+pub mod Tells
+pub mod Through
