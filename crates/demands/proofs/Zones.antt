@@ -51,17 +51,17 @@ use Rattle.strftime.proofs.Complete.{puts-text}
 use Rattle.strftime.proofs.Order.{is-moment}
 use Rattle.values.proofs.Ranges.{no-fault-moment}
 use Rattle.strftime.proofs.Offsets.{east-length}
-use Rattle.judge.specs.Agreement as agreement
-use Rattle.judge.specs.Agreement.{said, noneSaid, dayBorne, hourBorne, agrees, allAgree, dateAgrees, dayAgrees, hourAgrees}
+use Rattle.agreement.specs.Agreement as agreement
+use Rattle.agreement.specs.Agreement.{said, noneSaid, dayBorne, hourBorne, agrees, allAgree, dateAgrees, dayAgrees, hourAgrees}
+use Rattle.agreement.specs.Search as search
+use Rattle.agreement.specs.Search.{firstTwo, through}
+use Rattle.agreement.specs.Verdicts as verdicts
+use Rattle.agreement.specs.Verdicts.{verdictOf, daysFound, dayVerdict, hourVerdict}
+use Rattle.agreement.specs.declared.Facts.{Facts}
 use Rattle.judge.specs.Engines as engines
 use Rattle.judge.specs.Engines.{lastExamined, plainCount, monthKinds, monthAgrees, monthDays, skippingCount, counted, plainSearched, searched}
-use Rattle.judge.specs.Search as search
-use Rattle.judge.specs.Search.{firstTwo, through}
-use Rattle.judge.specs.Verdicts as verdicts
-use Rattle.judge.specs.Verdicts.{verdictOf, daysFound, dayVerdict, hourVerdict}
 use Rattle.judge.specs.declared.Engine.{Engine}
 use Rattle.judge.specs.declared.Engine.the-variants.{Skipping, Plain, Within}
-use Rattle.judge.specs.declared.Facts.{Facts}
 use Rattle.matching.specs.Elements as elements
 use Rattle.matching.specs.Steps as steps
 use Rattle.matching.specs.Steps.{noted}

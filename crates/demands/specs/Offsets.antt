@@ -9,10 +9,10 @@ use lib.IntN.{ℤ, pos, negsuc}
 use lib.ListN.{length, replicate}
 use Rattle.laws.specs.Bytes.{bytes}
 use Rattle.kinds.specs.Kinds.{zoneOffset}
+use Rattle.agreement.specs.Verdicts.{hourVerdict}
+use Rattle.agreement.specs.declared.Facts.{Facts}
 use Rattle.judge.specs.Engines.{searched}
-use Rattle.judge.specs.Verdicts.{hourVerdict}
 use Rattle.judge.specs.declared.Engine.{Engine}
-use Rattle.judge.specs.declared.Facts.{Facts}
 use Rattle.matching.specs.Steps.{noted}
 use Rattle.values.specs.Moments.{momentOf}
 use Rattle.values.specs.Offsets.{isOffset}
