@@ -27,7 +27,8 @@ use Rattle.format.specs.Conversions as conversions
 use Rattle.format.specs.Conversions.{among, conversionOf, isNumber}
 use Rattle.format.specs.Opening as opening
 use Rattle.format.specs.Opening.{Opening, Whole, BadAt, opening, flags, flagRun, widthRun, conversion, letter, withStyle, styled, piece}
-use Rattle.format.specs.Opening.{longest, unstyled, isUnstyled, takesFlag, bare, takesStyle, toRead, before, conversionAt, acted, nothing, openFrom}
+use Rattle.format.specs.Opening.{longest, unstyled, isUnstyled, takesFlag, bare, takesStyle, toRead, before, conversionAt}
+use Rattle.format.specs.Opening.{acted, nothing, openFrom}
 use Rattle.format.specs.Opening.{compositeTo, openTo, signed, pieceOf, signAt, styleFrom}
 use Rattle.format.specs.declared.conversions.Conversion.{Conversion}
 use Rattle.format.specs.declared.conversions.Form.{Form}
@@ -294,7 +295,10 @@ other-refused : (f w c : ℕ) → among c others ≡ true → (eqb f 0 && eqb w 
     → withStyle (record { flag = f; width = w }) (letter c) ≡ Refuse
 other-refused f w c o n =
     among-same (λ b. withStyle (record { flag = f; width = w }) (letter b))
-    (λ b. cond (isUnstyled (record { flag = f; width = w })) (cond (among b bare) (Convert b (record { flag = f; width = w })) (letter b)) Refuse)
+    (λ b.
+    cond (isUnstyled (record { flag = f; width = w }))
+    (cond (among b bare) (Convert b (record { flag = f; width = w })) (letter b))
+    Refuse)
     others
     (unfold others letter withStyle takesStyle bare conversions.computes in refl)
     c o
@@ -334,7 +338,8 @@ module _ (t : Fields) (m : Moment) (valid : momentOf (t .year) (t .month) (t .da
     by-flag : {t : Bool} → takesFlag f (conversionOf c .form) ≡ t → takesStyle style c ≡ t
     unfolding takesStyle
     by-flag k =
-        let n = among-same (λ b. among b bare) (λ b. false) (numbers ++ names) (unfold numbers names bare conversions.computes in refl) c u in
+        let n =
+        among-same (λ b. among b bare) (λ b. false) (numbers ++ names) (unfold numbers names bare conversions.computes in refl) c u in
         rw n k
 
     no-s : isSeconds (conversionAt 0 style c) ≡ false

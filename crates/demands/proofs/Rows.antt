@@ -70,8 +70,8 @@ fault-few y m d h n s o =
 module _ (f b : List ℕ) where
   -- a refusal, with what its row says of its place
   refusal : (n p : ℕ) → OneOf (0 ∷ 1 ∷ 2 ∷ 3 ∷ 4 ∷ 12 ∷ []) n → (n ≡ 0 → ⊥) → (n ≡ 1 → p ≡ 0)
-      → (n ≡ 2 → OneOf (1 ∷ 2 ∷ 3 ∷ 4 ∷ 5 ∷ 6 ∷ 7 ∷ []) p) → (n ≡ 3 → p < length f) → (every isByte f ≡ true → n ≡ 12 → take 2 (drop p f) ≡ bytes "%s")
-      → (n ≡ 4 → length b < p) → WritingRow f b (refused n p b)
+      → (n ≡ 2 → OneOf (1 ∷ 2 ∷ 3 ∷ 4 ∷ 5 ∷ 6 ∷ 7 ∷ []) p) → (n ≡ 3 → p < length f)
+      → (every isByte f ≡ true → n ≡ 12 → take 2 (drop p f) ≡ bytes "%s") → (n ≡ 4 → length b < p) → WritingRow f b (refused n p b)
   unfolding refused
   refusal n p l no-0 one two three twelve four =
       record {

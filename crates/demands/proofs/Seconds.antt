@@ -94,12 +94,15 @@ module _ (s : List ℕ) (x : Style) where
   unfolding takesStyle bare rows-compute
   bare-s y = refl
 
+  Begins : Act → Type
+  Begins a = a ≡ Convert 115 x → take 1 s ≡ 115 ∷ []
+
   begins : (a : Act) → conversion rest .act ≡ a → withStyle (styleFrom flag width) a ≡ Convert 115 x → take 1 s ≡ 115 ∷ []
-  unfolding withStyle
+  unfolding withStyle Begins
   begins (Byte b) q e =
-      either (λ (a : Act). a ≡ Convert 115 x → take 1 s ≡ 115 ∷ []) (isUnstyled (styleFrom flag width)) (λ _ r. clash (cc)) (λ _ r. clash (cc)) e
+      either Begins (isUnstyled (styleFrom flag width)) (λ _ r. clash (cc)) (λ _ r. clash (cc)) e
   begins (Convert c u) q e =
-      either (λ (a : Act). a ≡ Convert 115 x → take 1 s ≡ 115 ∷ []) (takesStyle (styleFrom flag width) c)
+      either Begins (takesStyle (styleFrom flag width) c)
       (λ t r.
       let z : c ≡ 115 = cc in
       let one = alone (sym (bare-s (styleFrom flag width)) ∙ rw z at t) in
@@ -107,7 +110,7 @@ module _ (s : List ℕ) (x : Style) where
       (λ t r. clash (cc))
       e
   begins (Open c) q e =
-      either (λ (a : Act). a ≡ Convert 115 x → take 1 s ≡ 115 ∷ []) (isUnstyled (styleFrom flag width)) (λ _ r. clash (cc)) (λ _ r. clash (cc)) e
+      either Begins (isUnstyled (styleFrom flag width)) (λ _ r. clash (cc)) (λ _ r. clash (cc)) e
   begins Refuse q e = clash (cc)
 
   styled-s : styled s .act ≡ Convert 115 x → take 1 s ≡ 115 ∷ []
@@ -215,7 +218,8 @@ module _ (f : List ℕ) where
   open-stand (c ∷ s) i zero d h b =
       let u = and-eq-true-iff (isByte c) (every isByte s) .0 b in
       let p = pieceOf Writer c s in
-      acted-stand i (length s) (p .length) (openFrom Writer (compositeTo Writer 2) Own (i + 1) (p .length - 1) s) (p .act) (λ m. omega arith)
+      acted-stand i (length s) (p .length) (openFrom Writer (compositeTo Writer 2) Own (i + 1) (p .length - 1) s) (p .act)
+      (λ m. omega arith)
       (follows Writer c s)
       (piece-lettered c s (ltb-true c 256 (u .0)))
       (λ x e. rw d (piece-s c s x e))

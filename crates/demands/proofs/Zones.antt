@@ -1,4 +1,4 @@
--- Zone offsets: what %z writes reads back, each offset by computing; that neither the day nor the hour depends on the offset; and the cases.
+-- Zone offsets: what %z writes reads back, each offset by computing; neither the day nor the hour depends on the offset; and the cases.
 -- Assumes nothing.
 use Prim.Native.Nat.{ℕ, zero, suc, _+_, _≤_, _<_}
 use mathlib.Core.Bool.{Bool, true, false, cond, not, and-eq-true-iff}
@@ -59,7 +59,8 @@ use Rattle.agreement.specs.Verdicts as verdicts
 use Rattle.agreement.specs.Verdicts.{verdictOf, daysFound, dayVerdict, hourVerdict}
 use Rattle.agreement.specs.declared.Facts.{Facts}
 use Rattle.judge.specs.Engines as engines
-use Rattle.judge.specs.Engines.{lastExamined, plainCount, monthKinds, monthAgrees, monthDays, skippingCount, counted, plainSearched, searched}
+use Rattle.judge.specs.Engines.{lastExamined, plainCount, monthKinds, monthAgrees, monthDays, skippingCount}
+use Rattle.judge.specs.Engines.{counted, plainSearched, searched}
 use Rattle.judge.specs.declared.Engine.{Engine}
 use Rattle.judge.specs.declared.Engine.the-variants.{Skipping, Plain, Within}
 use Rattle.matching.specs.Elements as elements
@@ -78,7 +79,8 @@ use Rattle.demands.specs.Offsets.{Zoned, ZoneRule, Ignored, Case, Answer
 -- ---- the cases
 
 pub all-written : map (λ (c : Case). c .0) writeCases ≡ map (λ (c : Case). c .1) writeCases
-unfolding cases.computes digits.digits plain filled leading fill isDigit digitRun decimal calendar.computes moments.computes offsets.computes
+unfolding cases.computes digits.digits plain filled leading fill isDigit digitRun decimal calendar.computes
+    moments.computes offsets.computes
     values.computes names.computes naming.computes cased conversions.computes opening.computes writer.computes
 all-written = refl
 
@@ -238,7 +240,8 @@ zone-text : (m : Moment) → text m (zone-element ∷ []) ≡ zone (m .offset)
 unfolding zone-element writer.text writer.element writer.converted writer.formed conversions.computes
 zone-text m = append-nil (zone (m .offset))
 
-module _ (t : Fields) (m : Moment) (v : momentOf (t .year) (t .month) (t .day) (t .hour) (t .minute) (t .second) (t .offset) ≡ Valid m) where
+module _ (t : Fields) (m : Moment)
+    (v : momentOf (t .year) (t .month) (t .day) (t .hour) (t .minute) (t .second) (t .offset) ≡ Valid m) where
   zone-writes : Writes (bytes "%z") t (zone (t .offset))
   zone-writes b =
       puts-text (bytes "%z") t b (unfold bytes in lit≤ tt) (ap (λ (o : Opening). o .ended) opened) v

@@ -39,7 +39,9 @@ pub record Zoned (t : Fields) : Type 0 where
       × (reading (bytes "%z") x ≡ finished 5 NoDate Unsaid Unsaid Unsaid (Minutes z))
 
 abbrev pub ZoneRule : Type 0
-ZoneRule = (t : Fields) (m : Moment) → momentOf (t .year) (t .month) (t .day) (t .hour) (t .minute) (t .second) (t .offset) ≡ Valid m → Zoned t
+ZoneRule =
+    (t : Fields) (m : Moment) → momentOf (t .year) (t .month) (t .day) (t .hour) (t .minute) (t .second) (t .offset) ≡ Valid m
+    → Zoned t
 
 -- ---- the day and the hour
 

@@ -224,7 +224,8 @@ element-conversion side e t h =
 pub read-letter : (e : ℕ) → isElement Reader e ≡ true → 256 ≤ e → eqb (letterOf e) (code "s") ≡ false
 unfolding isTaken isRead
 read-letter e t h =
-    not-true-false (eqb (letterOf e) (code "s")) (and-eq-true-iff (isPlain e) (isRead (letterOf e)) .0 (element-conversion Reader e t h .1) .1)
+    not-true-false (eqb (letterOf e) (code "s"))
+    (and-eq-true-iff (isPlain e) (isRead (letterOf e)) .0 (element-conversion Reader e t h .1) .1)
   where
     not-true-false : (b : Bool) → not b ≡ true → b ≡ false
     not-true-false false q = refl

@@ -19,7 +19,8 @@ use Rattle.text.specs.Digits.{isDigit, digitRun, decimal}
 use Rattle.format.specs.Conversions.{Composite, among, isConversion, composites, formatOf, ownFormat}
 use Rattle.format.specs.Conversions.{computes as rows-compute}
 use Rattle.format.specs.Opening.{Ended, Opening, unstyled, conversionAt, letter, piece, conversion, flags, flagRun, widthRun}
-use Rattle.format.specs.Opening.{isUnstyled, bare, takesStyle, withStyle, isRead, toRead, styled, signed, pieceOf, nothing, before, composed, acted, signAt}
+use Rattle.format.specs.Opening.{isUnstyled, bare, takesStyle, withStyle, isRead, toRead, styled, signed, pieceOf}
+use Rattle.format.specs.Opening.{nothing, before, composed, acted, signAt}
 use Rattle.format.specs.Opening.{openFrom, compositeTo, openTo, opening, longest, mostElements, isByte, letterOf, afterSign}
 use Rattle.format.specs.Opening.{styleFrom, takesFlag, isTaken, isElement, elementsIn, entryPlace, computes}
 use Rattle.format.specs.Opening.Ended.{Whole, BadAt}

@@ -268,7 +268,8 @@ entryPlace es k = let e = getD es k 0 in cond (isElement Writer e && not (isElem
 
 -- everything here, for proofs that compute
 unfoldable pub computes : Unit {0}
-unfolding after-E after-O letter paired conversion flags flagRun widthRun styleFrom takesFlag isUnstyled bare takesStyle withStyle styled isRead toRead signed
+unfolding after-E after-O letter paired conversion flags flagRun widthRun styleFrom takesFlag isUnstyled bare takesStyle
+    withStyle styled isRead toRead signed
     pieceOf nothing before composed acted signAt openFrom compositeTo openTo opening closed opened openedInto isTaken isElement elementsIn
     entryPlace isDigit digitRun decimal
 computes = tt

@@ -35,7 +35,8 @@ ghost use Rattle.strptime.specs.declared.Shown.the-variants.{Days, Hours};
 ghost use Rattle.values.specs.Values.{dayNumberOf, dateValue};
 ghost use Rattle.larusqem.specs.Dates.{valueFrom, threeInOne, dateWord, versionWord};
 ghost use Rattle.larusqem.specs.Packed.{packed, packedWriting, packedReading, engineOf, sideOf, openedFor};
-ghost use Rattle.larusqem.specs.Words.{signedOf, offsetFrom, fieldsOf, dayOrZero, flag, numberOr0, formNumber, wordOf, offsetFlag, offsetWord, wordsOf};
+ghost use Rattle.larusqem.specs.Words.{signedOf, offsetFrom, fieldsOf, dayOrZero, flag, numberOr0, formNumber};
+ghost use Rattle.larusqem.specs.Words.{wordOf, offsetFlag, offsetWord, wordsOf};
 
 fn packed(number: u32, place: usize) -> u64
     requires { ⌜ place < 2 ^ 32 ⌝ }

@@ -1,7 +1,7 @@
 // Runs the reader on the cases that compare/src/bin/vectors/read.rs makes. The input is pairs of lines: a format, and a text. A line of the
-// output is `number place date hour minute second offset | shown | examined | weekday month | reason`: what is unsaid is -, shown has the first
-// two days or hours of number 10, the days examined are those of the engine that skips, then come the forms of names. The reason is -, or
-// each kind that quarrels with where its words begin and end, or the part in which two days differ, or two hours.
+// output is `number place date hour minute second offset | shown | examined | weekday month | reason`: what is unsaid is -, shown has the
+// first two days or hours of number 10, the days examined are those of the engine that skips, then come the forms of names. The reason is
+// -, or each kind that quarrels with where its words begin and end, or the part in which two days differ, or two hours.
 use calendar::Date;
 use judge::Engine;
 use libc::STDOUT_FILENO;

@@ -16,7 +16,8 @@ use Rattle.format.proofs.Elements.{all-elements}
 use Rattle.values.specs.Moments.{momentOf}
 use Rattle.values.specs.declared.Moment.{Moment}
 use Rattle.values.specs.declared.MomentFields.the-variants.{Valid}
-use Rattle.strftime.specs.Writing.{Result, text, numbered, put, lacking, offered, byFormat, byElements, forMoment, forFields, writing, elementsWriting}
+use Rattle.strftime.specs.Writing.{Result, text, numbered, put, lacking, offered, byFormat, byElements, forMoment, forFields}
+use Rattle.strftime.specs.Writing.{writing, elementsWriting}
 use Rattle.strftime.specs.declared.Fields.{Fields}
 use Rattle.strftime.specs.declared.Lack.the-variants.{Nothing}
 

@@ -138,7 +138,8 @@ pub longest-needed : (t : Fields) (b : List ℕ) → momentFault (t .year) (t .m
     → length b < longestWriting → writing (widest 256) t b .answer ≡ numbered 4 longestWriting
 unfolding momentOf put refused opening openTo
 longest-needed t b v h =
-    let m : Moment = record { date = date (t .year) (t .month) (t .day); hour = t .hour; minute = t .minute; second = t .second; offset = t .offset } in
+    let d = date (t .year) (t .month) (t .day) in
+    let m : Moment = record { date = d; hour = t .hour; minute = t .minute; second = t .second; offset = t .offset } in
     let inner = compositeTo Writer 2 in
     let valid : momentOf (t .year) (t .month) (t .day) (t .hour) (t .minute) (t .second) (t .offset) ≡ Valid m = rw v in
     let needed : length (text m (opening Writer (widest 256) .elements)) ≡ longestWriting = widest-text m v inner 256 0 (omega arith) in

@@ -30,7 +30,8 @@ use Rattle.values.specs.declared.Moment.{Moment}
 use Rattle.values.specs.declared.MomentFields.{MomentFields}
 use Rattle.values.specs.declared.MomentFields.the-variants.{Valid, Bad}
 use Rattle.strftime.specs.Private.{momentWriting, IsMoment}
-use Rattle.strftime.specs.Writing.{Result, text, writingOf, refused, put, isSeconds, firstSeconds, lacking, offered, byFormat, byElements}
+use Rattle.strftime.specs.Writing.{Result, text, writingOf, refused, put, isSeconds, firstSeconds, lacking, offered}
+use Rattle.strftime.specs.Writing.{byFormat, byElements}
 use Rattle.strftime.specs.Writing.{forMoment, forFields, writing, elementsWriting}
 use Rattle.values.specs.declared.offsets.Offset.{Offset}
 use Rattle.values.specs.declared.offsets.Offset.the-variants.{Unsaid, Minutes}
@@ -149,7 +150,8 @@ valid-moment y n d h i s o {m} =
         let e : record { date = date y n d; hour = h; minute = i; second = s; offset = o } ≡ m = cc in
         rw (← e) (eqb-true (momentFault y n d h i s o) 0 z)
 
-module _ (t : Fields) {r : MomentFields} (e : r ≡ momentOf (t .year) (t .month) (t .day) (t .hour) (t .minute) (t .second) (t .offset)) where
+module _ (t : Fields) {r : MomentFields}
+    (e : r ≡ momentOf (t .year) (t .month) (t .day) (t .hour) (t .minute) (t .second) (t .offset)) where
   with-fields : (rest : Moment → Result) (b : List ℕ) {s : MomentFields} → r ≡ s → forFields rest b t ≡ forMoment rest b s
   unfolding forFields
   with-fields rest b q = rw (← e, q)

@@ -173,7 +173,8 @@ longestWriting = 25344
 
 -- everything here, for proofs that compute
 unfoldable pub computes : Unit {0}
-unfolding zones.computes fillBy placesBy number caseBy name formed converted element text writingOf refused put isSeconds firstSeconds lacking
+unfolding zones.computes fillBy placesBy number caseBy name formed converted element text writingOf refused put
+    isSeconds firstSeconds lacking
     offered byFormat byElements
     forMoment forFields writing elementsWriting
 computes = tt

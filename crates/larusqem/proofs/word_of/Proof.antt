@@ -26,7 +26,8 @@ cast-result : tie.Need-cast-result
 cast-result c =
     let s = c .before .before .before in
     let m = c .before .before .magnitude .ensures in
-    record { fits = omega (arith, size-most (s .args .z) (s .fits .z) m, negative-some (s .args .z) (s .fits .z) m (c .before .is-negative .ensures) (c .if1 .taken)) }
+    let some = negative-some (s .args .z) (s .fits .z) m (c .before .is-negative .ensures) (c .if1 .taken) in
+    record { fits = omega (arith, size-most (s .args .z) (s .fits .z) m, some) }
 
 returns : tie.Need-returns
 returns c =

@@ -1,4 +1,5 @@
--- `format::opening::piece_at` meets its contract: the definition makes the same tests, and a letter right after % that is read is alike for both sides.
+-- `format::opening::piece_at` meets its contract: the definition makes the same tests, and a letter right after % that is read is alike
+-- for both sides.
 use Prim.Native.Nat.{_+_}
 use mathlib.Core.List.{[], _∷_}
 use mathlib.Core.Path.{_≡_, _∙_}

@@ -29,7 +29,10 @@ add-t12 c = search needs
 returns-4 : tie.Need-returns-4
 returns-4 c =
     let a = c .before .before .before .before .before .before .before .args in
-    offset-fact (a .kind) (a .sign) (a .digits) (a .at) (c .before .before .before .before .before .if1 .left) (omega arith) (omega arith) (c .offset-number .ensures)
+    offset-fact (a .kind) (a .sign) (a .digits) (a .at) (c .before .before .before .before .before .if1 .left)
+    (omega arith)
+    (omega arith)
+    (c .offset-number .ensures)
 
 pub offset-at-spec : {M : Type 1} → statement M
 offset-at-spec =

@@ -20,10 +20,14 @@ abbrev start : tie.After-value → tie.Start
 start c = c .before .before
 
 module _ (c : tie.After-value) {f : Form} (e : start c .args .c .form ≡ f) where
-  written : converted unstyled (start c .args .c) (start c .args .moment) ≡ formed (start c .args .moment) unstyled f (start c .args .c .width) (c .value .result)
+  written
+      : converted unstyled (start c .args .c) (start c .args .moment)
+      ≡ formed (start c .args .moment) unstyled f (start c .args .c .width) (c .value .result)
   written = by-form unstyled (start c .args .c) (start c .args .moment) e (c .value .ensures)
 
-  room : start c .args .at + length (formed (start c .args .moment) unstyled f (start c .args .c .width) (c .value .result)) ≤ length (start c .args .out .now)
+  room
+      : start c .args .at + length (formed (start c .args .moment) unstyled f (start c .args .c .width) (c .value .result))
+      ≤ length (start c .args .out .now)
   room = rw written at (start c .pre .0)
 
   -- a number has room on its own width

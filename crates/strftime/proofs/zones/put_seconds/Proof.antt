@@ -26,7 +26,9 @@ put-whole-requires c κs =
     (still-small (c .seconds .result) (r .1), omega (arith, s .pre, ap length e))
 
 returns : tie.Need-returns
-returns c = rw (epoch-unsaid (c .before .before .before .args .moment) (c .enum-told .given .1)) record { ends = sym (add-zero _); stores = refl }
+returns c =
+    rw (epoch-unsaid (c .before .before .before .args .moment) (c .enum-told .given .1))
+    record { ends = sym (add-zero _); stores = refl }
 
 same-length : tie.Need-same-length
 same-length c = search needs

@@ -15,7 +15,8 @@ is-negative-requires c κs = search needs
 put-byte-requires : tie.Need-put-byte-requires
 put-byte-requires c κs =
     let s = c .before .before .before .before in
-    let n = whole-negative (s .args .z) (sign (s .args .z) (s .fits .z) (c .before .before .is-negative .ensures) (c .before .if1 .taken)) in
+    let below = sign (s .args .z) (s .fits .z) (c .before .before .is-negative .ensures) (c .before .if1 .taken) in
+    let n = whole-negative (s .args .z) below in
     omega (arith, s .pre .1, ap length n)
 
 magnitude-requires : tie.Need-magnitude-requires

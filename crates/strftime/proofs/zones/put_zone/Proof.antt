@@ -27,7 +27,9 @@ put-east-requires c κs =
     rw (n .same) (omega (arith, n .most), omega (arith, s .pre, ap length (zone-said (s .args .moment) (o .offset .given .1))))
 
 returns : tie.Need-returns
-returns c = rw (zone-unsaid (c .before .before .before .args .moment) (c .enum-told .given .1)) record { ends = sym (add-zero _); stores = refl }
+returns c =
+    rw (zone-unsaid (c .before .before .before .args .moment) (c .enum-told .given .1))
+    record { ends = sym (add-zero _); stores = refl }
 
 same-length : tie.Need-same-length
 same-length c = search needs

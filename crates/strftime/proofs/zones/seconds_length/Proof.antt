@@ -27,7 +27,8 @@ returns-2 c =
     let o = r .before .before in
     let m = o .before .before .args .moment in
     c .whole-length .ensures
-    ∙ ap length (sym (epoch-said m (o .offset .given .1) (r .before .known-told .given .0 .1) (r .seconds .ensures .0) (r .seconds .ensures .1)))
+    ∙ ap length
+    (sym (epoch-said m (o .offset .given .1) (r .before .known-told .given .0 .1) (r .seconds .ensures .0) (r .seconds .ensures .1)))
 
 pub seconds-length-spec : {M : Type 1} → statement M
 seconds-length-spec =

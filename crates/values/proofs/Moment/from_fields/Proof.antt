@@ -88,7 +88,11 @@ returns-6 c =
     let a = f .before .before .before .args in
     let e = sym (f .before .before .from-fields .ensures) ∙ f .date .given .1 in
     let v = fields-valid (a .year) (a .month) (a .day) (f .date .given .0 .0) e in
-    simp (v .0, le-leb (a .hour) 23 (omega arith), le-leb (a .minute) 59 (omega arith), le-leb (a .second) 60 (omega arith), ← c .before .is-offset .ensures, not-false (c .before .is-offset .result) (c .if4 .left), v .1)
+    let h = le-leb (a .hour) 23 (omega arith) in
+    let m = le-leb (a .minute) 59 (omega arith) in
+    let s = le-leb (a .second) 60 (omega arith) in
+    let o = not-false (c .before .is-offset .result) (c .if4 .left) in
+    simp (v .0, h, m, s, ← c .before .is-offset .ensures, o, v .1)
 
 pub from-fields-spec : {M : Type 1} → statement M
 from-fields-spec =

@@ -27,8 +27,8 @@ returns c = rw (c .enum-told .given .1)
 returns-2 : tie.Need-returns-2
 unfolding isOffset
 returns-2 c =
-    rw (c .before .before .offset .given .1, c .magnitude .ensures)
-    (ap (λ z. leb (natAbs z) 1439) (kept (widened (c .before .before .offset .given .0 .0) (c .before .known-told .given .0 .1)) (lit< tt) .same))
+    let w = widened (c .before .before .offset .given .0 .0) (c .before .known-told .given .0 .1) in
+    rw (c .before .before .offset .given .1, c .magnitude .ensures) (ap (λ z. leb (natAbs z) 1439) (kept w (lit< tt) .same))
 
 pub is-offset-spec : {M : Type 1} → statement M
 is-offset-spec = tie.close (tie.spec enum-told enum-known-offset cast-magnitude magnitude-requires returns returns-2)

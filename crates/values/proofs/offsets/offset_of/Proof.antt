@@ -44,7 +44,9 @@ sub-t4 c = let s = c .before .before .args .said in back-fits s (omega arith)
 
 returns-3 : tie.Need-returns-3
 unfolding offsetOf
-returns-3 c = let s = c .before .before .args .said in rw (le-leb 1 s (omega arith), le-leb s 2879 (omega arith)) (ap Minutes (back-is s (omega arith)))
+returns-3 c =
+    let s = c .before .before .args .said in
+    rw (le-leb 1 s (omega arith), le-leb s 2879 (omega arith)) (ap Minutes (back-is s (omega arith)))
 
 pub offset-of-spec : {M : Type 1} → statement M
 offset-of-spec = tie.close (tie.spec returns returns-2 cast-t3 sub-t4 returns-3)
