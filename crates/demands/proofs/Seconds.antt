@@ -94,11 +94,11 @@ module _ (s : List ℕ) (x : Style) where
   unfolding takesStyle bare rows-compute
   bare-s y = refl
 
-  Begins : Act → Type
+  abbrev Begins : Act → Type 0
   Begins a = a ≡ Convert 115 x → take 1 s ≡ 115 ∷ []
 
   begins : (a : Act) → conversion rest .act ≡ a → withStyle (styleFrom flag width) a ≡ Convert 115 x → take 1 s ≡ 115 ∷ []
-  unfolding withStyle Begins
+  unfolding withStyle
   begins (Byte b) q e =
       either Begins (isUnstyled (styleFrom flag width)) (λ _ r. clash (cc)) (λ _ r. clash (cc)) e
   begins (Convert c u) q e =

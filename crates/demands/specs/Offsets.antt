@@ -1,5 +1,6 @@
 -- Zone offsets (RULES 5 and RULES 6.6): what %z writes reads back as the offset, for every offset; that day and hour do not depend on it;
 -- and cases of %z, %s, 12 and 2 at place 7, each beside what it must give.
+use Prim.Native.Char.{code}
 use Prim.Native.Nat.{ℕ}
 use Prim.Native.String.{String}
 use mathlib.Core.Bool.{true}
@@ -8,6 +9,7 @@ use mathlib.Core.Path.{_≡_}
 use lib.IntN.{ℤ, pos, negsuc}
 use lib.ListN.{length, replicate}
 use Rattle.laws.specs.Bytes.{bytes}
+use Rattle.format.specs.Opening.{unstyled, conversionAt}
 use Rattle.kinds.specs.Kinds.{zoneOffset}
 use Rattle.agreement.specs.Verdicts.{hourVerdict}
 use Rattle.agreement.specs.declared.Facts.{Facts}
@@ -20,7 +22,7 @@ use Rattle.values.specs.declared.Moment.{Moment}
 use Rattle.values.specs.declared.MomentFields.the-variants.{Valid}
 use Rattle.values.specs.declared.offsets.Offset.{Offset}
 use Rattle.values.specs.declared.offsets.Offset.the-variants.{Unsaid as NoOffset, Minutes}
-use Rattle.strftime.specs.Writing.{writing}
+use Rattle.strftime.specs.Writing.{writing, elementsWriting}
 use Rattle.strftime.specs.declared.Fields.{Fields}
 use Rattle.strptime.specs.Answers.{finished, reading}
 use Rattle.strptime.specs.declared.Day.the-variants.{NoDate}
@@ -66,6 +68,16 @@ writes t f n =
     let w = writing (bytes f) t (replicate n 35) in
     w .answer .number ∷ w .answer .place ∷ w .buffer
 
+-- likewise by elements
+unfoldable pub writesBy : Fields → List ℕ → ℕ → List ℕ
+writesBy t es n =
+    let w = elementsWriting es t (replicate n 35) in
+    w .answer .number ∷ w .answer .place ∷ w .buffer
+
+-- the element of a %s whose % is at an offset
+unfoldable pub secondsAt : ℕ → ℕ
+secondsAt p = conversionAt p unstyled (code "s")
+
 abbrev pub Case : Type 0
 Case = List ℕ × List ℕ
 
@@ -81,6 +93,9 @@ writeCases =
     ∷ (writes (at (Minutes (pos 1439))) "%z" 5, gives 5 "+2359")
     ∷ (writes (at (Minutes (negsuc 1438))) "%z" 5, gives 5 "-2359")
     ∷ (writes (at NoOffset) "[%z]" 2, gives 2 "[]")
+    -- all else is written as it stands, whatever the offset is
+    ∷ (writes (momentAt 1934 3 5 23 50 9 (Minutes (negsuc 29))) "%F %T" 19, gives 19 "1934-03-05 23:50:09")
+    ∷ (writes (momentAt 1934 3 5 0 20 9 (Minutes (pos 90))) "%F %T" 19, gives 19 "1934-03-05 00:20:09")
     -- the offset is taken off; second 60 counts as the next; more than nine digits, and more than 32 bits hold
     ∷ (writes (momentAt 1970 1 1 0 0 0 (Minutes (pos 0))) "%s" 1, gives 1 "0")
     ∷ (writes (momentAt 1970 1 1 0 0 0 (Minutes (pos 90))) "%s" 5, gives 5 "-5400")
@@ -91,11 +106,16 @@ writeCases =
     ∷ (writes (momentAt 2001 9 9 1 46 39 (Minutes (pos 0))) "%s" 9, gives 9 "999999999")
     ∷ (writes (momentAt 1 1 1 0 0 0 (Minutes (pos 1439))) "%s" 12, gives 12 "-62135683140")
     ∷ (writes (momentAt 2106 2 7 6 28 16 (Minutes (pos 0))) "%s" 10, gives 10 "4294967296")
-    -- 12 at the first %s, after 3 and before 4
+    -- 12 at the first %s, after 2 and 3 and before 4
+    ∷ (writes (momentAt 1934 13 5 7 8 9 NoOffset) "%s" 3, 2 ∷ 2 ∷ bytes "###")
     ∷ (writes (at NoOffset) "%d%s%s" 3, 12 ∷ 2 ∷ bytes "###")
     ∷ (writes (at NoOffset) "%c %%s %s" 0, 12 ∷ 7 ∷ [])
     ∷ (writes (at NoOffset) "%s%Q" 3, 3 ∷ 2 ∷ bytes "###")
     ∷ (writes (at (Minutes (pos 0))) "%s" 3, 4 ∷ 11 ∷ bytes "###")
+    -- so too by elements, %s with its % at 5: 3 by the index of the second, which is none, then 12 by that %
+    ∷ (writesBy (at NoOffset) (secondsAt 5 ∷ 300 ∷ []) 3, 3 ∷ 1 ∷ bytes "###")
+    ∷ (writesBy (at NoOffset) (88 ∷ secondsAt 5 ∷ secondsAt 9 ∷ []) 0, 12 ∷ 5 ∷ [])
+    ∷ (writesBy (at (Minutes (pos 0))) (88 ∷ secondsAt 5 ∷ []) 3, 4 ∷ 12 ∷ bytes "###")
     -- 2 at place 7, the last field
     ∷ (writes (at (Minutes (pos 1440))) "%Y" 4, 2 ∷ 7 ∷ bytes "####")
     ∷ (writes (at (Minutes (negsuc 1439))) "%Q" 4, 2 ∷ 7 ∷ bytes "####")
@@ -104,6 +124,8 @@ writeCases =
     ∷ (writes (at (Minutes (pos 0))) "%5z" 3, 3 ∷ 0 ∷ bytes "###")
     ∷ (writes (at NoOffset) "%d%_s" 3, 3 ∷ 2 ∷ bytes "###")
     ∷ (writes (at (Minutes (pos 0))) "%Ez" 3, 3 ∷ 0 ∷ bytes "###")
+    ∷ (writes (at (Minutes (pos 0))) "%Oz" 3, 3 ∷ 0 ∷ bytes "###")
+    ∷ (writes (at (Minutes (pos 0))) "%Es" 3, 3 ∷ 0 ∷ bytes "###")
     ∷ (writes (at (Minutes (pos 0))) "%Os" 3, 3 ∷ 0 ∷ bytes "###")
     ∷ []
 
@@ -131,9 +153,15 @@ readCases =
     ∷ (reads "+00000" "%z", done 5 (pos 0))
     ∷ (reads "07:08 +0130" "%H:%M %z", done 11 (pos 90))
     ∷ (reads "-0000+0000" "%z%z", done 10 (pos 0))
-    -- 6: no sign, a blank before it, a digit too few; 7: hours, minutes; 8: another offset; each at the sign
+    -- 6: no sign, another byte, a blank before it or after it, a digit too few, before any range; 7: hours, minutes; 8: another offset;
+    -- each at the sign
     ∷ (reads "0130" "%z", refused 6 0)
+    ∷ (reads "Z" "%z", refused 6 0)
+    ∷ (reads ",0130" "%z", refused 6 0)
     ∷ (reads " +0130" "%z", refused 6 0)
+    ∷ (reads "+ 0130" "%z", refused 6 0)
+    ∷ (reads "+01:30" "%z", refused 6 0)
+    ∷ (reads "+99" "%z", refused 6 0)
     ∷ (reads "7+130" "%H%z", refused 6 1)
     ∷ (reads "7" "%H%z", refused 6 1)
     ∷ (reads "7+2400" "%H%z", refused 7 1)
@@ -141,12 +169,15 @@ readCases =
     ∷ (reads "+0130 -0130" "%z %z", refused 8 6)
     -- a refused reading hands out none
     ∷ (reads "+0130 7 PM" "%z %H %p", refused 9 2)
-    -- %s is not read
+    -- no flag, no width, no E and no O; %s is not read
+    ∷ (reads "+0130" "%5z", refused 3 0)
+    ∷ (reads "+0130" "%Ez", refused 3 0)
+    ∷ (reads "+0130" "%Oz", refused 3 0)
     ∷ (reads "0" "%s", refused 3 0)
     ∷ (reads "" "%%s%s", refused 3 3)
     ∷ []
 
 -- everything here, for the proof that computes
 unfoldable pub computes : Unit {0}
-unfolding momentAt at writes gives writeCases reads done refused readCases
+unfolding momentAt at writes writesBy secondsAt gives writeCases reads done refused readCases
 computes = tt

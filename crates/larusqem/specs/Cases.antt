@@ -1,8 +1,9 @@
--- The words of answers worked out (RULES 10.3), each beside what it must be.
+-- The words of moments and of answers worked out (RULES 10.3), each beside what it must be.
 use Prim.Native.Nat.{ℕ}
 use mathlib.Core.List.{List, [], _∷_}
 use lib.IntN.{pos, negsuc}
 use Rattle.calendar.specs.Calendar.{date}
+use Rattle.strftime.specs.declared.Fields.{Fields}
 use Rattle.strptime.specs.Answers.{readingOf}
 use Rattle.matching.specs.Steps.{both}
 use Rattle.strptime.specs.declared.Answer.{Answer}
@@ -12,7 +13,7 @@ use Rattle.strptime.specs.declared.Said.the-variants.{Unsaid, Is}
 use Rattle.text.specs.declared.names.NameForm.the-variants.{NoName, Full, Middle, Short}
 use Rattle.values.specs.declared.offsets.Offset.{Offset}
 use Rattle.values.specs.declared.offsets.Offset.the-variants.{Unsaid as NoOffset, Minutes}
-use Rattle.larusqem.specs.Words.{offsetFrom, wordsOf}
+use Rattle.larusqem.specs.Words.{fieldsOf, wordsOf}
 
 -- the words of an answer, and what they must be
 abbrev pub Case : Type 0
@@ -21,14 +22,22 @@ Case = List ℕ × List ℕ
 abbrev words : Answer → List ℕ
 words a = wordsOf (readingOf a)
 
--- the zone offset of a moment's words: unsaid, whatever the second word is; east, west, and beyond what a moment takes
-unfoldable pub offsetCases : List (Offset × Offset)
-offsetCases =
-    (offsetFrom 0 90, NoOffset)
-    ∷ (offsetFrom 1 90, Minutes (pos 90))
-    ∷ (offsetFrom 2 4294967266, Minutes (negsuc 29))
-    ∷ (offsetFrom 1 2147483647, Minutes (pos 2147483647))
-    ∷ (offsetFrom 1 2147483648, Minutes (negsuc 2147483647))
+-- the fields of a moment's eight words, of which the last two are given
+abbrev fields : ℕ → ℕ → Fields
+fields said w = fieldsOf (1934 ∷ 3 ∷ 5 ∷ 7 ∷ 8 ∷ 9 ∷ said ∷ w ∷ [])
+
+-- 1934-03-05 07:08:09 at an offset
+abbrev at : Offset → Fields
+at o = record { year = 1934; month = 3; day = 5; hour = 7; minute = 8; second = 9; offset = o }
+
+-- the offset is unsaid, whatever the last word is; east, west, and beyond what a moment takes
+unfoldable pub momentCases : List (Fields × Fields)
+momentCases =
+    (fields 0 90, at NoOffset)
+    ∷ (fields 1 90, at (Minutes (pos 90)))
+    ∷ (fields 2 4294967266, at (Minutes (negsuc 29)))
+    ∷ (fields 1 2147483647, at (Minutes (pos 2147483647)))
+    ∷ (fields 1 2147483648, at (Minutes (negsuc 2147483647)))
     ∷ []
 
 unfoldable pub wordCases : List Case
