@@ -22,7 +22,7 @@
  *
  * The calendar is Gregorian from 0001-01-01 to 9999-12-31. The conversions of a format are
  *   %Y %C %y %m %b %h %B %d %e %j %u %w %a %A %U %W %G %g %V %H %k %I %l %p %P %M %S
- *   %z, the zone offset, and %s, the seconds from 1970, which the writer alone takes (see "Zone offsets")
+ *   %z, the zone offset; for the writer alone %s, the seconds from 1970 (see "Zone offsets")
  *   %n %t %%, which are a newline, a tab and the sign
  *   %c %x %X %D %F %R %T %r, composites of the others
  *   %Ec %EC %Ex %EX %Ey %EY %Od %Oe %OH %OI %Om %OM %OS %Ou %OU %OV %Ow %OW %Oy, which mean the plain conversion.
@@ -115,7 +115,7 @@ static inline const char *larusqem_sentence(uint32_t number)
     case LARUSQEM_BAD_MOMENT:
         return "the moment is not valid";
     case LARUSQEM_BAD_CONVERSION:
-        return "a conversion of the format is unknown or unfinished, or its flag or width is not taken";
+        return "a conversion of the format is unknown, unfinished or not for reading, or its flag or width is not taken";
     case LARUSQEM_BUFFER_TOO_SMALL:
         return "the output is longer than the buffer";
     case LARUSQEM_TEXT_TOO_LONG:
@@ -154,7 +154,7 @@ enum larusqem_form {
     LARUSQEM_SHORT_NAME = 3
 };
 
-/* ---- Zone offsets (RULES 6.6)
+/* ---- Zone offsets (RULES 2, RULES 5, RULES 6.6)
  *
  * A zone offset is how many minutes a time is ahead of UTC, -1439 to 1439, or unsaid.
  *   %z   writes a sign, two digits of hours and two of minutes, as +0130 for 90 and -0030 for -30. Zero is +0000; unsaid writes nothing.

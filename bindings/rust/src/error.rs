@@ -128,7 +128,7 @@ impl From<FieldError> for ParseError {
 pub enum FormatError {
     /// 1: it has more than 1,024 bytes.
     TooLong,
-    /// 3: a conversion is unknown or unfinished, or its flag or width is not taken.
+    /// 3: a conversion is unknown, unfinished or not for reading, or its flag or width is not taken.
     BadConversion {
         /// Where its `%` stands in the format.
         offset: usize,
@@ -158,7 +158,7 @@ impl fmt::Display for FormatError {
         match self {
             FormatError::TooLong => write!(f, "the format has more than 1024 bytes"),
             FormatError::BadConversion { offset } => {
-                write!(f, "unknown or unfinished conversion, or a flag or width that is not taken, at byte {offset} of the format")
+                write!(f, "unknown or unfinished conversion, or one, a flag or a width that is not taken, at byte {offset} of the format")
             }
         }
     }

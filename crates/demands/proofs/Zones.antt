@@ -74,7 +74,8 @@ use Rattle.strptime.specs.declared.Said.the-variants.{Unsaid}
 use Rattle.demands.specs.Columns.{Writes}
 use Rattle.demands.proofs.Seconds.{no-seconds}
 use Rattle.demands.specs.Offsets as cases
-use Rattle.demands.specs.Offsets.{Zoned, ZoneRule, Ignored, Case, Answer, writeCases, readCases}
+use Rattle.demands.specs.Offsets.{Zoned, ZoneRule, Ignored, Answer, writeCases, readCases}
+use Rattle.demands.specs.Starred.{Case}
 
 -- ---- the cases
 

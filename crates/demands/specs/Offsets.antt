@@ -3,7 +3,6 @@
 use Prim.Native.Char.{code}
 use Prim.Native.Nat.{ℕ}
 use Prim.Native.String.{String}
-use mathlib.Core.Bool.{true}
 use mathlib.Core.List.{List, [], _∷_}
 use mathlib.Core.Path.{_≡_}
 use lib.IntN.{ℤ, pos, negsuc}
@@ -17,17 +16,18 @@ use Rattle.judge.specs.Engines.{searched}
 use Rattle.judge.specs.declared.Engine.{Engine}
 use Rattle.matching.specs.Steps.{noted}
 use Rattle.values.specs.Moments.{momentOf}
-use Rattle.values.specs.Offsets.{isOffset}
 use Rattle.values.specs.declared.Moment.{Moment}
 use Rattle.values.specs.declared.MomentFields.the-variants.{Valid}
 use Rattle.values.specs.declared.offsets.Offset.{Offset}
 use Rattle.values.specs.declared.offsets.Offset.the-variants.{Unsaid as NoOffset, Minutes}
-use Rattle.strftime.specs.Writing.{writing, elementsWriting}
+use Rattle.strftime.specs.Writing.{elementsWriting}
 use Rattle.strftime.specs.declared.Fields.{Fields}
 use Rattle.strptime.specs.Answers.{finished, reading}
 use Rattle.strptime.specs.declared.Day.the-variants.{NoDate}
 use Rattle.strptime.specs.declared.Said.the-variants.{Unsaid}
 use Rattle.demands.specs.Columns.{Writes}
+use Rattle.demands.specs.Starred as starred
+use Rattle.demands.specs.Starred.{Case, writes, gives}
 
 -- ---- %z
 
@@ -62,13 +62,7 @@ momentAt y m d h n s o = record { year = y; month = m; day = d; hour = h; minute
 unfoldable pub at : Offset → Fields
 at o = momentAt 1934 3 5 7 8 9 o
 
--- what a writing comes to in a buffer of n bytes, each # before: the number, the place, and the buffer
-unfoldable pub writes : Fields → String → ℕ → List ℕ
-writes t f n =
-    let w = writing (bytes f) t (replicate n 35) in
-    w .answer .number ∷ w .answer .place ∷ w .buffer
-
--- likewise by elements
+-- what a writing by elements comes to, as `writes` tells it of one by a format
 unfoldable pub writesBy : Fields → List ℕ → ℕ → List ℕ
 writesBy t es n =
     let w = elementsWriting es t (replicate n 35) in
@@ -77,13 +71,6 @@ writesBy t es n =
 -- the element of a %s whose % is at an offset
 unfoldable pub secondsAt : ℕ → ℕ
 secondsAt p = conversionAt p unstyled (code "s")
-
-abbrev pub Case : Type 0
-Case = List ℕ × List ℕ
-
--- 0, the bytes written, and the text
-unfoldable pub gives : ℕ → String → List ℕ
-gives n s = 0 ∷ n ∷ bytes s
 
 unfoldable pub writeCases : List Case
 writeCases =
@@ -179,5 +166,5 @@ readCases =
 
 -- everything here, for the proof that computes
 unfoldable pub computes : Unit {0}
-unfolding momentAt at writes writesBy secondsAt gives writeCases reads done refused readCases
+unfolding starred.computes momentAt at writesBy secondsAt writeCases reads done refused readCases
 computes = tt

@@ -24,7 +24,7 @@ letters = bytes "YCymdjuUWGgVHIp"
 unfoldable pub letterFor : ℕ → ℕ
 letterFor k = getD letters (k - 1) 0
 
--- the conversion of kind k is written, into nine bytes, as many as a conversion without a width writes at the most
+-- the conversion of kind k is written, into nine bytes, as many as one of these letters writes at the most
 unfoldable pub wrote : ℕ → Fields → Result
 wrote k t = writing (code "%" ∷ letterFor k ∷ []) t (replicate 9 0)
 

@@ -12,7 +12,7 @@ use lib.Dec.{leb}
 use lib.ListN.{length, getD, List·getD-eq-default}
 use Rattle.laws.proofs.Cases.{either, picked, clash}
 use Rattle.format.specs.Conversions.{among, isConversion}
-use Rattle.format.specs.Opening.{flags, letterOf, afterSign, isPlain, styleOf, takesFlag, isUnstyled, bare}
+use Rattle.format.specs.Opening.{flags, letterOf, afterSign, isPlain, styleOf, isUnstyled}
 use Rattle.format.specs.Opening.{takesStyle, isRead, isTaken, isElement, elementsIn, entryPlace}
 use Rattle.format.specs.Private.{takesLetter}
 use Rattle.format.specs.declared.opening.Side.{Side}
@@ -64,11 +64,11 @@ module _ (e : ℕ) (side : Side) where
 
 -- without flag and width: what the side takes
 plain-taken : (side : Side) (e : ℕ) → e < 262144 → takesLetter side (letterOf e) ≡ isTaken side e
-unfolding isTaken takesLetter among takesStyle isUnstyled takesFlag
+unfolding isTaken takesLetter among takesStyle isUnstyled
 plain-taken Writer e h =
     let f : e / 33554432 ≡ 0 = omega arith in
     let w : e / 262144 % 128 ≡ 0 = omega arith in
-    rw (f, w) (picked (λ (t : Bool). true ≡ t) (among (letterOf e) bare) refl refl)
+    rw (f, w)
 plain-taken Reader e h = rw (lt-ltb e 262144 h)
 
 pub plain-is : (e : ℕ) (side : Side) → 256 ≤ e → e < 262144 → {t : Bool}

@@ -1,6 +1,6 @@
 -- Sets of letters as the code holds them: that a number is the set of some letters is one test over all bytes below 128.
 -- Assumes nothing.
-use Prim.Native.Nat.{ℕ, _≤_}
+use Prim.Native.Nat.{ℕ, _≤_, _<_}
 use mathlib.Core.Bool.{Bool, true, false, cond, not, _&&_}
 use mathlib.Core.List.{List, [], _∷_}
 use mathlib.Core.Path.{_≡_, refl, sym, _∙_}
@@ -49,6 +49,14 @@ set-of set s t u b =
       | yes h ↦ holds-past set b h ∙ sym (among-past 128 s u b h)
       | no h ↦ same→eq (holds set b) (among b s) (at (agree set s) 128 t b (lt-of-not-le h))
     ]
+
+-- a number is the set of the bytes that pass a test
+abbrev passes : (ℕ → Bool) → ℕ → ℕ → Bool
+passes p set b = same (holds set b) (p b)
+
+-- what `holds` answers of a byte is whether it passes
+pub is-passed : (p : ℕ → Bool) (set b : ℕ) {r : Bool} → r ≡ holds set b → b < 256 → T (all (passes p set) 256) → r ≡ p b
+is-passed p set b e h t = e ∙ same→eq (holds set b) (p b) (at (passes p set) 256 t b h)
 
 -- what `holds` answers of a byte is whether it is among the letters
 pub is-among : (s : List ℕ) (set b : ℕ) {r : Bool} → r ≡ holds set b → T (all (agree set s) 128) → T (below 128 s) → r ≡ among b s

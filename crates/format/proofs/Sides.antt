@@ -19,10 +19,10 @@ use Rattle.text.specs.Digits.{isDigit, digitRun, decimal}
 use Rattle.format.specs.Conversions.{Composite, among, isConversion, composites, formatOf, ownFormat}
 use Rattle.format.specs.Conversions.{computes as rows-compute}
 use Rattle.format.specs.Opening.{Ended, Opening, unstyled, conversionAt, letter, piece, conversion, flags, flagRun, widthRun}
-use Rattle.format.specs.Opening.{isUnstyled, bare, takesStyle, withStyle, isRead, toRead, styled, signed, pieceOf}
+use Rattle.format.specs.Opening.{isUnstyled, takesStyle, withStyle, isRead, toRead, styled, signed, pieceOf}
 use Rattle.format.specs.Opening.{nothing, before, composed, acted, signAt}
 use Rattle.format.specs.Opening.{openFrom, compositeTo, openTo, opening, longest, mostElements, isByte, letterOf, afterSign}
-use Rattle.format.specs.Opening.{styleFrom, takesFlag, isTaken, isElement, elementsIn, entryPlace, computes}
+use Rattle.format.specs.Opening.{styleFrom, isTaken, isElement, elementsIn, entryPlace, computes}
 use Rattle.format.specs.Opening.Ended.{Whole, BadAt}
 use Rattle.format.specs.declared.opening.Act.{Act}
 use Rattle.format.specs.declared.opening.Act.the-variants.{Byte, Convert, Open, Refuse}
@@ -81,10 +81,9 @@ data Pieces (w r : Piece) : Type 0 where
   writer : (c : ℕ) (y : Style) → reads c y ≡ false → isConversion c ≡ true → w .act ≡ Convert c y → r .act ≡ Refuse → Pieces w r
 
 no-style : (a : Act) → Unstyled a → withStyle unstyled a ≡ a
-unfolding withStyle isUnstyled takesStyle takesFlag
+unfolding withStyle isUnstyled takesStyle
 no-style (Byte b) u = refl
-no-style (Convert c x) u =
-    rw (u .1) (picked (λ (t : Bool). cond t (Convert c unstyled) Refuse ≡ Convert c unstyled) (among c bare) refl refl)
+no-style (Convert c x) u = rw (u .1)
 no-style (Open c) u = refl
 no-style Refuse u = refl
 
@@ -390,7 +389,7 @@ module _ (sign c : ℕ) (y : Style) (h : sign + 1 < longest) (k : isConversion c
 -- a format of bytes that is not too long
 module _ (f : List ℕ) (short : length f ≤ longest) (bytes : every isByte f ≡ true)
     (a : Apart (length f) (opening Writer f) (opening Reader f)) where
-  -- the writer's elements, the reader's before the first with a flag or a width, and that one
+  -- the writer's elements, the reader's before the first that the reader does not take, and that one
   abbrev all : List ℕ
   all = opening Writer f .elements
 

@@ -91,6 +91,18 @@ isNumber Zone = false
 isNumber Seconds = false
 isNumber Unknown = false
 
+-- a form of letters, in either case (%p and %P are names too)
+unfoldable pub isName : Form → Bool
+isName Zeros = false
+isName Blanks = false
+isName FromSunday = false
+isName (Short t) = true
+isName (Full t) = true
+isName (Lower t) = true
+isName Zone = false
+isName Seconds = false
+isName Unknown = false
+
 -- ---- composites
 
 -- a letter and its own format
@@ -128,5 +140,5 @@ isComposite b = among b (map (λ (x : Composite). x .letter) composites)
 
 -- everything here, for proofs that compute
 unfoldable pub computes : Unit {0}
-unfolding bytes among rows find conversionOf isConversion isNumber composites formatOf ownFormat isComposite
+unfolding bytes among rows find conversionOf isConversion isNumber isName composites formatOf ownFormat isComposite
 computes = tt

@@ -8,8 +8,7 @@ use lib.ListN.{length, getD, drop}
 use lib.Seq.{sets}
 use Rattle.laws.specs.Bytes.{bytes}
 use Rattle.text.specs.Digits.{isDigit, digitRun, decimal}
-use Rattle.format.specs.Conversions.{among, isConversion, conversionOf, isNumber, isComposite, ownFormat}
-use Rattle.format.specs.declared.conversions.Form.{Form}
+use Rattle.format.specs.Conversions.{among, isConversion, conversionOf, isNumber, isName, isComposite, ownFormat}
 use Rattle.format.specs.declared.opening.Act.{Act}
 use Rattle.format.specs.declared.opening.Act.the-variants.{Byte, Convert, Open, Refuse}
 use Rattle.format.specs.declared.opening.Opened.{Opened}
@@ -109,20 +108,18 @@ widthRun (b ∷ s) = cond (eqb b (code "0")) [] (digitRun 2 (b ∷ s))
 unfoldable pub styleFrom : List ℕ → List ℕ → Style
 styleFrom flag width = record { flag = getD flag 0 0; width = decimal 0 width }
 
--- ^ belongs to names (with %p and %P), the other flags to numbers; both go without one too
-unfoldable pub takesFlag : ℕ → Form → Bool
-takesFlag flag f = cond (eqb flag 0) true (cond (eqb flag (code "^")) (not (isNumber f)) (isNumber f))
-
 unfoldable pub isUnstyled : Style → Bool
 isUnstyled y = eqb (y .flag) 0 && eqb (y .width) 0
 
--- the letters that take neither flag nor width
-unfoldable pub bare : List ℕ
-bare = bytes "zs"
-
--- a conversion takes a flag and a width
+-- A conversion takes a flag and a width: ^ belongs to names, the other flags to numbers, a width to both. What is neither, %z and %s, takes
+-- nothing.
 unfoldable pub takesStyle : Style → ℕ → Bool
-takesStyle y c = cond (among c bare) (isUnstyled y) (takesFlag (y .flag) (conversionOf c .form))
+takesStyle y c =
+    let f = conversionOf c .form in
+    cond (isUnstyled y) true
+    (cond (eqb (y .flag) 0) (isName f || isNumber f)
+    (cond (eqb (y .flag) (code "^")) (isName f)
+    (isNumber f)))
 
 -- what stands after a flag and a width: a conversion that takes them, else nothing may stand before it
 unfoldable pub withStyle : Style → Act → Act
@@ -268,7 +265,7 @@ entryPlace es k = let e = getD es k 0 in cond (isElement Writer e && not (isElem
 
 -- everything here, for proofs that compute
 unfoldable pub computes : Unit {0}
-unfolding after-E after-O letter paired conversion flags flagRun widthRun styleFrom takesFlag isUnstyled bare takesStyle
+unfolding after-E after-O letter paired conversion flags flagRun widthRun styleFrom isUnstyled takesStyle
     withStyle styled isRead toRead signed
     pieceOf nothing before composed acted signAt openFrom compositeTo openTo opening closed opened openedInto isTaken isElement elementsIn
     entryPlace isDigit digitRun decimal

@@ -1,19 +1,16 @@
-use crate::conversions::Form;
-use crate::conversions::conversion_of;
 use text::Digits;
 use text::read_digits;
 ghost use mathlib.Core.Path.{_≡_};
-ghost use mathlib.Core.Bool.{cond, _&&_};
+ghost use mathlib.Core.Bool.{cond, not, _&&_};
 ghost use mathlib.Core.List.{List, _∷_};
 ghost use Prim.Native.Nat.{ℕ, min, _+_, _≤_, _<_};
 ghost use lib.Dec.{eqb};
 ghost use lib.ListN.{length, getD, take, drop, set};
 ghost use lib.Seq.{sets};
 ghost use Rattle.text.specs.Digits.{decimal};
-ghost use Rattle.format.specs.Conversions.{among, isConversion, isNumber, ownFormat};
+ghost use Rattle.format.specs.Conversions.{among, isConversion, ownFormat};
 ghost use Rattle.format.specs.Opening.{longest, conversionAt, letter, paired, conversion, flags, flagRun, widthRun};
-ghost use Rattle.format.specs.Opening.{takesFlag, takesStyle, isRead};
-ghost use Rattle.format.specs.Opening.{isUnstyled};
+ghost use Rattle.format.specs.Opening.{isUnstyled, takesStyle, isRead};
 ghost use Rattle.format.specs.Opening.{withStyle, toRead, styled, signed, pieceOf, signAt, openTo, opened, openedInto, mostElements};
 ghost use Rattle.format.specs.Opening.{styleOf, isElement, elementsIn, entryPlace};
 ghost use Rattle.format.specs.Private.{holds, SetOf, takesLetter, CanOpen, answered};
@@ -27,7 +24,7 @@ pub const MOST_ELEMENTS: usize = 6656;
 // An element below this has neither flag nor width.
 pub const PLAIN: u32 = 262144;
 
-// The side that a format is opened for: the writer takes flags and widths, the reader none.
+// The side that a format is opened for: the writer takes flags, widths and %s, the reader none of them.
 pub enum Side {
     Writer,
     Reader,
@@ -73,6 +70,12 @@ struct Own([u8; 14], usize);
 
 // ABCGHIMPSUVWY abdeghjklmpsuwyz
 const CONVERSIONS: u64 = 0x06a9_3db6_02e9_238e;
+
+// CGHIMSUVWY degjklmuwy: the numbers among them
+const NUMBERS: u64 = 0x02a0_3cb0_02e8_2388;
+
+// ABP abhp: the names among them
+const NAMES: u64 = 0x0001_0106_0001_0006;
 
 // DFRTX crx
 const COMPOSITES: u64 = 0x0104_0008_0114_0050;
@@ -203,33 +206,6 @@ fn width_at(s: &[u8]) -> Digits
     read_digits(s, 0, 2)
 }
 
-fn is_number(form: Form) -> bool
-    ensures { λ r. ⌜ r ≡ isNumber form ⌝ }
-{
-    match form {
-        Form::Zeros => true,
-        Form::Blanks => true,
-        Form::FromSunday => true,
-        Form::Short(_) => false,
-        Form::Full(_) => false,
-        Form::Lower(_) => false,
-        Form::Zone => false,
-        Form::Seconds => false,
-        Form::Unknown => false,
-    }
-}
-
-// Whether a flag belongs to a form.
-fn takes_flag(flag: u8, form: Form) -> bool
-    ensures { λ r. ⌜ r ≡ takesFlag flag form ⌝ }
-{
-    match flag {
-        0 => true,
-        b'^' => !is_number(form),
-        _ => is_number(form),
-    }
-}
-
 fn is_unstyled(style: Style) -> bool
     ensures { λ r. ⌜ r ≡ isUnstyled style ⌝ }
 {
@@ -240,14 +216,19 @@ fn is_unstyled(style: Style) -> bool
 fn takes_style(style: Style, letter: u8) -> bool
     ensures { λ r. ⌜ r ≡ takesStyle style letter ⌝ }
 {
-    match letter {
-        b'z' => is_unstyled(style),
-        b's' => is_unstyled(style),
-        _ => {
-            let conversion = conversion_of(letter);
-            let form = conversion.form;
-            takes_flag(style.flag, form)
+    if is_unstyled(style) {
+        return true;
+    }
+    let flag = style.flag;
+    match flag {
+        0 => {
+            if holds(NAMES, letter) {
+                return true;
+            }
+            holds(NUMBERS, letter)
         }
+        b'^' => holds(NAMES, letter),
+        _ => holds(NUMBERS, letter),
     }
 }
 
@@ -312,31 +293,24 @@ fn is_read(letter: u8) -> bool
     letter != b's'
 }
 
-// What the reader takes of a conversion without flag and width.
-fn to_read(act: Act) -> Act
-    ensures { λ r. ⌜ r ≡ toRead act ⌝ }
+// What a letter right after % stands for, where both sides take it.
+fn read_letter(b: u8) -> Act
+    ensures { λ r. ⌜ r ≡ toRead (letter b) ⌝ }
 {
-    match act {
-        Act::Byte(b) => Act::Byte(b),
-        Act::Convert { letter, style } => {
-            if is_read(letter) {
-                return Act::Convert { letter, style };
-            }
-            Act::Refuse
-        }
-        Act::Open(c) => Act::Open(c),
-        Act::Refuse => Act::Refuse,
+    if is_read(b) {
+        return letter(b);
     }
+    Act::Refuse
 }
 
-fn readable(piece: Piece) -> Piece
-    ensures { λ r. ⌜ r ≡ record { act = toRead (piece .act); length = piece .length } ⌝ }
+// Whether an s stands first.
+fn begins_seconds(s: &[u8]) -> bool
+    ensures { λ r. ⌜ r ≡ not (isRead (getD (now (s .entry)) 0 0)) ⌝ }
 {
-    let act = piece.act;
-    Piece {
-        act: to_read(act),
-        length: piece.length,
+    if s.len() == 0 {
+        return false;
     }
+    !is_read(s[0])
 }
 
 // What stands after %.
@@ -345,7 +319,15 @@ fn signed(side: Side, s: &[u8]) -> Piece
 {
     match side {
         Side::Writer => styled(s),
-        Side::Reader => readable(conversion(s)),
+        Side::Reader => {
+            if begins_seconds(s) {
+                return Piece {
+                    act: Act::Refuse,
+                    length: 2,
+                };
+            }
+            conversion(s)
+        }
     }
 }
 
@@ -368,7 +350,7 @@ fn piece_at(side: Side, format: &[u8], at: usize) -> Piece
             length: 1,
         };
     }
-    let act = to_read(letter(format[next]));
+    let act = read_letter(format[next]);
     let Act::Refuse = act else {
         return Piece { act, length: 2 };
     };

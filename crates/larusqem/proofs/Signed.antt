@@ -101,6 +101,3 @@ module _ (z : ℤ) (f : SFits w32 z) where
           go : (z : ℤ) → isNegative z ≡ false → natAbs z ≡ wordOf z
           go (pos k) r = unfold wordOf in refl
           go (negsuc k) r = clash cc
-
-      pub positive-few : t ≡ false → n < 2 ^ 32
-      positive-few p = omega (arith, size-most)

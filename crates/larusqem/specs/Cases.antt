@@ -34,6 +34,7 @@ at o = record { year = 1934; month = 3; day = 5; hour = 7; minute = 8; second = 
 unfoldable pub momentCases : List (Fields × Fields)
 momentCases =
     (fields 0 90, at NoOffset)
+    ∷ (fields 1 0, at (Minutes (pos 0)))
     ∷ (fields 1 90, at (Minutes (pos 90)))
     ∷ (fields 2 4294967266, at (Minutes (negsuc 29)))
     ∷ (fields 1 2147483647, at (Minutes (pos 2147483647)))
@@ -51,6 +52,11 @@ wordCases =
     ∷ (
       words (Done 18 (On (date 1934 9 5)) Unsaid Unsaid (Is 0) (Minutes (pos 90)) (both NoName Full) 30),
       0 ∷ 18 ∷ 1934 ∷ 9 ∷ 5 ∷ 0 ∷ 0 ∷ 0 ∷ 0 ∷ 1 ∷ 0 ∷ 0 ∷ 0 ∷ 0 ∷ 0 ∷ 30 ∷ 0 ∷ 1 ∷ 1 ∷ 90 ∷ [],
+    )
+    -- +0000 alone: said, and zero
+    ∷ (
+      words (Done 5 NoDate Unsaid Unsaid Unsaid (Minutes (pos 0)) (both NoName NoName) 0),
+      0 ∷ 5 ∷ 0 ∷ 0 ∷ 0 ∷ 0 ∷ 0 ∷ 0 ∷ 0 ∷ 0 ∷ 0 ∷ 0 ∷ 0 ∷ 0 ∷ 0 ∷ 0 ∷ 0 ∷ 0 ∷ 1 ∷ 0 ∷ [],
     )
     -- nothing said, a refusal, two days, two hours
     ∷ (

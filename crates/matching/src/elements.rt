@@ -16,7 +16,7 @@ ghost use Prim.Native.Nat.{_≤_};
 ghost use lib.ListN.{length};
 ghost use Rattle.matching.specs.Elements.{readByte, readNumber, fromSunday, readNamed, readConversion, readElement};
 
-// What an element found: nothing to say, a fact with its form if it is a name and with the offset of its first digit or letter, or a
+// What an element found: nothing to say, a fact with its form if it is a name and with the offset of its first digit, letter or sign, or a
 // refusal with its place.
 pub enum Item {
     Skip {

@@ -1,5 +1,5 @@
--- What an element writes, and how long that is: at most nine bytes without a width, by one test over the table of conversions, and at most
--- its width or nine with one.
+-- What an element writes, and how long that is: without a width at most nine bytes, but for %s, by one test over the table of conversions;
+-- with one at most its width or nine.
 -- Assumes nothing.
 use Prim.Native.Nat.{ℕ, max, _+_, _*_, _/_, _%_, _^_, _≤_, _<_}
 use mathlib.Core.Bool.{Bool, true, cond, _&&_, and-eq-true-iff}
@@ -250,7 +250,7 @@ module _ (m : Moment) (i : IsMoment m) where
       element-most 127 e (lit≤ tt) (omega arith)
       (λ h. omega (arith, form-most (r .form) (r .width) (conversion-small (letterOf e) .width)))
 
-  -- elements without flags and widths: nine bytes each
+  -- elements for reading: nine bytes each
   pub text-most : (es : List ℕ) → every (isElement Reader) es ≡ true → length (text m es) ≤ 9 * length es
   unfolding text every
   text-most [] p = omega arith

@@ -48,7 +48,7 @@ whole-positive (negsuc n) e = clash cc
 
 -- ---- how long it is
 
-pub hours-length : (n : ℕ) → length (hoursMinutes n) ≡ 4
+hours-length : (n : ℕ) → length (hoursMinutes n) ≡ 4
 unfolding hoursMinutes
 hours-length n = rw length-append (omega (arith, filled-length 48 2 (n / 60), filled-length 48 2 (n % 60)))
 

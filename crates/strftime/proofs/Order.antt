@@ -16,20 +16,20 @@ use Rattle.laws.proofs.Cases.{either, clash}
 use Rattle.calendar.specs.Calendar.{date}
 use Rattle.format.specs.Opening.{opening, opened, openedInto, longest, mostElements, isElement, elementsIn}
 use Rattle.format.specs.declared.opening.Opened.{Opened}
-use Rattle.format.specs.declared.opening.Opened.the-variants.{Done as Opened-to}
+use Rattle.format.specs.declared.opening.Opened.the-variants.{Done as Opened-to, TooLong, Bad}
 use Rattle.format.specs.declared.opening.Side.{Side}
 use Rattle.format.specs.declared.opening.Side.the-variants.{Writer, Reader}
 use Rattle.format.proofs.Bound.{bound}
 use Rattle.format.proofs.Elements.{elements, are-bytes, read-letter}
 use Rattle.format.proofs.Entries.{counted-within, counted-all}
 use Rattle.format.proofs.Entry.{all-plain}
-use Rattle.format.proofs.Opened.{Opens, Breaks, opened-done, stored}
+use Rattle.format.proofs.Opened.{Opens, Breaks, opened-done, opened-bad, opened-long, stored}
 use Rattle.format.proofs.Sides.{same-opening}
 use Rattle.values.specs.Moments.{momentFault, momentOf}
 use Rattle.values.specs.declared.Moment.{Moment}
 use Rattle.values.specs.declared.MomentFields.{MomentFields}
 use Rattle.values.specs.declared.MomentFields.the-variants.{Valid, Bad}
-use Rattle.strftime.specs.Private.{momentWriting, IsMoment}
+use Rattle.strftime.specs.Private.{momentWriting, CanWrite, openedWriting, IsMoment}
 use Rattle.strftime.specs.Writing.{Result, text, writingOf, refused, put, isSeconds, firstSeconds, lacking, offered}
 use Rattle.strftime.specs.Writing.{byFormat, byElements}
 use Rattle.strftime.specs.Writing.{forMoment, forFields, writing, elementsWriting}
@@ -73,7 +73,7 @@ all-stored side f xs {ys = ys} {n = n} h a s e =
     let first = stored side f xs s o (omega (arith, o .count, o .short, bound side f)) in
     record { opens = o; room = omega (arith, o .count, ap length first, length-take n ys); first = first }
 
--- those of a format of bytes that was opened as for the reader have neither flags nor widths
+-- those of a format of bytes that was opened as for the reader have neither flags nor widths, and none is %s
 pub all-unstyled : (f : List ℕ) {n : ℕ} {ys : List ℕ} → ((k : ℕ) → getD f k 0 < 256) → Stored Reader f n ys
     → (length (take n ys) ≤ mostElements) × (every (isElement Reader) (take n ys) ≡ true)
 all-unstyled f b h =
@@ -125,6 +125,30 @@ module _ (f : List ℕ) (m : Moment) (b : List ℕ) where
       let same = same-opening f (h .opens .whole) in
       let all = rw (h .first) at (all-unstyled f k h .1) in
       rw (le-leb (length f) longest (h .opens .short), same, h .opens .whole, same, plain-offered _ b m all) (rw (h .first) at g)
+
+-- what opening a format answered, and stored in xs, which has room for 13 elements to two bytes
+module _ (f xs : List ℕ) (room : 13 * min longest (length f) ≤ 2 * length xs) {r : Opened} {ys : List ℕ} (a : r ≡ opened Writer f)
+    (s : ys ≡ openedInto Writer f xs) where
+  pub can-write : CanWrite r ys
+  can-write = go r refl
+    where
+      go : (o : Opened) → r ≡ o → CanWrite o ys
+      go (Opened-to n) e = let h = all-stored Writer f xs room a s e in (h .room, h .opens .few)
+      go TooLong e = tt
+      go (Bad p) e = tt
+
+  pub opened-format : (m : Moment) (b : List ℕ) {w : Writing} {c : List ℕ} → Gives w c (openedWriting r ys b m)
+      → Gives w c (momentWriting f m b)
+  unfolding openedWriting momentWriting byFormat
+  opened-format m b {w} {c} = go r refl
+    where
+      go : (o : Opened) → r ≡ o → Gives w c (openedWriting o ys b m) → Gives w c (momentWriting f m b)
+      go (Opened-to n) e g = whole-format f m b (all-stored Writer f xs room a s e) g
+      go TooLong e g = rw (lt-leb (length f) longest (opened-long Writer f a e)) g
+      go (Bad p) e g = let h = opened-bad Writer f a e in rw (le-leb (length f) longest (h .short), h .bad) g
+
+pub counted : (r : Opened) (es : List ℕ) {n : ℕ} → CanWrite r es → r ≡ Opened-to n → (n ≤ length es) × (n ≤ mostElements)
+counted r es w e = rw e at w
 
 -- ---- 12, then what is put
 

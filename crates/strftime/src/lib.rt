@@ -23,7 +23,7 @@ ghost use Prim.Native.Nat.{min, _-_, _*_, _≤_};
 ghost use lib.ListN.{length};
 ghost use Rattle.format.specs.Opening.{longest, afterSign, mostElements};
 ghost use Rattle.values.specs.Moments.{momentOf};
-ghost use Rattle.strftime.specs.Private.{momentWriting, IsMoment};
+ghost use Rattle.strftime.specs.Private.{momentWriting, CanWrite, openedWriting, IsMoment};
 ghost use Rattle.strftime.specs.Writing.{text, put, isSeconds, firstSeconds, lacking, offered, writingOf, writing, elementsWriting};
 
 pub struct Fields {
@@ -89,13 +89,13 @@ pub fn writing_of(w: Written) -> Writing
     }
 }
 
-// The most bytes that an element without flag and width writes; and no entry writes more than the seven bits of a width hold.
+// The most bytes that an element for reading writes; and no entry writes more than the seven bits of a width hold.
 const WIDEST: usize = 9;
 
 const WIDEST_STYLED: usize = 127;
 
 // Writes a moment by a format over the start of the buffer. A format that is not long is opened as for the reader first, into the smallest
-// array that has room for it: most have neither flags nor widths.
+// array that has room for it: most have neither flags nor widths nor %s.
 pub fn strftime(format: &[u8], fields: Fields, out: &mut [u8]) -> Written
     ensures { λ r. ⌜ writingOf r ≡ writing (now (format .entry)) fields (now (out .entry)) .answer ⌝ }
     ensures { λ _. ⌜ now (out .exit) ≡ writing (now (format .entry)) fields (now (out .entry)) .buffer ⌝ }
@@ -137,7 +137,7 @@ pub fn write_elements(elements: &[u32], fields: Fields, out: &mut [u8]) -> Writt
             if good < elements.len() {
                 return Written::BadConversion { at: good };
             }
-            write_any(elements, moment, out)
+            return write_any(elements, moment, out);
         }
     }
 }
@@ -150,7 +150,7 @@ fn moment_of(t: Fields) -> MomentFields
     Moment::from_fields(t.year, t.month, t.day, t.hour, t.minute, t.second, offset)
 }
 
-// Opens the format into `elements`, which has room for 13 to two bytes, and writes those where they have neither flags nor widths: such
+// Opens the format into `elements`, which has room for 13 to two bytes, and writes those where they are elements for reading too: such
 // need not be measured in a buffer of usual size.
 fn write_format(format: &[u8], moment: Moment, elements: &mut [u32], out: &mut [u8]) -> Written
     requires { ⌜ 13 * min longest (length (now format)) ≤ 2 * length (now elements) ⌝ }
@@ -172,25 +172,30 @@ fn write_styled(format: &[u8], moment: Moment, out: &mut [u8]) -> Written
 {
     if format.len() <= SHORT_BYTES {
         let mut elements = [0u32; SHORT_ELEMENTS];
-        return write_into(format, moment, &mut elements, out);
+        let opened = open(Side::Writer, format, &mut elements);
+        return write_by(opened, &elements, moment, out);
     }
     if format.len() <= MIDDLE_BYTES {
         let mut elements = [0u32; MIDDLE_ELEMENTS];
-        return write_into(format, moment, &mut elements, out);
+        let opened = open(Side::Writer, format, &mut elements);
+        return write_by(opened, &elements, moment, out);
     }
     let mut elements = [0u32; MOST_ELEMENTS];
-    write_into(format, moment, &mut elements, out)
+    let opened = open(Side::Writer, format, &mut elements);
+    write_by(opened, &elements, moment, out)
 }
 
-// Opens the format into `elements`, which has room for 13 to two bytes, and writes those.
-fn write_into(format: &[u8], moment: Moment, elements: &mut [u32], out: &mut [u8]) -> Written
-    requires { ⌜ 13 * min longest (length (now format)) ≤ 2 * length (now elements) ⌝ }
+// Writes a moment by what opening a format answered, and by the elements that it stored.
+fn write_by(opened: Opened, elements: &[u32], moment: Moment, out: &mut [u8]) -> Written
+    requires { ⌜ CanWrite opened (now elements) ⌝ }
     requires { ⌜ IsMoment moment ⌝ }
-    ensures { λ r. ⌜ writingOf r ≡ momentWriting (now (format .entry)) moment (now (out .entry)) .answer ⌝ }
-    ensures { λ _. ⌜ now (out .exit) ≡ momentWriting (now (format .entry)) moment (now (out .entry)) .buffer ⌝ }
+    ensures { λ r. ⌜ writingOf r ≡ openedWriting opened (now (elements .entry)) (now (out .entry)) moment .answer ⌝ }
+    ensures { λ _. ⌜ now (out .exit) ≡ openedWriting opened (now (elements .entry)) (now (out .entry)) moment .buffer ⌝ }
 {
-    match open(Side::Writer, format, elements) {
-        Opened::Done { count } => { write_any(&elements[..count], moment, out) }
+    match opened {
+        Opened::Done { count } => {
+            return write_any(&elements[..count], moment, out);
+        }
         Opened::TooLong => Written::FormatTooLong,
         Opened::Bad { at } => Written::BadConversion { at },
     }

@@ -24,7 +24,7 @@ module _ (e : Engine) (f : List ℕ) (short : length f ≤ longest) (bytes : eve
       let es = opening Reader f .elements in
       sym (entries-read e es s (sym (all-elements Reader f short bytes)) refl) ∙ format-read e f s short w
 
-  -- where the format has a flag or a width, both refuse it by 3 at the first
+  -- where the format has a flag, a width or %s, both refuse it by 3 at the first
   pub read-by-writers-elements : opening Writer f .ended ≡ Whole → (s : List ℕ)
       → elementsReadingBy e (opening Writer f .elements) s ≡ readingBy e f s
   read-by-writers-elements w s = go (sides f)

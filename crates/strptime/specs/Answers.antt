@@ -181,7 +181,7 @@ byFormat e f s = go (opening Reader f .ended)
     go (BadAt p) = refused 3 p
 
 -- The same by the elements of a format that was opened before: 3 at the first entry that is no element for reading. Its place is the
--- offset of its % where it has a flag or a width that the writer takes, else its index.
+-- offset of its % where it is an element for writing, else its index.
 unfoldable pub byElements : Engine → List ℕ → List ℕ → Reading
 byElements e es s =
     let good = elementsIn Reader mostElements es in

@@ -50,7 +50,7 @@ near-fits a h = record { sfits = omega (arith, mag-most a) }
 
 -- ---- a number below zero, and the opposite of the one after it
 
-pub negative-is : (z : ℤ) → isNegative z ≡ true → z ≡ negsuc (mag z)
+negative-is : (z : ℤ) → isNegative z ≡ true → z ≡ negsuc (mag z)
 negative-is (pos n) e = clash cc
 negative-is (negsuc n) e = refl
 

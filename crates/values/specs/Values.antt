@@ -1,4 +1,4 @@
--- The value of each kind of fact (RULES 5, RULES 7): what the writer writes and agreement compares.
+-- The value of kinds 1 to 17 of facts (RULES 5, RULES 7): what the writer writes and agreement compares.
 -- The kinds in order are the values of the conversions Y, C, y, m, d, j, u, U, W, G, g, V, H, I, p, M and S.
 use Prim.Native.Nat.{ℕ, _/_, _%_}
 use mathlib.Core.Bool.{cond}
@@ -55,7 +55,7 @@ hourValue k h =
     (cond (eqb k kinds.hourOfTwelve) (hourOfTwelve h)
     (cond (eqb k kinds.halfOfDay) (halfOfDay h) 0))
 
--- the value of kind k for a moment
+-- the value of kind k for a moment, 0 where there is none
 unfoldable pub value : ℕ → Moment → ℕ
 value k m =
     cond (leb k kinds.isoWeek) (dateValue k (m .date))

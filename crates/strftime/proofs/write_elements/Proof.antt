@@ -67,18 +67,18 @@ write-any-requires c κs =
     let i = is-moment _ (m .before .before .moment-of .ensures) (m .moment .given .1) in
     (omega (arith, counted-few Writer mostElements es, e .elements-in2 .ensures), i)
 
-returns-3 : tie.Need-returns-3
-returns-3 c = bad-fields _ (c .before .before .before .moment-of .ensures) _ _ (c .before .field .given .1)
-
 same-length-2 : tie.Need-same-length-2
 same-length-2 c = search needs
 
-returns-4 : tie.Need-returns-4
-returns-4 c =
+returns-3 : tie.Need-returns-3
+returns-3 c =
     let e = c .before .before .before .before .before in
     let m = e .before .before .before .before in
     all-elements _ (m .before .before .moment-of .ensures) _ _ (m .moment .given .1) (e .elements-in2 .ensures)
     (omega arith) (c .before .before .write-any .ensures)
+
+returns-4 : tie.Need-returns-4
+returns-4 c = bad-fields _ (c .before .before .before .moment-of .ensures) _ _ (c .before .field .given .1)
 
 pub write-elements-spec : {M : Type 1} → statement M
 write-elements-spec =
@@ -95,6 +95,6 @@ write-elements-spec =
     elements-in-requires-2
     returns-2
     write-any-requires
-    returns-3
     same-length-2
+    returns-3
     returns-4)

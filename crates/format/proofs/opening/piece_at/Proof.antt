@@ -30,14 +30,11 @@ returns-2 : tie.Need-returns-2
 unfolding pieceOf
 returns-2 c = rw (eq-eqb _ 37 (c .before .if1 .left)) (nothing-after _ _ (rw length-drop (omega arith)))
 
-shared-slice-read-letter : tie.Need-shared-slice-read-letter
-shared-slice-read-letter c = search needs
+shared-slice-read-read-letter : tie.Need-shared-slice-read-read-letter
+shared-slice-read-read-letter c = search needs
 
-letter-requires : tie.Need-letter-requires
-letter-requires c κs = search needs
-
-to-read-requires : tie.Need-to-read-requires
-to-read-requires c κs = search needs
+read-letter-requires : tie.Need-read-letter-requires
+read-letter-requires c κs = search needs
 
 enum-told : tie.Need-enum-told
 enum-told c = search needs
@@ -45,11 +42,11 @@ enum-told c = search needs
 returns-3 : tie.Need-returns-3
 unfolding pieceOf
 returns-3 c =
-    let l = c .before .before .before .before .before in
+    let l = c .before .before .before .before in
     let a = l .before .before .before .args in
     rw (eq-eqb _ 37 (l .if1 .left))
     (letter-after _ _ (λ (z : length (drop (a .at + 1) (a .format .now)) ≡ 0). omega (arith, length-drop (a .at + 1) (a .format .now)))
-    (c .before .to-read .ensures ∙ rw (c .before .before .letter .ensures, getD-drop (a .at + 1) (a .format .now) 0 0, add-zero))
+    (c .before .read-letter .ensures ∙ rw (getD-drop (a .at + 1) (a .format .now) 0 0, add-zero))
     (λ q. miss (0 ∷ 1 ∷ 2 ∷ []) _ tt (rw q at (c .match .keys2))))
 
 sub-signed : tie.Need-sub-signed
@@ -67,7 +64,7 @@ signed-requires c κs = search needs
 returns-4 : tie.Need-returns-4
 unfolding pieceOf
 returns-4 c =
-    let l = c .before .before .before .before .before .before .before in
+    let l = c .before .before .before .before .before .before in
     rw (eq-eqb _ 37 (l .before .if1 .left)) (rw rest at (c .signed .ensures))
 
 pub piece-at-spec : {M : Type 1} → statement M
@@ -78,9 +75,8 @@ piece-at-spec =
     returns
     add-next
     returns-2
-    shared-slice-read-letter
-    letter-requires
-    to-read-requires
+    shared-slice-read-read-letter
+    read-letter-requires
     enum-told
     returns-3
     sub-signed
