@@ -158,7 +158,7 @@ impl fmt::Display for FormatError {
         match self {
             FormatError::TooLong => write!(f, "the format has more than 1024 bytes"),
             FormatError::BadConversion { offset } => {
-                write!(f, "unknown or unfinished conversion, or one, a flag or a width that is not taken, at byte {offset} of the format")
+                write!(f, "a conversion, flag or width that is not taken, at byte {offset} of the format")
             }
         }
     }

@@ -595,7 +595,7 @@ fn errors_have_sources() {
     use std::error::Error;
 
     let source = |error: &dyn Error| error.source().map(|source| source.to_string());
-    let unknown = Some("unknown or unfinished conversion, or one, a flag or a width that is not taken, at byte 0 of the format".to_string());
+    let unknown = Some("a conversion, flag or width that is not taken, at byte 0 of the format".to_string());
     assert_eq!(source(&strptime("%Q", "").unwrap_err()), unknown);
     assert_eq!(source(&strftime("%Q", Moment::midnight(Date::FIRST), &mut []).unwrap_err()), unknown);
     assert_eq!(source(&"1934-13-01".parse::<Date>().unwrap_err()), Some("the month is not 1 to 12".to_string()));

@@ -24,10 +24,10 @@ use Rattle.text.proofs.Case.{capital-fold}
 use Rattle.text.proofs.Fill.{fill-below}
 use Rattle.text.specs.Digits.{digits, plain, isDigit, digitRun, decimal}
 use Rattle.format.specs.Conversions as conversions
-use Rattle.format.specs.Conversions.{among, conversionOf, isNumber}
+use Rattle.format.specs.Conversions.{among, conversionOf, isName, isNumber}
 use Rattle.format.specs.Opening as opening
 use Rattle.format.specs.Opening.{Opening, Whole, BadAt, opening, flags, flagRun, widthRun, conversion, letter, withStyle, styled, piece}
-use Rattle.format.specs.Opening.{longest, unstyled, isUnstyled, takesFlag, bare, takesStyle, toRead, before, conversionAt}
+use Rattle.format.specs.Opening.{longest, unstyled, isUnstyled, takesStyle, toRead, before, conversionAt}
 use Rattle.format.specs.Opening.{acted, nothing, openFrom}
 use Rattle.format.specs.Opening.{compositeTo, openTo, signed, pieceOf, signAt, styleFrom}
 use Rattle.format.specs.declared.conversions.Conversion.{Conversion}
@@ -248,20 +248,9 @@ is-number c =
     let P : Form → Type 0 = λ f. isNumber f ≡ true in
     picked P (eqb c (code "w")) refl (picked P (among c blanks) refl refl)
 
--- the form of a name
-isName : Form → Bool
-isName Zeros = false
-isName Blanks = false
-isName FromSunday = false
-isName (Short t) = true
-isName (Full t) = true
-isName (Lower t) = true
-isName Zone = false
-isName Seconds = false
-isName Unknown = false
-
+-- names
 name-form : (c : ℕ) → among c names ≡ true → isName (conversionOf c .form) ≡ true
-name-form = among-passes (λ c. isName (conversionOf c .form)) names (unfold names isName every conversions.computes in refl)
+name-form = among-passes (λ c. isName (conversionOf c .form)) names (unfold names every conversions.computes in refl)
 
 no-number : (f : Form) → isName f ≡ true → isNumber f ≡ false
 unfolding isName isNumber
@@ -294,15 +283,24 @@ letter-small c a =
 other-refused : (f w c : ℕ) → among c others ≡ true → (eqb f 0 && eqb w 0) ≡ false
     → withStyle (record { flag = f; width = w }) (letter c) ≡ Refuse
 other-refused f w c o n =
-    among-same (λ b. withStyle (record { flag = f; width = w }) (letter b))
-    (λ b.
-    cond (isUnstyled (record { flag = f; width = w }))
-    (cond (among b bare) (Convert b (record { flag = f; width = w })) (letter b))
-    Refuse)
-    others
-    (unfold others letter withStyle takesStyle bare conversions.computes in refl)
+    among-same (λ b. withStyle (record { flag = f; width = w }) (letter b)) (λ b. Refuse) others
+    (unfold others letter withStyle takesStyle isUnstyled conversions.computes in rw (n, none (eqb f 0) (eqb f 94)) refl)
     c o
-    ∙ unfold isUnstyled in rw n
+  where
+    none : (p q : Bool) → cond p false (cond q false false) ≡ false
+    none true q = refl
+    none false true = refl
+    none false false = refl
+
+-- by a number, or by a name
+abbrev takes : Bool → ℕ → Bool
+takes number f = cond (eqb f 0) true (cond (eqb f 94) (not number) number)
+
+takes-is : (z v p n m : Bool) → m ≡ not n → cond (z && v) true (cond z (m || n) (cond p m n)) ≡ cond z true (cond p (not n) n)
+takes-is true true p n m e = refl
+takes-is true false p true m e = rw e
+takes-is true false p false m e = rw e
+takes-is false v p n m e = rw e
 
 -- a moment, and a conversion that takes a flag and a width
 module _ (t : Fields) (m : Moment) (valid : momentOf (t .year) (t .month) (t .day) (t .hour) (t .minute) (t .second) (t .offset) ≡ Valid m)
@@ -335,12 +333,14 @@ module _ (t : Fields) (m : Moment) (valid : momentOf (t .year) (t .month) (t .da
 
   -- one of a number or of a name, which is no %s
   module _ (u : among c (numbers ++ names) ≡ true) where
-    by-flag : {t : Bool} → takesFlag f (conversionOf c .form) ≡ t → takesStyle style c ≡ t
-    unfolding takesStyle
+    by-flag : {t : Bool} → takes (isNumber (conversionOf c .form)) f ≡ t → takesStyle style c ≡ t
+    unfolding takesStyle isUnstyled
     by-flag k =
         let n =
-        among-same (λ b. among b bare) (λ b. false) (numbers ++ names) (unfold numbers names bare conversions.computes in refl) c u in
-        rw n k
+        among-same (λ b. isName (conversionOf b .form)) (λ b. not (isNumber (conversionOf b .form))) (numbers ++ names)
+        (unfold numbers names conversions.computes in refl)
+        c u in
+        takes-is (eqb f 0) (eqb w 0) (eqb f 94) (isNumber (conversionOf c .form)) (isName (conversionOf c .form)) n ∙ k
 
     no-s : isSeconds (conversionAt 0 style c) ≡ false
     unfolding isSeconds
@@ -351,7 +351,7 @@ module _ (t : Fields) (m : Moment) (valid : momentOf (t .year) (t .month) (t .da
         let n = among-same (λ b. eqb b 115) (λ b. false) (numbers ++ names) (unfold numbers names conversions.computes in refl) c u in
         rw (le-ltb e 256 (omega arith), p) n
 
-    taken : takesFlag f (conversionOf c .form) ≡ true → Writes (format f w c) t (converted style (conversionOf c) m)
+    taken : takes (isNumber (conversionOf c .form)) f ≡ true → Writes (format f w c) t (converted style (conversionOf c) m)
     taken k b =
         let o : opening Writer (format f w c) ≡ record { elements = conversionAt 0 style c ∷ []; ended = Whole } =
         opens f w c known h (is-letter c a) ∙ unfold withStyle acted before nothing in rw (converts c u, by-flag k) in
@@ -359,7 +359,7 @@ module _ (t : Fields) (m : Moment) (valid : momentOf (t .year) (t .month) (t .da
         puts-text (format f w c) t b few (ap (λ (o : Opening). o .ended) o) valid lacks
         ∙ ap (λ (x : List ℕ). put x b) (ap (λ (o : Opening). text m (o .elements)) o ∙ written)
 
-    not-taken : takesFlag f (conversionOf c .form) ≡ false → (b : List ℕ) → writing (format f w c) t b ≡ writer.refused 3 0 b
+    not-taken : takes (isNumber (conversionOf c .form)) f ≡ false → (b : List ℕ) → writing (format f w c) t b ≡ writer.refused 3 0 b
     not-taken k b =
         refused-by b (opens f w c known h (is-letter c a) ∙ unfold withStyle acted in rw (converts c u, by-flag k))
 
@@ -458,16 +458,11 @@ module _ (m : Moment) (w : ℕ) where
 
 -- ---- which flags are taken
 
--- by a number, or by a name
-abbrev takes : Bool → ℕ → Bool
-takes number f = cond (eqb f 0) true (cond (eqb f 94) (not number) number)
-
 or-false : (a b : Bool) → (a || b) ≡ true → a ≡ false → b ≡ true
 or-false true b e z = clash (cc)
 or-false false b e z = e
 
-number-takes : (f c : ℕ) → among c numbers ≡ true → among f (0 ∷ bytes "_-0") ≡ true → takesFlag f (conversionOf c .form) ≡ true
-unfolding takesFlag
+number-takes : (f c : ℕ) → among c numbers ≡ true → among f (0 ∷ bytes "_-0") ≡ true → takes (isNumber (conversionOf c .form)) f ≡ true
 number-takes f c n k =
     rw (number-form c n, is-number c) (among-passes (takes true) (0 ∷ bytes "_-0") (unfold every conversions.computes in refl) f k)
 
@@ -511,20 +506,20 @@ module _ (t : Fields) (m : Moment) (v : momentOf (t .year) (t .month) (t .day) (
     either-name = among-passes (λ c. among c (numbers ++ names)) names (unfold numbers names every conversions.computes in refl) c n
 
     name : Writes (format 0 w c) t (fill 32 w (converted unstyled row m))
-    unfolding converted takesFlag
+    unfolding converted
     name b =
         taken t m v 0 w c (unfold among in refl) h a either-name refl b
         ∙ ap (λ (x : List ℕ). put x b) (name-column m w (row .form) (name-form c n) (row .width) (value (row .kind) m))
 
     capitals : Writes (format 94 w c) t (fill 32 w (map capital (converted unstyled row m)))
-    unfolding converted takesFlag
+    unfolding converted
     capitals b =
         taken t m v 94 w c (unfold flags conversions.computes in refl) h a either-name (rw (no-number (row .form) (name-form c n))) b
         ∙ ap (λ (x : List ℕ). put x b) (capital-column m w (row .form) (name-form c n) (row .width) (value (row .kind) m))
 
   refuses : (f : ℕ) → among f (0 ∷ flags) ≡ true → belongs f c ≡ false → (eqb f 0 && eqb w 0) ≡ false
       → (b : List ℕ) → writing (format f w c) t b ≡ writer.refused 3 0 b
-  unfolding belongs takesFlag
+  unfolding belongs
   refuses f k l z b =
       let n = among c numbers && among f (0 ∷ bytes "_-0") in
       let apart = both-false n (among c names && among f (0 ∷ bytes "^")) l in

@@ -18,7 +18,7 @@ use Rattle.laws.proofs.Cases.{either, picked, clash}
 use Rattle.format.specs.Conversions.{among, isConversion, isComposite, computes as rows-compute}
 use Rattle.format.specs.Opening.{Ended, Whole, BadAt, Opening, opening, openTo, openFrom, compositeTo, longest, isByte, letterOf, afterSign}
 use Rattle.format.specs.Opening.{conversionAt, letter, paired, conversion, after-E, after-O, flagRun, widthRun, styleFrom}
-use Rattle.format.specs.Opening.{isUnstyled, bare, takesStyle, withStyle, styled, signed, pieceOf, before, composed, acted, nothing, signAt}
+use Rattle.format.specs.Opening.{isUnstyled, takesStyle, withStyle, styled, signed, pieceOf, before, composed, acted, nothing, signAt}
 use Rattle.format.specs.Opening.{isElement}
 use Rattle.format.specs.declared.opening.Act.{Act}
 use Rattle.format.specs.declared.opening.Act.the-variants.{Byte, Convert, Open, Refuse}
@@ -28,6 +28,7 @@ use Rattle.format.specs.declared.opening.Sign.the-variants.{Own}
 use Rattle.format.specs.declared.opening.Style.{Style}
 use Rattle.format.proofs.Elements.{composite-elements, read-letter}
 use Rattle.format.proofs.Pieces.{Follows, follows}
+use Rattle.format.proofs.Seconds.{conversion-s}
 use Rattle.format.proofs.Sides.{composites-alike}
 use Rattle.format.proofs.Styles.{flag-run, width-run}
 use Rattle.values.specs.declared.offsets.Offset.{Offset}
@@ -38,38 +39,7 @@ use Rattle.strftime.proofs.Longest.{Lettered, piece-lettered}
 use Rattle.strftime.specs.declared.Lack.{Lack}
 use Rattle.strftime.specs.declared.Lack.the-variants.{Nothing, ZoneOffset}
 
--- ---- what is converted as s begins with s
-
--- a letter, and one after E or O
-letter-s : (b : ℕ) (x : Style) → letter b ≡ Convert 115 x → b ≡ 115
-unfolding letter
-letter-s b x =
-    let P : Act → Type 0 = λ a. a ≡ Convert 115 x → b ≡ 115 in
-    picked P (eqb b (code "n")) (λ e. clash (cc))
-    (picked P (eqb b (code "t")) (λ e. clash (cc))
-    (picked P (eqb b (code "%")) (λ e. clash (cc))
-    (picked P (isComposite b) (λ e. clash (cc))
-    (picked P (isConversion b) (λ e. cc) (λ e. clash (cc))))))
-
-paired-s : (letters s : List ℕ) (x : Style) → among 115 letters ≡ false → paired letters s .act ≡ Convert 115 x → ⊥
-unfolding paired
-paired-s letters [] x n e = clash (cc)
-paired-s letters (b ∷ s) x n e =
-    either (λ (a : Act). a ≡ Convert 115 x → ⊥) (among b letters)
-    (λ t q. let z = letter-s b x q in clash (cc (rw z at t)))
-    (λ t q. clash (cc))
-    e
-
-conversion-s : (s : List ℕ) (x : Style) → conversion s .act ≡ Convert 115 x → take 1 s ≡ 115 ∷ []
-unfolding conversion
-conversion-s [] x e = clash (cc)
-conversion-s (b ∷ s) x e =
-    let P : Piece → Type 0 = λ p. p .act ≡ Convert 115 x → b ≡ 115 in
-    let z : b ≡ 115 =
-    picked P (eqb b (code "E")) (λ q. absurd (paired-s after-E s x (unfold after-E rows-compute in refl) q))
-    (picked P (eqb b (code "O")) (λ q. absurd (paired-s after-O s x (unfold after-O rows-compute in refl) q)) (λ q. letter-s b x q))
-    e in
-    rw z
+-- ---- what is converted as s
 
 -- with a flag or a width it would not be taken
 module _ (s : List ℕ) (x : Style) where
@@ -90,9 +60,14 @@ module _ (s : List ℕ) (x : Style) where
       let m : length width ≡ 0 = width-run (drop (length flag) s) .none (eqb-true (decimal 0 width) 0 (u .1)) in
       rw (m, n)
 
-  bare-s : (y : Style) → takesStyle y 115 ≡ isUnstyled y
-  unfolding takesStyle bare rows-compute
-  bare-s y = refl
+  -- neither a name nor a number: nothing may stand before it
+  bare-s : (y : Style) → takesStyle y 115 ≡ true → isUnstyled y ≡ true
+  unfolding takesStyle rows-compute
+  bare-s y =
+      either (λ t. t ≡ true → isUnstyled y ≡ true) (isUnstyled y) (λ u _. u)
+      (λ _.
+      picked (λ t. t ≡ true → isUnstyled y ≡ true) (eqb (y .flag) 0) (λ q. clash (cc))
+      (picked (λ t. t ≡ true → isUnstyled y ≡ true) (eqb (y .flag) 94) (λ q. clash (cc)) (λ q. clash (cc))))
 
   abbrev Begins : Act → Type 0
   Begins a = a ≡ Convert 115 x → take 1 s ≡ 115 ∷ []
@@ -105,7 +80,7 @@ module _ (s : List ℕ) (x : Style) where
       either Begins (takesStyle (styleFrom flag width) c)
       (λ t r.
       let z : c ≡ 115 = cc in
-      let one = alone (sym (bare-s (styleFrom flag width)) ∙ rw z at t) in
+      let one = alone (bare-s (styleFrom flag width) (rw z at t)) in
       conversion-s s u (rw (one, z) at q))
       (λ t r. clash (cc))
       e
