@@ -15,9 +15,9 @@ use lib.Seq.{drop-drop}
 use Rattle.laws.specs.Bytes.{bytes}
 use Rattle.laws.specs.Lists.{every}
 use Rattle.laws.proofs.Cases.{either, picked, clash}
-use Rattle.format.specs.Conversions.{among, isConversion, isComposite, computes as rows-compute}
+use Rattle.format.specs.Conversions.{computes as rows-compute}
 use Rattle.format.specs.Opening.{Ended, Whole, BadAt, Opening, opening, openTo, openFrom, compositeTo, longest, isByte, letterOf, afterSign}
-use Rattle.format.specs.Opening.{conversionAt, letter, paired, conversion, after-E, after-O, flagRun, widthRun, styleFrom}
+use Rattle.format.specs.Opening.{conversionAt, conversion, flagRun, widthRun, styleFrom}
 use Rattle.format.specs.Opening.{isUnstyled, takesStyle, withStyle, styled, signed, pieceOf, before, composed, acted, nothing, signAt}
 use Rattle.format.specs.Opening.{isElement}
 use Rattle.format.specs.declared.opening.Act.{Act}

@@ -1,14 +1,13 @@
 -- Zone offsets: what %z writes reads back, each offset by computing; neither the day nor the hour depends on the offset; and the cases.
 -- Assumes nothing.
-use Prim.Native.Nat.{ℕ, zero, suc, _+_, _≤_, _<_}
-use mathlib.Core.Bool.{Bool, true, false, cond, not, and-eq-true-iff}
+use Prim.Native.Nat.{ℕ, suc, _≤_, _<_}
+use mathlib.Core.Bool.{Bool, true, not, and-eq-true-iff}
 use mathlib.Core.List.{List, [], _∷_, map, append-nil}
 use mathlib.Core.Path.{_≡_, refl, sym, ap, _∙_, fun-ext}
 use native.Mathlib.Omega.{arith}
-use borrow.Author.Tests.{eqb-true, leb-true, ltb-true}
-use lib.Dec.{eqb, leb, ltb, lit≤}
-use lib.IntN.{ℤ, pos, negsuc, natAbs}
-use lib.ListN.{length, getD}
+use borrow.Author.Tests.{leb-true, ltb-true}
+use lib.Dec.{eqb, ltb, lit≤}
+use lib.IntN.{ℤ, pos, negsuc}
 use lib.Seq.{getD-set-other}
 use Rattle.laws.specs.Bytes.{bytes}
 use Rattle.laws.specs.Lists.{every, range}
@@ -17,8 +16,7 @@ use Rattle.laws.proofs.Table.{same-at}
 use Rattle.kinds.specs.Kinds as kinds
 use Rattle.kinds.specs.Kinds.{dayKinds, hourKinds, zoneOffset}
 use Rattle.calendar.specs.Calendar as calendar
-use Rattle.calendar.specs.Calendar.{days, dateOf, sum}
-use Rattle.calendar.specs.declared.Date.{Date}
+use Rattle.calendar.specs.Calendar.{days, dateOf}
 use Rattle.values.specs.Moments as moments
 use Rattle.values.specs.Moments.{momentFault, momentOf}
 use Rattle.values.specs.Offsets as offsets
@@ -27,8 +25,7 @@ use Rattle.values.specs.Values as values
 use Rattle.values.specs.declared.Moment.{Moment}
 use Rattle.values.specs.declared.MomentFields.{MomentFields}
 use Rattle.values.specs.declared.MomentFields.the-variants.{Valid}
-use Rattle.values.specs.declared.offsets.Offset.{Offset}
-use Rattle.values.specs.declared.offsets.Offset.the-variants.{Unsaid as NoOffset, Minutes}
+use Rattle.values.specs.declared.offsets.Offset.the-variants.{Minutes}
 use Rattle.text.specs.Case.{fold, cased}
 use Rattle.text.specs.Digits as digits
 use Rattle.text.specs.Digits.{plain, filled, leading, isDigit, digitRun, decimal, readDigits}
@@ -39,14 +36,13 @@ use Rattle.text.specs.Naming as naming
 use Rattle.text.specs.Space.{isSpace, spaces}
 use Rattle.format.specs.Conversions as conversions
 use Rattle.format.specs.Opening as opening
-use Rattle.format.specs.Opening.{Opening, Whole, opening, longest}
+use Rattle.format.specs.Opening.{Opening, Whole, opening}
 use Rattle.format.specs.declared.opening.Side.the-variants.{Writer}
 use Rattle.strftime.specs.Writing as writer
 use Rattle.strftime.specs.Writing.{put, text, lacking}
 use Rattle.strftime.specs.Zones as zones
 use Rattle.strftime.specs.Zones.{east, zone}
 use Rattle.strftime.specs.declared.Fields.{Fields}
-use Rattle.strftime.specs.declared.Lack.the-variants.{Nothing}
 use Rattle.strftime.proofs.Complete.{puts-text}
 use Rattle.strftime.proofs.Order.{is-moment}
 use Rattle.values.proofs.Ranges.{no-fault-moment}
@@ -56,7 +52,7 @@ use Rattle.agreement.specs.Agreement.{said, noneSaid, dayBorne, hourBorne, agre
 use Rattle.agreement.specs.Search as search
 use Rattle.agreement.specs.Search.{firstTwo, through}
 use Rattle.agreement.specs.Verdicts as verdicts
-use Rattle.agreement.specs.Verdicts.{verdictOf, daysFound, dayVerdict, hourVerdict}
+use Rattle.agreement.specs.Verdicts.{daysFound, dayVerdict, hourVerdict}
 use Rattle.agreement.specs.declared.Facts.{Facts}
 use Rattle.judge.specs.Engines as engines
 use Rattle.judge.specs.Engines.{lastExamined, plainCount, monthKinds, monthAgrees, monthDays, skippingCount}
@@ -74,7 +70,7 @@ use Rattle.strptime.specs.declared.Said.the-variants.{Unsaid}
 use Rattle.demands.specs.Columns.{Writes}
 use Rattle.demands.proofs.Seconds.{no-seconds}
 use Rattle.demands.specs.Offsets as cases
-use Rattle.demands.specs.Offsets.{Zoned, ZoneRule, Ignored, Answer, writeCases, readCases}
+use Rattle.demands.specs.Offsets.{ZoneRule, Ignored, Answer, writeCases, readCases}
 use Rattle.demands.specs.Starred.{Case}
 
 -- ---- the cases

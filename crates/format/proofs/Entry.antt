@@ -10,7 +10,7 @@ use native.Mathlib.Omega.{arith}
 use borrow.Author.Tests.{lt-ltb, le-ltb, le-leb, lt-leb, not-true, not-false, leb-true, ltb-true}
 use lib.Dec.{leb}
 use lib.ListN.{length, getD, List·getD-eq-default}
-use Rattle.laws.proofs.Cases.{either, picked, clash}
+use Rattle.laws.proofs.Cases.{either, clash}
 use Rattle.format.specs.Conversions.{among, isConversion}
 use Rattle.format.specs.Opening.{flags, letterOf, afterSign, isPlain, styleOf, isUnstyled}
 use Rattle.format.specs.Opening.{takesStyle, isRead, isTaken, isElement, elementsIn, entryPlace}

@@ -1,6 +1,5 @@
 -- `format::opening::signed` meets its contract: what the reader takes of a conversion can be told by its first byte.
-use mathlib.Core.Bool.{not}
-use mathlib.Core.Path.{_≡_, sym, _∙_}
+use mathlib.Core.Path.{sym, _∙_}
 use borrow.Author.Needs.{needs}
 use borrow.Author.Tests.{not-true, not-false}
 use Rattle.format.specs.Opening.{signed}
