@@ -1,6 +1,7 @@
 //! %s against the C library's timegm on every day of the calendar: its first second and its last, 60, with the offsets farthest east and
 //! west and with none, and other times of day with other offsets.
 use crate::c_library::timegm;
+use crate::c_writings::Writing;
 use crate::random::Random;
 use crate::rules::{Calendar, Day, Moment};
 
@@ -13,24 +14,6 @@ fn moments(random: &mut Random, d: &Day) -> [Moment; 5] {
         .map(|(hour, minute, second, offset)| Moment::new([year, month, day, hour, minute, second]).with_offset(offset))
 }
 
-/// Returns how many writings were compared. `write` is the writer: what it answers, and the bytes that it puts into the buffer.
-pub fn compare(
-    random: &mut Random,
-    cal: &Calendar,
-    write: impl Fn(&[u8], &Moment, &mut [u8]) -> (u32, u32),
-    mut differs: impl FnMut(&dyn std::fmt::Debug),
-) -> usize {
-    let mut count = 0;
-    for d in &cal.days {
-        for m in moments(random, d) {
-            let theirs = timegm(cal, &m).to_string();
-            let mut ours = vec![0; theirs.len()];
-            let found = write(b"%s", &m, &mut ours);
-            count += 1;
-            if found != (0, theirs.len() as u32) || ours != theirs.as_bytes() {
-                differs(&(m, found, String::from_utf8_lossy(&ours), theirs));
-            }
-        }
-    }
-    count
+pub fn writings<'a>(random: &'a mut Random, cal: &'a Calendar) -> impl Iterator<Item = Writing> + 'a {
+    cal.days.iter().flat_map(|d| moments(random, d)).map(|m| ("%s", m, timegm(cal, &m).to_string().into_bytes()))
 }

@@ -2,6 +2,7 @@
 pub mod c_library;
 pub mod c_offsets;
 pub mod c_seconds;
+pub mod c_writings;
 pub mod elements;
 #[cfg(test)]
 mod margins;

@@ -6,7 +6,7 @@ use crate::rules::{
     explain, matched, matched_opened, quarrels, read, white, write, write_opened, Calendar, Engine, Facts, Form, Forms, Moment, Part,
     Reading, Reason, Use, Words, DAYS,
 };
-use crate::{c_offsets, c_seconds};
+use crate::{c_offsets, c_seconds, c_writings};
 
 const MORNING: Moment = Moment::new([1934, 3, 5, 7, 8, 9]);
 
@@ -378,8 +378,10 @@ fn offsets_of_c() {
         (number, place)
     };
     let mut random = Random(1439);
-    assert_eq!(c_offsets::compare(&mut random, &cal, writer, |case| panic!("{case:?}")), 2880 * 7);
-    assert_eq!(c_seconds::compare(&mut random, &cal, writer, |case| panic!("{case:?}")), 5 * DAYS);
+    let offsets = c_offsets::writings(&mut random, &cal);
+    assert_eq!(c_writings::compare(offsets, writer, |case| panic!("{case:?}")), 2880 * 7);
+    let seconds = c_seconds::writings(&mut random, &cal);
+    assert_eq!(c_writings::compare(seconds, writer, |case| panic!("{case:?}")), 5 * DAYS);
 }
 
 /// The days that each engine examines, and budgets.

@@ -11,7 +11,8 @@ use Rattle.kinds.specs.Kinds as kinds
 use Rattle.text.specs.declared.names.Names.the-variants.{Weekdays, Months, Halves}
 use Rattle.format.specs.declared.conversions.Conversion.{Conversion}
 use Rattle.format.specs.declared.conversions.Form.{Form}
-use Rattle.format.specs.declared.conversions.Form.the-variants.{Zeros, Blanks, FromSunday, Short, Full, Lower, Zone, Seconds, Unknown}
+use Rattle.format.specs.declared.conversions.Form.the-variants.{Zeros, Blanks, FromSunday, Short, Full, Lower}
+use Rattle.format.specs.declared.conversions.Form.the-variants.{Zone, Seconds, Unknown}
 
 -- a byte is one of these
 unfoldable pub among : ℕ → List ℕ → Bool

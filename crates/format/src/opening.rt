@@ -10,8 +10,8 @@ ghost use lib.Seq.{sets};
 ghost use Rattle.text.specs.Digits.{decimal};
 ghost use Rattle.format.specs.Conversions.{among, isConversion, ownFormat};
 ghost use Rattle.format.specs.Opening.{longest, conversionAt, letter, paired, conversion, flags, flagRun, widthRun};
-ghost use Rattle.format.specs.Opening.{isUnstyled, takesStyle, isRead};
-ghost use Rattle.format.specs.Opening.{withStyle, toRead, styled, signed, pieceOf, signAt, openTo, opened, openedInto, mostElements};
+ghost use Rattle.format.specs.Opening.{isUnstyled, takesStyle, withStyle, styled, isRead, toRead, signed, pieceOf};
+ghost use Rattle.format.specs.Opening.{signAt, openTo, opened, openedInto, mostElements};
 ghost use Rattle.format.specs.Opening.{styleOf, isElement, elementsIn, entryPlace};
 ghost use Rattle.format.specs.Private.{holds, SetOf, takesLetter, CanOpen, answered};
 

@@ -46,7 +46,8 @@ wordCases =
     -- 6 Mar 1934 07:08 Tues -0030: a middle weekday, a short month, half an hour west; no second
     (
       words (Done 21 (On (date 1934 3 6)) (Is 7) (Is 8) Unsaid (Minutes (negsuc 29)) (both Middle Short) 31),
-      0 ∷ 21 ∷ 1934 ∷ 3 ∷ 6 ∷ 1 ∷ 7 ∷ 1 ∷ 8 ∷ 0 ∷ 0 ∷ 0 ∷ 0 ∷ 0 ∷ 0 ∷ 31 ∷ 2 ∷ 3 ∷ 1 ∷ 4294967266 ∷ [],
+      0 ∷ 21 ∷ 1934 ∷ 3 ∷ 6 ∷ 1 ∷ 7 ∷ 1 ∷ 8 ∷ 0 ∷ 0 ∷ 0 ∷ 0 ∷ 0 ∷ 0
+          ∷ 31 ∷ 2 ∷ 3 ∷ 1 ∷ 4294967266 ∷ [],
     )
     -- 5 September 1934 0 +0130, the 0 a second: a full month, no weekday
     ∷ (
@@ -63,7 +64,10 @@ wordCases =
       words (Done 0 NoDate Unsaid Unsaid Unsaid NoOffset (both NoName NoName) 0),
       0 ∷ 0 ∷ 0 ∷ 0 ∷ 0 ∷ 0 ∷ 0 ∷ 0 ∷ 0 ∷ 0 ∷ 0 ∷ 0 ∷ 0 ∷ 0 ∷ 0 ∷ 0 ∷ 0 ∷ 0 ∷ 0 ∷ 0 ∷ [],
     )
-    ∷ (words (NoMatch 4), 6 ∷ 4 ∷ 0 ∷ 0 ∷ 0 ∷ 0 ∷ 0 ∷ 0 ∷ 0 ∷ 0 ∷ 0 ∷ 0 ∷ 0 ∷ 0 ∷ 0 ∷ 0 ∷ 0 ∷ 0 ∷ 0 ∷ 0 ∷ [])
+    ∷ (
+      words (NoMatch 4),
+      6 ∷ 4 ∷ 0 ∷ 0 ∷ 0 ∷ 0 ∷ 0 ∷ 0 ∷ 0 ∷ 0 ∷ 0 ∷ 0 ∷ 0 ∷ 0 ∷ 0 ∷ 0 ∷ 0 ∷ 0 ∷ 0 ∷ 0 ∷ [],
+    )
     ∷ (
       words (OpenDay (date 1 3 5) (date 2 4 6) 36),
       10 ∷ 1 ∷ 1 ∷ 3 ∷ 5 ∷ 0 ∷ 0 ∷ 0 ∷ 0 ∷ 0 ∷ 0 ∷ 2 ∷ 4 ∷ 6 ∷ 0 ∷ 36 ∷ 0 ∷ 0 ∷ 0 ∷ 0 ∷ [],

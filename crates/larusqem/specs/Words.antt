@@ -96,7 +96,8 @@ unfoldable pub wordsOf : Reading → List ℕ
 wordsOf r =
     r .number ∷ r .place
     ∷ (more r (r .shown)
-    ++ (r .examined ∷ formNumber (r .forms .weekday) ∷ formNumber (r .forms .month) ∷ offsetFlag (r .offset) ∷ offsetWord (r .offset) ∷ []))
+    ++ (r .examined ∷ formNumber (r .forms .weekday) ∷ formNumber (r .forms .month)
+    ∷ offsetFlag (r .offset) ∷ offsetWord (r .offset) ∷ []))
 
 -- everything here, for proofs that compute
 unfoldable pub computes : Unit {0}

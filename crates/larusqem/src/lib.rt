@@ -320,7 +320,8 @@ fn finish(
 ) -> u64
     requires { ⌜ place < 2 ^ 32 ⌝ }
     ensures { λ r. ⌜ r ≡ packed 0 place ⌝ }
-    ensures { λ _. ⌜ now (words .exit) ≡ wordsOf (naming forms (examining examined (finished place day hour minute second offset))) ⌝ }
+    ensures { λ _.
+        ⌜ now (words .exit) ≡ wordsOf (naming forms (examining examined (finished place day hour minute second offset))) ⌝ }
 {
     let date = day_or_zero(day);
     let weekday = forms.weekday;

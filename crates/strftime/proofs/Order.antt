@@ -23,7 +23,7 @@ use Rattle.format.proofs.Bound.{bound}
 use Rattle.format.proofs.Elements.{elements, are-bytes, read-letter}
 use Rattle.format.proofs.Entries.{counted-within, counted-all}
 use Rattle.format.proofs.Entry.{all-plain}
-use Rattle.format.proofs.Opened.{Opens, Breaks, opened-done, opened-bad, opened-long, stored}
+use Rattle.format.proofs.Opened.{Opens, opened-done, opened-bad, opened-long, stored}
 use Rattle.format.proofs.Sides.{same-opening}
 use Rattle.values.specs.Moments.{momentFault, momentOf}
 use Rattle.values.specs.declared.Moment.{Moment}
@@ -104,14 +104,6 @@ unfolding offered
 plain-offered es b m p = rw (plain-lacking (m .offset) es p)
 
 module _ (f : List ℕ) (m : Moment) (b : List ℕ) where
-  pub long-format : longest < length f → Gives (writingOf FormatTooLong) b (momentWriting f m b)
-  unfolding momentWriting refused writingOf
-  long-format h = rw (lt-leb (length f) longest h) (refl, refl)
-
-  pub bad-format : {p : ℕ} → Breaks Writer f p → Gives (writingOf (BadConversion p)) b (momentWriting f m b)
-  unfolding momentWriting byFormat refused writingOf
-  bad-format h = rw (le-leb (length f) longest (h .short), h .bad) (refl, refl)
-
   pub whole-format : {a : Writing} {c ys : List ℕ} {n : ℕ} → Stored Writer f n ys → Gives a c (offered (take n ys) b m)
       → Gives a c (momentWriting f m b)
   unfolding momentWriting byFormat

@@ -76,7 +76,7 @@ pub(crate) fn put_zone(out: &mut [u8], at: usize, moment: Moment) -> usize
     }
 }
 
-// An offset that is said: its sign, hours and minutes.
+// An offset that is said: its sign, hours and minutes. (The bound is all that 32 bits can ask: the offset of a moment is far below.)
 fn put_east(out: &mut [u8], at: usize, minutes: i64) -> usize
     requires { ⌜ natAbs minutes < 10 ^ 10 ⌝ }
     requires { ⌜ at + length (east minutes) ≤ length (now out) ⌝ }

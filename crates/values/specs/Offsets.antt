@@ -25,7 +25,7 @@ isOffset (Minutes east) = leb (natAbs east) mostOffset
 unfoldable pub offsetNumber : ℤ → ℕ
 offsetNumber east = natAbs (east +ℤ pos mostOffset)
 
--- the offset that was said of kind 18: nothing, or one more than its number
+-- the offset that was said of kind 18, where 0 is nothing and all else is one more than its number; no element says more than 2879
 unfoldable pub offsetOf : ℕ → Offset
 offsetOf s = cond (leb 1 s && leb s 2879) (Minutes (pos s -ℤ pos 1440)) Unsaid
 

@@ -83,7 +83,8 @@ impl Moment {
         }
     }
 
-    // Whole seconds from 1970-01-01 00:00:00 UTC, where the moment is so many minutes east of UTC.
+    // Whole seconds from 1970-01-01 00:00:00 UTC, where the moment is so many minutes east of UTC. For every date and every number of
+    // minutes they have at most 15 digits, which whoever writes them wants to know.
     pub fn seconds(self, east: i32) -> i64
         ensures { λ r. ⌜ r ≡ seconds self east ⌝ }
         ensures small { λ r. ⌜ natAbs r < 10 ^ 15 ⌝ }

@@ -20,7 +20,7 @@ mod zones;
 use compare::elements::{self, Opened};
 use compare::random::Random;
 use compare::rules::{self, Calendar, Item, Moment, Reading, Reason, Use};
-use compare::{c_offsets, c_seconds};
+use compare::{c_offsets, c_seconds, c_writings};
 use library::{By, Lent};
 use readings::{form_number, Engines, Judged, READ, STRANGE, STRPTIME};
 use std::collections::BTreeMap;
@@ -297,10 +297,12 @@ fn main() {
     );
 
     let writer = |format: &[u8], m: &Moment, out: &mut [u8]| library::strftime(format, &library::moment_words(m), out);
-    let offsets = c_offsets::compare(&mut random, &cal, writer, |case| tally.differs("%z against the C library", case));
+    let zones = c_offsets::writings(&mut random, &cal);
+    let offsets = c_writings::compare(zones, writer, |case| tally.differs("%z against the C library", case));
     println!("{:6.1} s  the C library's strftime: {offsets} writings of all 2879 offsets, and unsaid", began.elapsed().as_secs_f64());
 
-    let moments = c_seconds::compare(&mut random, &cal, writer, |case| tally.differs("%s against the C library", case));
+    let instants = c_seconds::writings(&mut random, &cal);
+    let moments = c_writings::compare(instants, writer, |case| tally.differs("%s against the C library", case));
     println!("{:6.1} s  the C library's timegm: {moments} writings of %s, on every day of the calendar", began.elapsed().as_secs_f64());
 
     c_spaces::compare(|case| tally.differs("white space against the C library", case));
