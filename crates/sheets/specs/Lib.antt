@@ -1,0 +1,3 @@
+-- What a sheet is, and its word.
+pub mod Packing
+pub mod Sheets

@@ -1,0 +1,301 @@
+// A sheet (RULES 11): its date, and what is said of hour, minute, second and zone offset; its word of 64 bits; its week.
+use calendar::Date;
+use strptime::Day;
+use strptime::Reading;
+use strptime::Said;
+use values::Moment;
+use values::MomentFields;
+use values::Offset;
+use values::magnitude;
+use values::offset_of;
+ghost use mathlib.Core.Path.{_≡_};
+ghost use mathlib.Core.Bool.{true};
+ghost use Prim.Native.Nat.{_+_, _*_, _<_, _^_};
+ghost use Rattle.sheets.specs.Sheets.{flag, numberOr0, offsetFlag, offsetField, wordOf, saidFrom, offsetFrom, sheetOf, isValid};
+ghost use Rattle.sheets.specs.Sheets.{isPacking, unpacking, packing, dayFields, readingFields, weekOfDate, weekOf};
+
+pub struct Sheet {
+    pub date: Date,
+    pub hour: Said,
+    pub minute: Said,
+    pub second: Said,
+    pub offset: Offset,
+}
+
+// What is said of a sheet's date, valid or not.
+pub enum DateFields {
+    NoFields,
+    Fields { year: u32, month: u32, day: u32 },
+}
+
+// A sheet as it comes: what is said of it, valid or not.
+pub struct SheetFields {
+    pub date: DateFields,
+    pub hour: Said,
+    pub minute: Said,
+    pub second: Said,
+    pub offset: Offset,
+}
+
+// What the fields of a sheet give: its word; or, judged in this order, 13, or 2 with the first bad field.
+pub enum Packed {
+    Word(u64),
+    NoDay,
+    Bad(u8),
+}
+
+// What a word gives: the sheet that it is the packing of.
+pub enum Unpacked {
+    Holds(Sheet),
+    NoSheet,
+}
+
+// What one of each field is in a word: two to the bits of all fields after it.
+const YEAR: u64 = 1125899906842624;
+
+const MONTH: u64 = 70368744177664;
+
+const DAY: u64 = 2199023255552;
+
+const HOUR_SAID: u64 = 1099511627776;
+
+const HOUR: u64 = 34359738368;
+
+const MINUTE_SAID: u64 = 17179869184;
+
+const MINUTE: u64 = 268435456;
+
+const SECOND_SAID: u64 = 134217728;
+
+const SECOND: u64 = 2097152;
+
+const OFFSET_SAID: u64 = 1048576;
+
+const OFFSET: u64 = 256;
+
+fn number_or_0(said: Said) -> u32
+    ensures { λ r. ⌜ r ≡ numberOr0 said ⌝ }
+{
+    match said {
+        Said::Unsaid => 0,
+        Said::Is(n) => n,
+    }
+}
+
+// Whether an hour, minute or second is said, and its number, which is below `size`.
+fn said_field(said: Said, size: u64) -> u64
+    requires { ⌜ size < 2 ^ 32 ⌝ }
+    ensures { λ r. ⌜ r ≡ flag said * size + numberOr0 said ⌝ }
+{
+    match said {
+        Said::Unsaid => 0,
+        Said::Is(n) => size + n as u64,
+    }
+}
+
+// Whether an offset is said, and its number: the offset and 1439 more.
+fn offset_field(offset: Offset) -> u64
+    ensures { λ r. ⌜ (r ≡ offsetFlag offset * 4096 + offsetField offset) × (r < 2 ^ 33) ⌝ }
+{
+    match offset {
+        Offset::Unsaid => 0,
+        Offset::Minutes(east) => 4096 + magnitude(east as i64 + 1439),
+    }
+}
+
+// The word of a valid sheet, each field behind those before it.
+fn word_of(sheet: Sheet) -> u64
+    requires { ⌜ isValid sheet ≡ true ⌝ }
+    ensures { λ r. ⌜ r ≡ wordOf sheet ⌝ }
+{
+    let date = sheet.date;
+    let hour = sheet.hour;
+    let minute = sheet.minute;
+    let second = sheet.second;
+    let offset = sheet.offset;
+    let to_day = date.year as u64 * 512 + date.month as u64 * 32 + date.day as u64;
+    let to_hour = to_day * 64 + said_field(hour, 32);
+    let to_minute = to_hour * 128 + said_field(minute, 64);
+    let to_second = to_minute * 128 + said_field(second, 64);
+    let to_offset = to_second * 8192 + offset_field(offset);
+    to_offset * 256
+}
+
+// The word of a sheet with these fields.
+pub fn pack(fields: SheetFields) -> Packed
+    ensures { λ r. ⌜ r ≡ packing fields ⌝ }
+{
+    let date = fields.date;
+    let hour = fields.hour;
+    let minute = fields.minute;
+    let second = fields.second;
+    let offset = fields.offset;
+    match date {
+        DateFields::NoFields => Packed::NoDay,
+        DateFields::Fields { year, month, day } => {
+            match Moment::from_fields(
+                year,
+                month,
+                day,
+                number_or_0(hour),
+                number_or_0(minute),
+                number_or_0(second),
+                offset,
+            ) {
+                MomentFields::Bad(field) => Packed::Bad(field),
+                MomentFields::Valid(moment) => {
+                    let date = moment.date;
+                    Packed::Word(word_of(Sheet {
+                        date,
+                        hour,
+                        minute,
+                        second,
+                        offset,
+                    }))
+                }
+            }
+        }
+    }
+}
+
+fn said_from(flag: u64, n: u64) -> Said
+    requires { ⌜ n < 2 ^ 32 ⌝ }
+    ensures { λ r. ⌜ r ≡ saidFrom flag n ⌝ }
+{
+    if flag == 0 {
+        return Said::Unsaid;
+    }
+    Said::Is(n as u32)
+}
+
+fn offset_from(flag: u64, n: u64) -> Offset
+    requires { ⌜ n < 2 ^ 31 ⌝ }
+    ensures { λ r. ⌜ r ≡ offsetFrom flag n ⌝ }
+{
+    if flag == 0 {
+        return Offset::Unsaid;
+    }
+    offset_of(n as u32 + 1)
+}
+
+// The date of a word.
+fn date_of(word: u64) -> Date
+    ensures { λ r. ⌜ r ≡ sheetOf word .date ⌝ }
+{
+    let in_year = word % YEAR;
+    Date {
+        year: (word / YEAR) as u16,
+        month: (in_year / MONTH) as u8,
+        day: (in_year % MONTH / DAY) as u8,
+    }
+}
+
+// The sheet that a word unpacks to, valid or not.
+fn sheet_of(word: u64) -> Sheet
+    ensures { λ r. ⌜ r ≡ sheetOf word ⌝ }
+{
+    let date = date_of(word);
+    let time = word % YEAR % MONTH % DAY;
+    let hour = time % HOUR_SAID;
+    let from_minute = hour % HOUR;
+    let minute = from_minute % MINUTE_SAID;
+    let from_second = minute % MINUTE;
+    let second = from_second % SECOND_SAID;
+    let from_offset = second % SECOND;
+    let offset = from_offset % OFFSET_SAID;
+    Sheet {
+        date,
+        hour: said_from(time / HOUR_SAID, hour / HOUR),
+        minute: said_from(from_minute / MINUTE_SAID, minute / MINUTE),
+        second: said_from(from_second / SECOND_SAID, second / SECOND),
+        offset: offset_from(from_offset / OFFSET_SAID, offset / OFFSET),
+    }
+}
+
+fn is_valid(sheet: Sheet) -> bool
+    ensures { λ r. ⌜ r ≡ isValid sheet ⌝ }
+{
+    let date = sheet.date;
+    let hour = sheet.hour;
+    let minute = sheet.minute;
+    let second = sheet.second;
+    let offset = sheet.offset;
+    match Moment::from_fields(
+        date.year as u32,
+        date.month as u32,
+        date.day as u32,
+        number_or_0(hour),
+        number_or_0(minute),
+        number_or_0(second),
+        offset,
+    ) {
+        MomentFields::Bad(_) => false,
+        MomentFields::Valid(_) => true,
+    }
+}
+
+// Whether a word is the packing of a sheet.
+pub fn is_packing(word: u64) -> bool
+    ensures { λ r. ⌜ r ≡ isPacking word ⌝ }
+{
+    let sheet = sheet_of(word);
+    if !is_valid(sheet) {
+        return false;
+    }
+    word_of(sheet) == word
+}
+
+// The sheet that a word is the packing of.
+pub fn unpack(word: u64) -> Unpacked
+    ensures { λ r. ⌜ r ≡ unpacking word ⌝ }
+{
+    if !is_packing(word) {
+        return Unpacked::NoSheet;
+    }
+    Unpacked::Holds(sheet_of(word))
+}
+
+fn day_fields(day: Day) -> DateFields
+    ensures { λ r. ⌜ r ≡ dayFields day ⌝ }
+{
+    match day {
+        Day::NoDate => DateFields::NoFields,
+        Day::On(date) => DateFields::Fields {
+            year: date.year as u32,
+            month: date.month as u32,
+            day: date.day as u32,
+        },
+    }
+}
+
+// What a reading says of a sheet.
+pub fn reading_fields(reading: Reading) -> SheetFields
+    ensures { λ r. ⌜ r ≡ readingFields reading ⌝ }
+{
+    let day = reading.day;
+    let hour = reading.hour;
+    let minute = reading.minute;
+    let second = reading.second;
+    let offset = reading.offset;
+    SheetFields {
+        date: day_fields(day),
+        hour,
+        minute,
+        second,
+        offset,
+    }
+}
+
+// The ISO week of a date: 64 times its year, and its week.
+fn week_of_date(date: Date) -> u64
+    ensures { λ r. ⌜ r ≡ weekOfDate date ⌝ }
+{
+    date.iso_year() as u64 * 64 + date.iso_week() as u64
+}
+
+// The ISO week of a word's date.
+pub fn week_of(word: u64) -> u64
+    ensures { λ r. ⌜ r ≡ weekOf word ⌝ }
+{
+    week_of_date(date_of(word))
+}
