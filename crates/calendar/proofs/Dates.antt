@@ -191,7 +191,7 @@ unfolding dateFault monthLength monthLengths
 last-date = ap dateOf (last-day .0 ∙ sym (last-day .1)) ∙ date-of-number 9999 12 31 (no-fault-valid 9999 12 31 refl)
 
 -- a date comes before another
-pub Before : (y m d y′ m′ d′ : ℕ) → Type 0
+unfoldable pub Before : (y m d y′ m′ d′ : ℕ) → Type 0
 Before y m d y′ m′ d′ = (y < y′) ⊎ ((y ≡ y′) × ((m < m′) ⊎ ((m ≡ m′) × (d < d′))))
 
 -- day numbers follow the order of dates

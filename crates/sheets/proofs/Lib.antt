@@ -1,3 +1,5 @@
 pub mod Packing
 pub mod Offsets
+pub mod Order
+pub mod Rules
 pub mod Sheets

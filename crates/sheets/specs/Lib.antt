@@ -1,3 +1,4 @@
 -- What a sheet is, and its word.
 pub mod Packing
+pub mod Rules
 pub mod Sheets
