@@ -1,4 +1,5 @@
 -- What a list of sheets is, its table of weeks, and how sheets are added.
 pub mod Adding
 pub mod Ascending
+pub mod Private
 pub mod Weeks

@@ -1,0 +1,40 @@
+-- What the code passes through on the way: no part of a promise of the crate.
+use Prim.Native.Nat.{ℕ, suc, _+_, _*_, _/_, _^_, _≤_, _<_}
+use mathlib.Core.Bool.{Bool, true, false, cond, _||_}
+use mathlib.Core.List.{List, [], _∷_, _++_}
+use mathlib.Core.Path.{_≡_}
+use lib.Dec.{eqb, ltb}
+use lib.ListN.{length, take, drop}
+use Rattle.laws.specs.Lists.{every}
+use Rattle.sheets.specs.Sheets.{isPacking, weekOf}
+use Rattle.sheet_list.specs.Ascending.{ascending}
+
+-- a word put at a place of a list
+unfoldable pub putAt : ℕ → ℕ → List ℕ → List ℕ
+putAt at x s = take at s ++ (x ∷ drop at s)
+
+-- how many words at the front are of a week
+unfoldable pub weekRun : ℕ → List ℕ → ℕ
+weekRun k [] = 0
+weekRun k (x ∷ s) = let more = suc (weekRun k s) in cond (eqb (weekOf x) k) more 0
+
+-- what one of a week's bits is in a word of the table
+abbrev pub week : ℕ
+week = 2 ^ 44
+
+-- the table with one sheet more of a week, and whether a week is in it, on its words
+unfoldable pub countedIn : ℕ → List ℕ → List ℕ
+countedIn k [] = (k * week + 1) ∷ []
+countedIn k (e ∷ t) =
+    let later = countedIn k t in
+    cond (ltb k (e / week)) ((k * week + 1) ∷ e ∷ t) (cond (eqb k (e / week)) ((e + 1) ∷ t) (e ∷ later))
+
+unfoldable pub weekIn : ℕ → List ℕ → Bool
+weekIn k [] = false
+weekIn k (e ∷ t) = eqb k (e / week) || weekIn k t
+
+-- a list of packings, ascending, no longer than the longest
+pub record Listed (s : List ℕ) : Type 0 where
+  pub short : length s ≤ 65536
+  pub packings : every isPacking s ≡ true
+  pub ascends : ascending s ≡ true
