@@ -2,4 +2,3 @@
 pub mod Cases
 pub mod Engines
 pub mod Ways
-pub mod Signed

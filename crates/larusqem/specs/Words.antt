@@ -4,11 +4,8 @@
 -- 9 and 10 the second, 11 to 13 the second of two days, 14 the second of two hours, 15 the days examined, 16 and 17 the form of the
 -- last weekday name and of the last month name, 18 and 19 whether the zone offset is said and which. What the row of the number does not
 -- name is 0. An offset is in two's complement.
-use Prim.Native.Nat.{ℕ, suc, _-_, _^_}
-use mathlib.Core.Bool.{cond}
+use Prim.Native.Nat.{ℕ}
 use mathlib.Core.List.{List, [], _∷_, _++_}
-use lib.Dec.{eqb, ltb}
-use lib.IntN.{ℤ, pos, negsuc, _-ℤ_}
 use lib.ListN.{getD}
 use Rattle.calendar.specs.Calendar.{date}
 use Rattle.calendar.specs.declared.Date.{Date}
@@ -16,26 +13,12 @@ use Rattle.strftime.specs.declared.Fields.{Fields}
 use Rattle.strptime.specs.declared.Day.{Day}
 use Rattle.strptime.specs.declared.Day.the-variants.{NoDate, On}
 use Rattle.strptime.specs.declared.Reading.{Reading}
-use Rattle.strptime.specs.declared.Said.{Said}
-use Rattle.strptime.specs.declared.Said.the-variants.{Unsaid, Is}
 use Rattle.strptime.specs.declared.Shown.{Shown}
 use Rattle.strptime.specs.declared.Shown.the-variants.{Nothing, Days, Hours}
 use Rattle.text.specs.declared.names.NameForm.{NameForm}
 use Rattle.text.specs.declared.names.NameForm.the-variants.{NoName, Full, Middle, Short}
-use Rattle.values.specs.declared.offsets.Offset.{Offset}
-use Rattle.values.specs.declared.offsets.Offset.the-variants.{Unsaid as NoOffset, Minutes}
-
--- the number that a word is in two's complement, and its word
-unfoldable pub signedOf : ℕ → ℤ
-signedOf w = cond (ltb w (2 ^ 31)) (pos w) (pos w -ℤ pos (2 ^ 32))
-
-unfoldable pub wordOf : ℤ → ℕ
-wordOf (pos n) = n
-wordOf (negsuc n) = 2 ^ 32 - suc n
-
--- an offset that is said unless the first word is 0
-unfoldable pub offsetFrom : ℕ → ℕ → Offset
-offsetFrom said w = cond (eqb said 0) NoOffset (Minutes (signedOf w))
+use Rattle.words.specs.Words as words
+use Rattle.words.specs.Words.{offsetFrom, offsetFlag, offsetWord, flag, numberOr0}
 
 -- the fields of a moment's words
 abbrev pub fieldsOf : List ℕ → Fields
@@ -55,30 +38,12 @@ abbrev pub dayOrZero : Day → Date
 dayOrZero NoDate = date 0 0 0
 dayOrZero (On x) = x
 
--- whether an hour, minute or second is said, 1 or 0, and its number, or 0
-abbrev pub flag : Said → ℕ
-flag Unsaid = 0
-flag (Is n) = 1
-
-abbrev pub numberOr0 : Said → ℕ
-numberOr0 Unsaid = 0
-numberOr0 (Is n) = n
-
 -- the form of a name: none, full, middle, short
 abbrev pub formNumber : NameForm → ℕ
 formNumber NoName = 0
 formNumber Full = 1
 formNumber Middle = 2
 formNumber Short = 3
-
--- whether an offset is said, and its word, or 0
-unfoldable pub offsetFlag : Offset → ℕ
-offsetFlag NoOffset = 0
-offsetFlag (Minutes z) = 1
-
-unfoldable pub offsetWord : Offset → ℕ
-offsetWord NoOffset = 0
-offsetWord (Minutes z) = wordOf z
 
 -- words 2 to 14, by what is shown: nothing, two days, or two hours
 unfoldable pub more : Reading → Shown → List ℕ
@@ -99,7 +64,7 @@ wordsOf r =
     ++ (r .examined ∷ formNumber (r .forms .weekday) ∷ formNumber (r .forms .month)
     ∷ offsetFlag (r .offset) ∷ offsetWord (r .offset) ∷ []))
 
--- everything here, for proofs that compute
+-- everything here and in `words`, for proofs that compute
 unfoldable pub computes : Unit {0}
-unfolding signedOf wordOf offsetFrom offsetFlag offsetWord more wordsOf
+unfolding words.computes more wordsOf
 computes = tt

@@ -21,8 +21,11 @@ use strptime::strptime;
 use text::NameForm;
 use values::Offset;
 use values::date_value;
-use values::is_negative;
-use values::magnitude;
+use words::flag;
+use words::number_or_0;
+use words::offset_flag;
+use words::offset_from;
+use words::offset_word;
 ghost use mathlib.Core.Path.{_≡_};
 ghost use Prim.Native.Nat.{_<_, _^_};
 ghost use Rattle.calendar.specs.Calendar.{days};
@@ -35,8 +38,7 @@ ghost use Rattle.strptime.specs.declared.Shown.the-variants.{Days, Hours};
 ghost use Rattle.values.specs.Values.{dayNumberOf, dateValue};
 ghost use Rattle.larusqem.specs.Dates.{valueFrom, threeInOne, dateWord, versionWord};
 ghost use Rattle.larusqem.specs.Packed.{packed, packedWriting, packedReading, engineOf, sideOf, openedFor};
-ghost use Rattle.larusqem.specs.Words.{signedOf, offsetFrom, fieldsOf, dayOrZero, flag, numberOr0, formNumber};
-ghost use Rattle.larusqem.specs.Words.{wordOf, offsetFlag, offsetWord, wordsOf};
+ghost use Rattle.larusqem.specs.Words.{fieldsOf, dayOrZero, formNumber, wordsOf};
 
 fn packed(number: u32, place: usize) -> u64
     requires { ⌜ place < 2 ^ 32 ⌝ }
@@ -46,26 +48,6 @@ fn packed(number: u32, place: usize) -> u64
 }
 
 // ---- Writing
-
-// The number that a word is in two's complement.
-fn signed_of(word: u32) -> i32
-    ensures { λ r. ⌜ r ≡ signedOf word ⌝ }
-{
-    if word < 2147483648 {
-        return word as i32;
-    }
-    (word as i64 - 4294967296) as i32
-}
-
-// An offset: whether it is said, and which it is.
-fn offset_from(said: u32, word: u32) -> Offset
-    ensures { λ r. ⌜ r ≡ offsetFrom said word ⌝ }
-{
-    if said == 0 {
-        return Offset::Unsaid;
-    }
-    Offset::Minutes(signed_of(word))
-}
 
 fn fields_of(moment: &[u32; 8]) -> Fields
     ensures { λ r. ⌜ r ≡ fieldsOf (now (moment .entry)) ⌝ }
@@ -155,24 +137,6 @@ fn day_or_zero(day: Day) -> Date
     }
 }
 
-fn flag(said: Said) -> u32
-    ensures { λ r. ⌜ r ≡ flag said ⌝ }
-{
-    match said {
-        Said::Unsaid => 0,
-        Said::Is(_) => 1,
-    }
-}
-
-fn number_or_0(said: Said) -> u32
-    ensures { λ r. ⌜ r ≡ numberOr0 said ⌝ }
-{
-    match said {
-        Said::Unsaid => 0,
-        Said::Is(n) => n,
-    }
-}
-
 // The number of a name's form: 0 none, 1 full, 2 middle, 3 short.
 fn form_number(form: NameForm) -> u32
     ensures { λ r. ⌜ r ≡ formNumber form ⌝ }
@@ -182,36 +146,6 @@ fn form_number(form: NameForm) -> u32
         NameForm::Full => 1,
         NameForm::Middle => 2,
         NameForm::Short => 3,
-    }
-}
-
-// The word of a number in two's complement.
-fn word_of(z: i32) -> u32
-    ensures { λ r. ⌜ r ≡ wordOf z ⌝ }
-{
-    let size = magnitude(z as i64);
-    if is_negative(z as i64) {
-        return (4294967296 - size) as u32;
-    }
-    size as u32
-}
-
-// Whether an offset is said, and which it is.
-fn offset_flag(offset: Offset) -> u32
-    ensures { λ r. ⌜ r ≡ offsetFlag offset ⌝ }
-{
-    match offset {
-        Offset::Unsaid => 0,
-        Offset::Minutes(_) => 1,
-    }
-}
-
-fn offset_word(offset: Offset) -> u32
-    ensures { λ r. ⌜ r ≡ offsetWord offset ⌝ }
-{
-    match offset {
-        Offset::Unsaid => 0,
-        Offset::Minutes(east) => word_of(east),
     }
 }
 

@@ -1,7 +1,8 @@
 -- `larusqem::show_days` meets its contract, word by word.
 use Rattle.strptime.specs.Answers.{showing, examining}
 use Rattle.matching.specs.Steps.{noForms}
-use Rattle.larusqem.specs.Words.{offsetFlag, offsetWord, more, wordsOf}
+use Rattle.words.specs.Words.{offsetFlag, offsetWord}
+use Rattle.larusqem.specs.Words.{more, wordsOf}
 use borrow.Author.Needs.{needs}
 use Rattle.larusqem.proofs.show_days.Statement.{statement}
 use Rattle.larusqem.proofs.show_days.Tie as tie

@@ -1,9 +1,9 @@
--- `larusqem::signed_of` meets its contract.
+-- `words::signed_of` meets its contract.
 use native.Mathlib.Omega.{arith}
 use borrow.Author.Needs.{needs}
-use Rattle.larusqem.proofs.Signed.{low-is, difference-fits, narrow-fits, high-is}
-use Rattle.larusqem.proofs.signed_of.Statement.{statement}
-use Rattle.larusqem.proofs.signed_of.Tie as tie
+use Rattle.words.proofs.Signed.{low-is, difference-fits, narrow-fits, high-is}
+use Rattle.words.proofs.signed_of.Statement.{statement}
+use Rattle.words.proofs.signed_of.Tie as tie
 
 cast-result : tie.Need-cast-result
 cast-result c = search needs

@@ -1,8 +1,8 @@
--- `larusqem::offset_flag` meets its contract.
+-- `words::offset_flag` meets its contract.
 use borrow.Author.Needs.{needs}
-use Rattle.larusqem.specs.Words.{offsetFlag}
-use Rattle.larusqem.proofs.offset_flag.Statement.{statement}
-use Rattle.larusqem.proofs.offset_flag.Tie as tie
+use Rattle.words.specs.Words.{offsetFlag}
+use Rattle.words.proofs.offset_flag.Statement.{statement}
+use Rattle.words.proofs.offset_flag.Tie as tie
 
 enum-told : tie.Need-enum-told
 enum-told c = search needs

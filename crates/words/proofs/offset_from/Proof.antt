@@ -1,4 +1,4 @@
--- `larusqem::offset_from` meets its contract.
+-- `words::offset_from` meets its contract.
 use mathlib.Core.Path.{ap, _∙_}
 use native.Mathlib.Omega.{arith}
 use borrow.Author.Needs.{needs}
@@ -6,11 +6,11 @@ use borrow.Author.Tests.{eq-eqb, ne-eqb}
 use mir.Facts.{toZ-ofZ}
 use mir.Syntax.{w32}
 use mir.Val.{toZ, ofZ}
-use Rattle.larusqem.specs.Words.{offsetFrom}
+use Rattle.words.specs.Words.{offsetFrom}
 use Rattle.values.specs.declared.offsets.Offset.the-variants.{Minutes}
-use Rattle.larusqem.proofs.Signed.{signed-fits}
-use Rattle.larusqem.proofs.offset_from.Statement.{statement}
-use Rattle.larusqem.proofs.offset_from.Tie as tie
+use Rattle.words.proofs.Signed.{signed-fits}
+use Rattle.words.proofs.offset_from.Statement.{statement}
+use Rattle.words.proofs.offset_from.Tie as tie
 
 returns : tie.Need-returns
 unfolding offsetFrom

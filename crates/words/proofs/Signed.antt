@@ -14,7 +14,7 @@ use mir.Val.{SFits, toZ, ofZ}
 use Rattle.laws.proofs.Cases.{clash}
 use Rattle.values.specs.Offsets.{isNegative}
 use Rattle.values.proofs.Seconds.{fits, kept, widened}
-use Rattle.larusqem.specs.Words.{signedOf, wordOf}
+use Rattle.words.specs.Words.{signedOf, wordOf}
 
 -- ---- the number of a word
 

@@ -1,9 +1,9 @@
--- `larusqem::word_of` meets its contract.
+-- `words::word_of` meets its contract.
 use native.Mathlib.Omega.{arith}
 use borrow.Author.Needs.{needs}
-use Rattle.larusqem.proofs.Signed.{wide-fits, size-most, negative-some, negative-word, positive-word}
-use Rattle.larusqem.proofs.word_of.Statement.{statement}
-use Rattle.larusqem.proofs.word_of.Tie as tie
+use Rattle.words.proofs.Signed.{wide-fits, size-most, negative-some, negative-word, positive-word}
+use Rattle.words.proofs.word_of.Statement.{statement}
+use Rattle.words.proofs.word_of.Tie as tie
 
 cast-magnitude : tie.Need-cast-magnitude
 cast-magnitude c = wide-fits (c .args .z) (c .fits .z)

@@ -1,11 +1,11 @@
--- `larusqem::offset_word` meets its contract.
+-- `words::offset_word` meets its contract.
 use mathlib.Core.Path.{ap, _∙_}
 use borrow.Author.Needs.{needs}
 use mir.Facts.{toZ-ofZ}
 use mir.Syntax.{w32}
-use Rattle.larusqem.specs.Words.{wordOf, offsetWord}
-use Rattle.larusqem.proofs.offset_word.Statement.{statement}
-use Rattle.larusqem.proofs.offset_word.Tie as tie
+use Rattle.words.specs.Words.{wordOf, offsetWord}
+use Rattle.words.proofs.offset_word.Statement.{statement}
+use Rattle.words.proofs.offset_word.Tie as tie
 
 enum-told : tie.Need-enum-told
 enum-told c = search needs

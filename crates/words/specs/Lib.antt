@@ -1,0 +1,2 @@
+-- What the words of values are.
+pub mod Words
