@@ -1,0 +1,5 @@
+pub mod Ranks
+pub mod Shifting
+pub mod Counting
+pub mod Tables
+pub mod Runs

@@ -23,7 +23,8 @@ use Rattle.values.specs.declared.offsets.Offset.{Offset}
 use Rattle.values.specs.declared.offsets.Offset.the-variants.{Unsaid as NoOffset, Minutes}
 use Rattle.values.proofs.Ranges.{ValidMoment, no-fault-moment}
 use Rattle.sheets.specs.Packing.{bits, packed, unpacked, Fit}
-use Rattle.sheets.specs.Sheets.{sheetWidths, flag, numberOr0, offsetFlag, offsetField, fields, wordOf, saidFrom, offsetFrom}
+use Rattle.words.specs.Words.{flag, numberOr0, offsetFlag}
+use Rattle.sheets.specs.Sheets.{sheetWidths, offsetField, fields, wordOf, saidFrom, offsetFrom}
 use Rattle.sheets.specs.Sheets.{sheetFrom, sheetOf, faultOf, isValid, isPacking, packingOf}
 use Rattle.sheets.specs.declared.Packed.the-variants.{Word, Bad}
 use Rattle.sheets.specs.declared.SheetFields.{SheetFields}

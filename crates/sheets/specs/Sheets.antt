@@ -16,6 +16,7 @@ use Rattle.values.specs.Offsets.{offsetNumber, offsetOf}
 use Rattle.values.specs.Values.{dayNumberOf}
 use Rattle.values.specs.declared.offsets.Offset.{Offset}
 use Rattle.values.specs.declared.offsets.Offset.the-variants.{Unsaid as NoOffset, Minutes}
+use Rattle.words.specs.Words.{flag, numberOr0, offsetFlag}
 use Rattle.sheets.specs.Packing.{packed, unpacked}
 use Rattle.sheets.specs.declared.DateFields.{DateFields}
 use Rattle.sheets.specs.declared.DateFields.the-variants.{NoFields, Fields}
@@ -32,20 +33,7 @@ use Rattle.sheets.specs.declared.Unpacked.the-variants.{Holds, NoSheet}
 unfoldable pub sheetWidths : List ℕ
 sheetWidths = 14 ∷ 4 ∷ 5 ∷ 1 ∷ 5 ∷ 1 ∷ 6 ∷ 1 ∷ 6 ∷ 1 ∷ 12 ∷ 8 ∷ []
 
--- whether an hour, minute or second is said, 1 or 0, and its number; an unsaid field is zero
-abbrev pub flag : Said → ℕ
-flag Unsaid = 0
-flag (Is n) = 1
-
-abbrev pub numberOr0 : Said → ℕ
-numberOr0 Unsaid = 0
-numberOr0 (Is n) = n
-
--- the same of a zone offset, whose number is the offset and 1439 more
-unfoldable pub offsetFlag : Offset → ℕ
-offsetFlag NoOffset = 0
-offsetFlag (Minutes z) = 1
-
+-- the number of a zone offset in its field: the offset and 1439 more; an unsaid field is zero
 unfoldable pub offsetField : Offset → ℕ
 offsetField NoOffset = 0
 offsetField (Minutes z) = offsetNumber z
@@ -144,6 +132,6 @@ weekOf x = weekOfDate (sheetOf x .date)
 
 -- everything here, for proofs that compute
 unfoldable pub computes : Unit {0}
-unfolding sheetWidths offsetFlag offsetField fields wordOf saidFrom offsetFrom sheetFrom sheetOf
+unfolding sheetWidths offsetField fields wordOf saidFrom offsetFrom sheetFrom sheetOf
     faultOf isValid isPacking unpacking packingOf dated packing dayFields readingFields weekWidths weekOfDate weekOf
 computes = tt

@@ -8,10 +8,12 @@ use values::MomentFields;
 use values::Offset;
 use values::magnitude;
 use values::offset_of;
+use words::number_or_0;
 ghost use mathlib.Core.Path.{_≡_};
 ghost use mathlib.Core.Bool.{true};
 ghost use Prim.Native.Nat.{_+_, _*_, _<_, _^_};
-ghost use Rattle.sheets.specs.Sheets.{flag, numberOr0, offsetFlag, offsetField, wordOf, saidFrom, offsetFrom, sheetOf, isValid};
+ghost use Rattle.words.specs.Words.{flag, numberOr0, offsetFlag};
+ghost use Rattle.sheets.specs.Sheets.{offsetField, wordOf, saidFrom, offsetFrom, sheetOf, isValid};
 ghost use Rattle.sheets.specs.Sheets.{isPacking, unpacking, packing, dayFields, readingFields, weekOfDate, weekOf};
 
 pub struct Sheet {
@@ -72,15 +74,6 @@ const SECOND: u64 = 2097152;
 const OFFSET_SAID: u64 = 1048576;
 
 const OFFSET: u64 = 256;
-
-fn number_or_0(said: Said) -> u32
-    ensures { λ r. ⌜ r ≡ numberOr0 said ⌝ }
-{
-    match said {
-        Said::Unsaid => 0,
-        Said::Is(n) => n,
-    }
-}
 
 // Whether an hour, minute or second is said, and its number, which is below `size`.
 fn said_field(said: Said, size: u64) -> u64

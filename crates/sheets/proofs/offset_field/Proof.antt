@@ -1,6 +1,7 @@
 -- `sheets::offset_field` meets its contract. Assumes nothing.
 use Rattle.sheets.proofs.Offsets.{wide, sum-fits, number-is, number-most}
-use Rattle.sheets.specs.Sheets.{offsetFlag, offsetField}
+use Rattle.words.specs.Words.{offsetFlag}
+use Rattle.sheets.specs.Sheets.{offsetField}
 use native.Mathlib.Omega.{arith}
 use borrow.Author.Needs.{needs}
 use Rattle.sheets.proofs.offset_field.Statement.{statement}
