@@ -1,5 +1,6 @@
 pub mod Ranks
 pub mod Shifting
 pub mod Counting
+pub mod Listing
 pub mod Tables
 pub mod Runs

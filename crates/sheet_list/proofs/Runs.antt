@@ -5,6 +5,7 @@ use mathlib.Core.Bool.{Bool, true, false, cond, _&&_, and-eq-true-iff}
 use mathlib.Core.List.{List, [], _∷_, _++_, map}
 use mathlib.Core.Path.{_≡_, refl, sym, ap, _∙_}
 use native.Mathlib.Decide.{ℕ-discrete}
+use native.Mathlib.Numerals.{add-one}
 use native.Mathlib.Omega.{arith}
 use borrow.Author.Tests.{eq-eqb, ne-eqb, eqb-true, leb-true}
 use lib.Dec.{eqb, leb}
@@ -83,22 +84,18 @@ run-first x s w =
 
 -- ---- the walk through list and table: what is left to compare decides
 
+-- the list's end: nothing may be left of the table
+left : (r : List ℕ) → same r [] ≡ eqb (length r) 0
+unfolding same
+left [] = refl
+left (x ∷ r) = sym (ne-eqb (suc (length r)) 0 (λ e. omega (arith, e)))
+
+abbrev pub Walk : List ℕ → List ℕ → ℕ → ℕ → Type 0
+Walk s t i j = same (drop j t) (tableOf (drop i s)) ≡ same t (tableOf s)
+
 module _ (s t : List ℕ) (w : Weekly 0 s) where
-  pub Walk : ℕ → ℕ → Type 0
-  Walk i j = same (drop j t) (tableOf (drop i s)) ≡ same t (tableOf s)
-
-  pub walk-start : Walk 0 0
-  unfolding Walk
-  walk-start = refl
-
-  -- the list's end: nothing may be left of the table
-  left : (r : List ℕ) → same r [] ≡ eqb (length r) 0
-  unfolding same
-  left [] = refl
-  left (x ∷ r) = sym (ne-eqb (suc (length r)) 0 (λ e. omega (arith, e)))
-
-  pub walk-end : (i j : ℕ) → length s ≤ i → j ≤ length t → Walk i j → eqb j (length t) ≡ same t (tableOf s)
-  unfolding Walk tableOf weeksOf
+  pub walk-end : (i j : ℕ) → length s ≤ i → j ≤ length t → Walk s t i j → eqb j (length t) ≡ same t (tableOf s)
+  unfolding tableOf weeksOf
   walk-end i j h l e =
       let n : length (drop j t) ≡ length t - j = length-drop j t in
       let g : same (drop j t) [] ≡ same t (tableOf s) = rw (drop-of-length-le s {i = i} h) at e in
@@ -108,12 +105,6 @@ module _ (s t : List ℕ) (w : Weekly 0 s) where
       ]
 
   module _ (i j : ℕ) (h : i < length s) where
-    at : ℕ
-    at = getD s i 0
-
-    run : ℕ
-    run = weekRun (weekOf (getD s i 0)) (drop i s)
-
     here : drop i s ≡ getD s i 0 ∷ drop (suc i) s
     here = drop-cons s i 0 h
 
@@ -128,20 +119,20 @@ module _ (s t : List ℕ) (w : Weekly 0 s) where
     run-some = rw (here, run-more (weekOf (getD s i 0)) (getD s i 0) (drop (suc i) s) refl) (omega arith)
 
     -- the table ends first
-    pub walk-short : length t ≤ j → Walk i j → false ≡ same t (tableOf s)
-    unfolding Walk same
+    pub walk-short : length t ≤ j → Walk s t i j → false ≡ same t (tableOf s)
+    unfolding same
     walk-short l e = rw (drop-of-length-le t {i = j} l, split) at e
 
     module _ (l : j < length t) where
-      pub walk-differs : (getD t j 0 ≡ tallyWord (tally (weekOf (getD s i 0)) (weekRun (weekOf (getD s i 0)) (drop i s))) → ⊥) → Walk i j
+      pub walk-differs : (getD t j 0 ≡ tallyWord (tally (weekOf (getD s i 0)) (weekRun (weekOf (getD s i 0)) (drop i s))) → ⊥) → Walk s t i j
           → false ≡ same t (tableOf s)
-      unfolding Walk same
+      unfolding same
       walk-differs n e = rw (drop-cons t j 0 l, split, ne-eqb _ _ n) at e
 
-      pub walk-on : getD t j 0 ≡ tallyWord (tally (weekOf (getD s i 0)) (weekRun (weekOf (getD s i 0)) (drop i s))) → Walk i j
-          → Walk (i + weekRun (weekOf (getD s i 0)) (drop i s)) (suc j)
-      unfolding Walk same
-      walk-on n e = rw (drop-cons t j 0 l, split, eq-eqb _ _ n) at e
+      pub walk-on : getD t j 0 ≡ tallyWord (tally (weekOf (getD s i 0)) (weekRun (weekOf (getD s i 0)) (drop i s))) → Walk s t i j
+          → Walk s t (i + weekRun (weekOf (getD s i 0)) (drop i s)) (j + 1)
+      unfolding same
+      walk-on n e = rw add-one (rw (drop-cons t j 0 l, split, eq-eqb _ _ n) at e)
 
 run-most : (k : ℕ) (s : List ℕ) → weekRun k s ≤ length s
 unfolding weekRun
@@ -155,3 +146,25 @@ run-most k (x ∷ s) =
 -- the end of a run lies in the list
 pub run-within : (k i : ℕ) (s : List ℕ) → i ≤ length s → i + weekRun k (drop i s) ≤ length s
 run-within k i s h = omega (arith, run-most k (drop i s), length-drop i s)
+
+-- ---- the end of a run, word by word
+
+module _ (k from : ℕ) (s : List ℕ) where
+  abbrev pub Running : ℕ → Type 0
+  Running i = i + weekRun k (drop i s) ≡ from + weekRun k (drop from s)
+
+  pub run-stops : (i : ℕ) → i < length s → (weekOf (getD s i 0) ≡ k → ⊥) → Running i → i ≡ from + weekRun k (drop from s)
+  run-stops i h n e =
+      let z : weekRun k (drop i s) ≡ 0 = rw (drop-cons s i 0 h) (run-none k (getD s i 0) (drop (suc i) s) n) in
+      omega (arith, e, z)
+
+  pub run-goes : (i : ℕ) → i < length s → weekOf (getD s i 0) ≡ k → Running i → Running (i + 1)
+  run-goes i h n e =
+      let z : weekRun k (drop i s) ≡ suc (weekRun k (drop (suc i) s))
+      = rw (drop-cons s i 0 h) (run-more k (getD s i 0) (drop (suc i) s) n) in
+      rw add-one (omega (arith, e, z))
+
+  pub run-ends : (i : ℕ) → length s ≤ i → Running i → i ≡ from + weekRun k (drop from s)
+  run-ends i h e =
+      let z : weekRun k (drop i s) ≡ 0 = unfold weekRun in rw (drop-of-length-le s {i = i} h) in
+      omega (arith, e, z)

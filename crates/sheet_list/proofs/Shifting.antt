@@ -4,8 +4,8 @@ use Prim.Native.Nat.{ℕ, zero, suc, _+_, _-_, _≤_, _<_}
 use mathlib.Core.List.{List, [], _∷_, _++_, append-assoc}
 use mathlib.Core.Path.{_≡_, refl, sym, ap, ap₂, _∙_}
 use native.Mathlib.Omega.{arith}
-use lib.ListN.{length, getD, take, drop, set, length-take, length-drop, length-append, List·getD-append}
-use lib.Seq.{length-take-le, split-at, take-suc, drop-cons, set-at, getD-take, take-take, take-nil, append-snoc}
+use lib.ListN.{length, getD, take, drop, set, length-take, length-drop, length-append, length-set, List·getD-append, take-append-drop}
+use lib.Seq.{length-take-le, split-at, take-suc, drop-cons, set-at, getD-take, take-take, take-nil, append-snoc, set-append-left}
 use Rattle.sheet_list.specs.Adding.{over}
 use Rattle.sheet_list.specs.Private.{putAt}
 
@@ -59,3 +59,17 @@ module _ (w : List ℕ) (c : ℕ) (h : c < length w) where
       let n : length (take at w ++ (x ∷ take (c - at) (drop at w))) ≡ suc c
       = simp (length-append, length-take, length-drop) (omega arith) in
       a ∙ rw (take-take at c w l, drop-take at c w, n) (sym (append-assoc (take at w) _ _))
+
+-- ---- the front of an array changed
+
+-- at a place of the front
+pub over-set : (w : List ℕ) (c at x : ℕ) → at < c → c ≤ length w → over (set (take c w) at x) w ≡ set w at x
+unfolding over
+over-set w c at x h l =
+    let n = length-take-le c w l in
+    let e : length (set (take c w) at x) ≡ c = length-set (take c w) at x ∙ n in
+    rw e (sym (set-append-left (take c w) (drop c w) at x (omega arith)) ∙ ap (λ (r : List ℕ). set r at x) (take-append-drop c w))
+
+pub put-length : (s : List ℕ) (at x : ℕ) → at ≤ length s → length (putAt at x s) ≡ suc (length s)
+unfolding putAt
+put-length s at x h = simp (length-append, length-take, length-drop) (omega arith)

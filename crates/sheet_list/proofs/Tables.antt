@@ -1,17 +1,18 @@
 -- The words of a table: one sheet more of a week, and whether a week is among them, by where its first bits would stand.
 -- Assumes nothing.
-use Prim.Native.Nat.{ℕ, zero, suc, _+_, _*_, _/_, _^_, _≤_, _<_}
-use mathlib.Core.Bool.{Bool, true, false, cond, _&&_, _||_}
+use Prim.Native.Nat.{ℕ, zero, suc, _+_, _-_, _*_, _/_, _≤_, _<_}
+use mathlib.Core.Bool.{Bool, true, false, cond, _&&_, _||_, and-eq-true-iff}
 use mathlib.Core.List.{List, [], _∷_, _++_, map}
 use mathlib.Core.Path.{_≡_, refl, sym, ap, _∙_}
 use native.Mathlib.Decide.{decLt, decLe, ℕ-discrete}
 use native.Mathlib.Omega.{arith}
-use borrow.Author.Tests.{lt-ltb, le-ltb, le-leb, eq-eqb, ne-eqb}
+use borrow.Author.Tests.{lt-ltb, le-ltb, le-leb, eq-eqb, ne-eqb, ltb-true, eqb-true}
 use lib.Dec.{eqb, ltb, leb}
 use lib.ListN.{length, getD, take, drop, set}
+use Rattle.laws.proofs.Cases.{clash}
 use Rattle.sheets.specs.Packing.{bits, packed}
 use Rattle.sheet_list.specs.Ascending.{ascendingFrom, below}
-use Rattle.sheet_list.specs.Private.{putAt, week, countedIn, weekIn}
+use Rattle.sheet_list.specs.Private.{putAt, week, countedIn, weekIn, isWeekAt}
 use Rattle.sheet_list.specs.Weeks.{Tally, tally, counted, tallyWidths, tallyWord, hasWeek}
 use Rattle.sheet_list.proofs.Counting.{Cases, cases, counted-less, counted-same, counted-more, Rising, Most}
 use Rattle.sheet_list.proofs.Counting.Cases.{less, same, more}
@@ -114,11 +115,37 @@ module _ (k : ℕ) where
       let f = first-lower k x t e in
       rw (ne-eqb k (x / week) (λ g. omega (arith, g, f .0))) (week-out t n (f .1) (omega arith))
 
+-- the same by whether the word at the rank is that of the week
+module _ (k : ℕ) (t : List ℕ) {n : ℕ} (e : n ≡ below (k * week) t) where
+  pub at-held : isWeekAt k n t ≡ true → (n < length t) × (getD t n 0 / week ≡ k)
+  unfolding isWeekAt
+  at-held h =
+      let b = and-eq-true-iff (ltb n (length t)) (eqb (getD t n 0 / week) k) .0 h in
+      (ltb-true n (length t) (b .0), eqb-true (getD t n 0 / week) k (b .1))
+
+  pub at-new : isWeekAt k n t ≡ false → countedIn k t ≡ putAt n (k * week + 1) t
+  unfolding isWeekAt
+  at-new h =
+      counted-new k t n e
+      (λ l g. clash (let z : (ltb n (length t) && eqb (getD t n 0 / week) k) ≡ true = rw (lt-ltb n (length t) l, eq-eqb _ k g) in cc))
+
+  pub week-at : (low : ℕ) → ascendingFrom low t ≡ true → isWeekAt k n t ≡ weekIn k t
+  unfolding isWeekAt
+  week-at low a =
+      elim (decLt n (length t)) [
+        | yes h ↦ rw (lt-ltb n (length t) h) (sym (week-in k low t n a e h))
+        | no h ↦ rw (le-ltb n (length t) (omega (arith, h))) (sym (week-out k t n e (omega (arith, h))))
+      ]
+
 -- ---- the words of weeks with few enough sheets
 
-word-is : (t : Tally) → tallyWord t ≡ t .week * week + t .sheets
+pub word-is : (t : Tally) → tallyWord t ≡ t .week * week + t .sheets
 unfolding tallyWord tallyWidths packed bits
 word-is t = omega arith
+
+-- as it is worked out
+pub entry-is : {k e : ℕ} (i l n : ℕ) → k ≡ l → e ≡ i + n → k * week + (e - i) ≡ tallyWord (tally l n)
+entry-is i l n p q = omega (arith, p, q, word-is (tally l n))
 
 pub word-week : (t : Tally) → t .sheets < week → tallyWord t / week ≡ t .week
 word-week t h = omega (arith, word-is t)

@@ -1,10 +1,10 @@
 -- What the code passes through on the way: no part of a promise of the crate.
 use Prim.Native.Nat.{ℕ, suc, _+_, _*_, _/_, _^_, _≤_, _<_}
-use mathlib.Core.Bool.{Bool, true, false, cond, _||_}
+use mathlib.Core.Bool.{Bool, true, false, cond, _&&_, _||_}
 use mathlib.Core.List.{List, [], _∷_, _++_}
 use mathlib.Core.Path.{_≡_}
 use lib.Dec.{eqb, ltb}
-use lib.ListN.{length, take, drop}
+use lib.ListN.{length, getD, take, drop}
 use Rattle.laws.specs.Lists.{every}
 use Rattle.sheets.specs.Sheets.{isPacking, weekOf}
 use Rattle.sheet_list.specs.Ascending.{ascending}
@@ -32,6 +32,10 @@ countedIn k (e ∷ t) =
 unfoldable pub weekIn : ℕ → List ℕ → Bool
 weekIn k [] = false
 weekIn k (e ∷ t) = eqb k (e / week) || weekIn k t
+
+-- the word at a place is that of a week
+unfoldable pub isWeekAt : ℕ → ℕ → List ℕ → Bool
+isWeekAt k at t = ltb at (length t) && eqb (getD t at 0 / week) k
 
 -- a list of packings, ascending, no longer than the longest
 pub record Listed (s : List ℕ) : Type 0 where

@@ -9,7 +9,7 @@ ghost use lib.ListN.{length, getD, take, drop};
 ghost use Rattle.sheets.specs.Sheets.{weekOf};
 ghost use Rattle.sheet_list.specs.Adding.{over, same};
 ghost use Rattle.sheet_list.specs.Ascending.{ascending};
-ghost use Rattle.sheet_list.specs.Private.{weekRun, countedIn, weekIn, Listed};
+ghost use Rattle.sheet_list.specs.Private.{weekRun, countedIn, weekIn, isWeekAt, Listed};
 ghost use Rattle.sheet_list.specs.Weeks.{tableOf};
 
 // What one of a week's bits is in a word of the table.
@@ -52,16 +52,23 @@ pub(crate) fn is_table(words: &[u64], table: &[u64]) -> bool
     j == table.len()
 }
 
+// Whether the word at a place of a table is that of a week.
+fn is_week_at(table: &[u64], at: usize, week: u64) -> bool
+    ensures { λ r. ⌜ r ≡ isWeekAt week at (now (table .entry)) ⌝ }
+{
+    if table.len() <= at {
+        return false;
+    }
+    table[at] / WEEK == week
+}
+
 // Whether a week is in a table.
 pub(crate) fn has_week(table: &[u64], week: u64) -> bool
     requires { ⌜ (ascending (now table) ≡ true) × (week < 2 ^ 20) ⌝ }
     ensures { λ r. ⌜ r ≡ weekIn week (now (table .entry)) ⌝ }
 {
     let at = rank(table, week * WEEK);
-    if table.len() <= at {
-        return false;
-    }
-    table[at] / WEEK == week
+    is_week_at(table, at, week)
 }
 
 // Counts one sheet more of a week in the first `weeks` words of a table, and answers how many they are then.
@@ -73,12 +80,9 @@ pub(crate) fn count_week(table: &mut [u64], weeks: usize, week: u64) -> usize
     ensures { λ _. ⌜ now (table .exit) ≡ over (countedIn week (take weeks (now (table .entry)))) (now (table .entry)) ⌝ }
 {
     let at = rank(&table[..weeks], week * WEEK);
-    if at < weeks {
-        let entry = table[at];
-        if entry / WEEK == week {
-            table[at] = entry + 1;
-            return weeks;
-        }
+    if is_week_at(&table[..weeks], at, week) {
+        table[at] = table[at] + 1;
+        return weeks;
     }
     put_at(table, at, weeks, week * WEEK + 1);
     weeks + 1

@@ -11,7 +11,7 @@ use Rattle.calendar.specs.Calendar.{yearLength, days, daysBefore, yearOf, dateO
 use Rattle.calendar.specs.declared.Date.{Date}
 use Rattle.calendar.proofs.Dates as dates
 use Rattle.calendar.proofs.Dates.{number-before, number-within, date-of-number}
-use Rattle.calendar.proofs.Ranges.{thursday-within, iso-week-range}
+use Rattle.calendar.proofs.Ranges.{thursday-within, iso-year-range, iso-week-range}
 use Rattle.calendar.proofs.Sum.{sum-mono}
 use Rattle.calendar.proofs.Weeks.{iso-week-is}
 use Rattle.calendar.proofs.Years.{year-located}
@@ -132,3 +132,11 @@ packing-weeks x y p q h =
     let s = sheetOf x in
     let t = sheetOf y in
     week-order s t (small s (packing-valid x p)) (small t (packing-valid y q)) (omega (arith, packing-again x p, packing-again y q))
+
+-- and a packing's week has 20 bits, with room above it
+pub packing-week : (x : ℕ) → isPacking x ≡ true → weekOf x + 1 < 2 ^ 20
+unfolding weekOf weekOfDate weekWidths packed bits
+packing-week x p =
+    let t = sheetOf x .date in
+    let n = number-within _ _ _ (small (sheetOf x) (packing-valid x p) .date) in
+    omega (arith, iso-year-range (dayNumberOf t) (n .0) (n .1), iso-week-range (dayNumberOf t) (n .0) (n .1))

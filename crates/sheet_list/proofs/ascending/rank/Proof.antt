@@ -1,57 +1,59 @@
+-- `sheet_list::ascending::rank` meets its contract. Assumes nothing.
+use Rattle.sheet_list.proofs.Ranks.{below-most, not-lower, lower}
+use Rattle.sheet_list.specs.Ascending.{below}
+use lib.ListN.{length}
+use native.Mathlib.Omega.{arith}
+use mathlib.Core.Path.{_≡_}
+use Prim.Native.Nat.{_-_, _≤_}
 use Rattle.sheet_list.proofs.ascending.rank.Statement.{statement}
 use Rattle.sheet_list.proofs.ascending.rank.Tie as tie
-use Rattle.sheet_list.proofs.ascending.rank.Reads as reads
-use Rattle.sheet_list.proofs.ascending.rank.Lts as lts
 
 abbrev Inv-loop : tie.InvT-loop
-Inv-loop words word low₀ high₀ low high = ?
+Inv-loop words word low₀ high₀ low high = (low ≤ high) × (high ≤ length words) × (low ≤ below word words) × (below word words ≤ high)
 
 abbrev μ-loop : tie.MeasureT-loop
-μ-loop words word low₀ high₀ low high = ?
+μ-loop words word low₀ high₀ low high = high - low
 
--- src/ascending.rt:17:5
 loop-holds : tie.Need-loop-holds Inv-loop μ-loop
-loop-holds c = ?
+loop-holds c = (omega arith, omega arith, omega arith, below-most (c .args .word) (c .args .words .now))
 
--- src/ascending.rt:18:29
 sub-middle : tie.Need-sub-middle Inv-loop μ-loop
-sub-middle c = ?
+sub-middle c = omega arith
 
--- src/ascending.rt:18:22
 add-middle : tie.Need-add-middle Inv-loop μ-loop
-add-middle c = ?
+add-middle c = omega arith
 
--- src/ascending.rt:19:12
 mul-if1 : tie.Need-mul-if1 Inv-loop μ-loop
-mul-if1 c = ?
+mul-if1 c = omega arith
 
--- src/ascending.rt:19:12
 shared-slice-read-if1 : tie.Need-shared-slice-read-if1 Inv-loop μ-loop
-shared-slice-read-if1 c = ?
+shared-slice-read-if1 c = omega arith
 
--- src/ascending.rt:20:19
 add-low : tie.Need-add-low Inv-loop μ-loop
-add-low c = ?
+add-low c = omega arith
 
--- src/ascending.rt:17:5
 loop-less : tie.Need-loop-less Inv-loop μ-loop
-loop-less c = ?
+loop-less c = omega arith
 
--- src/ascending.rt:17:5
 loop-again : tie.Need-loop-again Inv-loop μ-loop
-loop-again c = ?
+loop-again c =
+    let s = c .before .before .before .before in
+    let l = c .before .before .before .loop in
+    let g = lower 0 (s .args .word) (s .args .words .now) _ (s .pre) (omega arith) (c .if1 .taken) in
+    (omega arith, omega arith, omega (arith, g), omega arith)
 
--- src/ascending.rt:17:5
 loop-less-2 : tie.Need-loop-less-2 Inv-loop μ-loop
-loop-less-2 c = ?
+loop-less-2 c = omega arith
 
--- src/ascending.rt:17:5
 loop-again-2 : tie.Need-loop-again-2 Inv-loop μ-loop
-loop-again-2 c = ?
+loop-again-2 c =
+    let s = c .before .before .before .before in
+    let l = c .before .before .before .loop in
+    let g = not-lower (s .args .word) (s .args .words .now) _ (omega arith) (c .if1 .left) in
+    (omega arith, omega arith, omega arith, g)
 
--- src/ascending.rt:11:1
 returns : tie.Need-returns Inv-loop μ-loop
-returns c = ?
+returns c = omega arith
 
 pub rank-spec : {M : Type 1} → statement M
 rank-spec =
