@@ -1,6 +1,7 @@
 pub mod Ranks
 pub mod Shifting
 pub mod Counting
+pub mod Holding
 pub mod Listing
 pub mod Tables
 pub mod Runs

@@ -24,7 +24,7 @@ use Rattle.values.specs.declared.offsets.Offset.the-variants.{Unsaid as NoOffse
 use Rattle.values.proofs.Ranges.{ValidMoment, no-fault-moment}
 use Rattle.sheets.specs.Packing.{bits, packed, unpacked, Fit}
 use Rattle.words.specs.Words.{flag, numberOr0, offsetFlag}
-use Rattle.sheets.specs.Sheets.{sheetWidths, offsetField, fields, wordOf, saidFrom, offsetFrom}
+use Rattle.sheets.specs.Sheets.{sheetWidths, offsetField, fields, wordOf, saidFrom, fieldOffset}
 use Rattle.sheets.specs.Sheets.{sheetFrom, sheetOf, faultOf, isValid, isPacking, packingOf}
 use Rattle.sheets.specs.declared.Packed.the-variants.{Word, Bad}
 use Rattle.sheets.specs.declared.SheetFields.{SheetFields}
@@ -128,8 +128,8 @@ unfolding saidFrom
 said-again Unsaid = refl
 said-again (Is n) = refl
 
-offset-again : (o : Offset) → isOffset o ≡ true → offsetFrom (offsetFlag o) (offsetField o) ≡ o
-unfolding offsetFrom offsetFlag offsetField offsetOf isOffset
+offset-again : (o : Offset) → isOffset o ≡ true → fieldOffset (offsetFlag o) (offsetField o) ≡ o
+unfolding fieldOffset offsetFlag offsetField offsetOf isOffset
 offset-again NoOffset e = refl
 offset-again (Minutes z) e =
     let h = shifted z (leb-true _ _ e) in

@@ -16,7 +16,7 @@ use Rattle.values.specs.Offsets.{offsetNumber, offsetOf}
 use Rattle.values.specs.Values.{dayNumberOf}
 use Rattle.values.specs.declared.offsets.Offset.{Offset}
 use Rattle.values.specs.declared.offsets.Offset.the-variants.{Unsaid as NoOffset, Minutes}
-use Rattle.words.specs.Words.{flag, numberOr0, offsetFlag}
+use Rattle.words.specs.Words.{flag, numberOr0, offsetFlag, offsetFrom}
 use Rattle.sheets.specs.Packing.{packed, unpacked}
 use Rattle.sheets.specs.declared.DateFields.{DateFields}
 use Rattle.sheets.specs.declared.DateFields.the-variants.{NoFields, Fields}
@@ -56,8 +56,8 @@ wordOf s = packed sheetWidths (fields s)
 unfoldable pub saidFrom : ℕ → ℕ → Said
 saidFrom f n = cond (eqb f 0) Unsaid (Is n)
 
-unfoldable pub offsetFrom : ℕ → ℕ → Offset
-offsetFrom f n = cond (eqb f 0) NoOffset (offsetOf (suc n))
+unfoldable pub fieldOffset : ℕ → ℕ → Offset
+fieldOffset f n = cond (eqb f 0) NoOffset (offsetOf (suc n))
 
 unfoldable pub sheetFrom : List ℕ → Sheet
 sheetFrom ns =
@@ -66,7 +66,7 @@ sheetFrom ns =
       hour = saidFrom (getD ns 3 0) (getD ns 4 0);
       minute = saidFrom (getD ns 5 0) (getD ns 6 0);
       second = saidFrom (getD ns 7 0) (getD ns 8 0);
-      offset = offsetFrom (getD ns 9 0) (getD ns 10 0);
+      offset = fieldOffset (getD ns 9 0) (getD ns 10 0);
     }
 
 -- the sheet that a word unpacks to, valid or not
@@ -116,6 +116,14 @@ unfoldable pub readingFields : Reading → SheetFields
 readingFields r =
     record { date = dayFields (r .day); hour = r .hour; minute = r .minute; second = r .second; offset = r .offset }
 
+-- what words say of a sheet (RULES 10): a date of three zeros is none, and a flag of 0 leaves its field unsaid
+unfoldable pub dateFrom : ℕ → ℕ → ℕ → DateFields
+dateFrom y m d = cond (eqb y 0 && (eqb m 0 && eqb d 0)) NoFields (Fields y m d)
+
+unfoldable pub fieldsFrom : ℕ → ℕ → ℕ → ℕ → ℕ → ℕ → ℕ → ℕ → ℕ → ℕ → ℕ → SheetFields
+fieldsFrom y m d hf h nf n sf s of o =
+    record { date = dateFrom y m d; hour = saidFrom hf h; minute = saidFrom nf n; second = saidFrom sf s; offset = offsetFrom of o }
+
 -- ---- the week of a sheet
 
 -- ISO year 14 bits, week 6 bits
@@ -132,6 +140,6 @@ weekOf x = weekOfDate (sheetOf x .date)
 
 -- everything here, for proofs that compute
 unfoldable pub computes : Unit {0}
-unfolding sheetWidths offsetField fields wordOf saidFrom offsetFrom sheetFrom sheetOf
-    faultOf isValid isPacking unpacking packingOf dated packing dayFields readingFields weekWidths weekOfDate weekOf
+unfolding sheetWidths offsetField fields wordOf saidFrom fieldOffset sheetFrom sheetOf
+    faultOf isValid isPacking unpacking packingOf dated packing dayFields readingFields dateFrom fieldsFrom weekWidths weekOfDate weekOf
 computes = tt

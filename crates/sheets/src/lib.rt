@@ -9,12 +9,14 @@ use values::Offset;
 use values::magnitude;
 use values::offset_of;
 use words::number_or_0;
+use words::offset_from;
 ghost use mathlib.Core.Path.{_≡_};
 ghost use mathlib.Core.Bool.{true};
 ghost use Prim.Native.Nat.{_+_, _*_, _<_, _^_};
 ghost use Rattle.words.specs.Words.{flag, numberOr0, offsetFlag};
-ghost use Rattle.sheets.specs.Sheets.{offsetField, wordOf, saidFrom, offsetFrom, sheetOf, isValid};
-ghost use Rattle.sheets.specs.Sheets.{isPacking, unpacking, packing, dayFields, readingFields, weekOfDate, weekOf};
+ghost use Rattle.sheets.specs.Sheets.{offsetField, wordOf, saidFrom, fieldOffset, sheetOf, isValid};
+ghost use Rattle.sheets.specs.Sheets.{weekOfDate, weekOf};
+ghost use Rattle.sheets.specs.Sheets.{isPacking, unpacking, packing, dayFields, readingFields, dateFrom, fieldsFrom};
 
 pub struct Sheet {
     pub date: Date,
@@ -151,24 +153,24 @@ pub fn pack(fields: SheetFields) -> Packed
     }
 }
 
-fn said_from(flag: u64, n: u64) -> Said
-    requires { ⌜ n < 2 ^ 32 ⌝ }
+fn said_from(flag: u32, n: u32) -> Said
     ensures { λ r. ⌜ r ≡ saidFrom flag n ⌝ }
 {
     if flag == 0 {
         return Said::Unsaid;
     }
-    Said::Is(n as u32)
+    Said::Is(n)
 }
 
-fn offset_from(flag: u64, n: u64) -> Offset
+// The offset of a word's fields.
+fn field_offset(flag: u32, n: u32) -> Offset
     requires { ⌜ n < 2 ^ 31 ⌝ }
-    ensures { λ r. ⌜ r ≡ offsetFrom flag n ⌝ }
+    ensures { λ r. ⌜ r ≡ fieldOffset flag n ⌝ }
 {
     if flag == 0 {
         return Offset::Unsaid;
     }
-    offset_of(n as u32 + 1)
+    offset_of(n + 1)
 }
 
 // The date of a word.
@@ -198,10 +200,10 @@ fn sheet_of(word: u64) -> Sheet
     let offset = from_offset % OFFSET_SAID;
     Sheet {
         date,
-        hour: said_from(time / HOUR_SAID, hour / HOUR),
-        minute: said_from(from_minute / MINUTE_SAID, minute / MINUTE),
-        second: said_from(from_second / SECOND_SAID, second / SECOND),
-        offset: offset_from(from_offset / OFFSET_SAID, offset / OFFSET),
+        hour: said_from((time / HOUR_SAID) as u32, (hour / HOUR) as u32),
+        minute: said_from((from_minute / MINUTE_SAID) as u32, (minute / MINUTE) as u32),
+        second: said_from((from_second / SECOND_SAID) as u32, (second / SECOND) as u32),
+        offset: field_offset((from_offset / OFFSET_SAID) as u32, (offset / OFFSET) as u32),
     }
 }
 
@@ -276,6 +278,47 @@ pub fn reading_fields(reading: Reading) -> SheetFields
         minute,
         second,
         offset,
+    }
+}
+
+// A date from three words: all 0 is none.
+fn date_from(year: u32, month: u32, day: u32) -> DateFields
+    ensures { λ r. ⌜ r ≡ dateFrom year month day ⌝ }
+{
+    if year != 0 {
+        return DateFields::Fields { year, month, day };
+    }
+    if month != 0 {
+        return DateFields::Fields { year, month, day };
+    }
+    if day != 0 {
+        return DateFields::Fields { year, month, day };
+    }
+    DateFields::NoFields
+}
+
+// A sheet as it comes in words (RULES 10): year, month and day, then whether each other field is said and which it is.
+pub fn fields_from(
+    year: u32,
+    month: u32,
+    day: u32,
+    hour_said: u32,
+    hour: u32,
+    minute_said: u32,
+    minute: u32,
+    second_said: u32,
+    second: u32,
+    offset_said: u32,
+    offset: u32,
+) -> SheetFields
+    ensures { λ r. ⌜ r ≡ fieldsFrom year month day «hour_said» hour «minute_said» minute «second_said» second «offset_said» offset ⌝ }
+{
+    SheetFields {
+        date: date_from(year, month, day),
+        hour: said_from(hour_said, hour),
+        minute: said_from(minute_said, minute),
+        second: said_from(second_said, second),
+        offset: offset_from(offset_said, offset),
     }
 }
 

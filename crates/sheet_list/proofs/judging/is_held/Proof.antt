@@ -1,54 +1,65 @@
+-- `sheet_list::judging::is_held` meets its contract. Assumes nothing.
+use Rattle.sheet_list.proofs.Holding.{too-long, past-end, other-length, past-table, no-list, by-table, listed}
+use lib.ListN.{take}
+use lib.Seq.{length-take-le}
+use mathlib.Core.Path.{sym, _∙_}
+use borrow.Author.Tests.{not-true, not-false}
+use native.Mathlib.Omega.{arith}
 use borrow.Author.Needs.{needs}
 use Rattle.sheet_list.proofs.judging.is_held.Statement.{statement}
 use Rattle.sheet_list.proofs.judging.is_held.Tie as tie
-use Rattle.sheet_list.proofs.judging.is_held.Reads as reads
-use Rattle.sheet_list.proofs.judging.is_held.Lts as lts
-use Rattle.sheet_list.proofs.judging.is_list.Reads as is-list-reads
-use Rattle.sheet_list.proofs.weeks.is_table.Reads as is-table-reads
 
--- src/judging.rt:42:9
 returns : tie.Need-returns
-returns c = ?
+returns c =
+    let s = c .before .before .before in
+    too-long _ (c .if1 .taken)
 
--- src/judging.rt:45:9
 returns-2 : tie.Need-returns-2
-returns-2 c = ?
+returns-2 c =
+    let s = c .before .before .before .before in
+    past-end _ (omega arith) (c .if2 .taken)
 
--- src/judging.rt:48:9
 returns-3 : tie.Need-returns-3
-returns-3 c = ?
+returns-3 c =
+    let s = c .before .before .before .before .before in
+    other-length _ (omega arith) (omega arith) (c .if3 .taken)
 
--- src/judging.rt:51:9
 returns-4 : tie.Need-returns-4
-returns-4 c = ?
+returns-4 c =
+    let s = c .before .before .before .before .before .before in
+    past-table _ (omega arith) (omega arith) (omega arith) (c .if4 .taken)
 
--- src/judging.rt:53:17
 slice-aggregate-is-list : tie.Need-slice-aggregate-is-list
-slice-aggregate-is-list c = ?
+slice-aggregate-is-list c =
+    let s = c .before .before .before .before .before .before .before in
+    sym (length-take-le (s .args .count) (s .args .words .now) (omega arith))
 
--- src/judging.rt:53:9
 is-list-requires : tie.Need-is-list-requires
 is-list-requires c κs = search needs
 
--- src/judging.rt:54:9
 returns-5 : tie.Need-returns-5
-returns-5 c = ?
+returns-5 c = no-list _ (omega arith) (omega arith) (omega arith) (omega arith) (sym (c .before .is-list .ensures) ∙ not-true _ (c .if5 .taken))
 
--- src/judging.rt:56:14
 slice-aggregate-is-table : tie.Need-slice-aggregate-is-table
-slice-aggregate-is-table c = ?
+slice-aggregate-is-table c =
+    let s = c .before .before .before .before .before .before .before .before .before .before in
+    sym (length-take-le (s .args .count) (s .args .words .now) (omega arith))
 
--- src/judging.rt:56:31
 slice-aggregate-is-table-2 : tie.Need-slice-aggregate-is-table-2
-slice-aggregate-is-table-2 c = ?
+slice-aggregate-is-table-2 c =
+    let s = c .before .before .before .before .before .before .before .before .before .before .before in
+    sym (length-take-le (s .args .weeks) (s .args .table .now) (omega arith))
 
--- src/judging.rt:56:5
 is-table-requires : tie.Need-is-table-requires
-is-table-requires c κs = ?
+is-table-requires c κs =
+    let s = c .before .before .before .before .before .before .before .before .before .before .before in
+    let n = length-take-le (s .args .count) (s .args .words .now) (omega arith) in
+    listed (take (s .args .count) (s .args .words .now)) (omega (arith, n)) (sym (c .before .before .before .is-list .ensures) ∙ not-false _ (c .before .before .if5 .left))
 
--- src/judging.rt:38:1
 returns-6 : tie.Need-returns-6
-returns-6 c = ?
+returns-6 c =
+    c .is-table .ensures
+    ∙ sym (by-table _ (omega arith) (omega arith) (omega arith) (omega arith) (sym (c .before .before .before .before .is-list .ensures) ∙ not-false _ (c .before .before .before .if5 .left)))
 
 pub is-held-spec : {M : Type 1} → statement M
 is-held-spec =
