@@ -1,14 +1,15 @@
 -- Adding sheets to a list and its table of weeks, each in a lent array with a count (RULES 11.2 and RULES 11.3).
-use Prim.Native.Nat.{ℕ, zero, suc}
+use Prim.Native.Nat.{ℕ, zero, suc, _+_, _*_, _/_}
 use mathlib.Core.Bool.{Bool, true, false, cond, not, _&&_, _||_}
 use mathlib.Core.List.{List, [], _∷_, _++_}
 use lib.Dec.{eqb, leb}
-use lib.ListN.{length, take, drop}
+use lib.ListN.{length, getD, take, drop}
 use Rattle.laws.specs.Lists.{every}
-use Rattle.sheets.specs.Sheets.{isPacking, weekOf, packing}
+use Rattle.sheets.specs.Sheets.{isPacking, weekOf, packing, fieldsFrom}
 use Rattle.sheets.specs.declared.Packed.{Packed}
 use Rattle.sheets.specs.declared.Packed.the-variants.{Word, NoDay, Bad}
 use Rattle.sheets.specs.declared.SheetFields.{SheetFields}
+use Rattle.sheet_list.specs.declared.adding.Added.{Added}
 use Rattle.sheet_list.specs.Ascending.{ascending, inserted}
 use Rattle.sheet_list.specs.Weeks.{weeksOf, tableOf, hasWeek}
 
@@ -18,6 +19,9 @@ pub record Held : Type 0 where
   pub count : ℕ
   pub table : List ℕ
   pub weeks : ℕ
+
+abbrev pub held : List ℕ → ℕ → List ℕ → ℕ → Held
+held w c t k = record { words = w; count = c; table = t; weeks = k }
 
 -- the words of the list
 abbrev pub listOf : Held → List ℕ
@@ -96,10 +100,28 @@ addingPacked i (Word x) h = addingWord i x h
 unfoldable pub adding : ℕ → SheetFields → Held → Outcome
 adding i f h = addingPacked i (packing f) h
 
--- ---- many: n sheets one after another, from index i on, up to the first refusal
+-- what a call answered, with what the arrays then held
+abbrev pub outcomeOf : Added → List ℕ → List ℕ → Outcome
+outcomeOf r w t = outcome (r .number) (r .place) (r .index) (held w (r .count) t (r .weeks))
+
+-- ---- many sheets, one after another, up to the first refusal: n of them, from index i on
 unfoldable pub addingAll : (ℕ → SheetFields) → ℕ → ℕ → Held → Outcome
 addingAll sheet i zero h = outcome 0 0 i h
 addingAll sheet i (suc n) h =
     let one = adding i (sheet i) h in
     let more = addingAll sheet (suc i) n (one .held) in
     cond (eqb (one .number) 0) more one
+
+-- sheets as words, eleven each (RULES 10)
+abbrev pub sheetWords : ℕ
+sheetWords = 11
+
+-- the sheet with an index
+unfoldable pub sheetAt : List ℕ → ℕ → SheetFields
+sheetAt ws i =
+    let w : ℕ → ℕ = λ j. getD ws (sheetWords * i + j) 0 in
+    fieldsFrom (w 0) (w 1) (w 2) (w 3) (w 4) (w 5) (w 6) (w 7) (w 8) (w 9) (w 10)
+
+-- all of them; words that are left over are no sheet
+unfoldable pub addingWords : List ℕ → Held → Outcome
+addingWords ws h = addingAll (sheetAt ws) 0 (length ws / sheetWords) h

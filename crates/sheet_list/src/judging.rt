@@ -5,7 +5,7 @@ ghost use mathlib.Core.Bool.{_&&_};
 ghost use mathlib.Core.Path.{_≡_};
 ghost use Rattle.laws.specs.Lists.{every};
 ghost use Rattle.sheets.specs.Sheets.{isPacking};
-ghost use Rattle.sheet_list.specs.Adding.{isHeld};
+ghost use Rattle.sheet_list.specs.Adding.{held, isHeld};
 ghost use Rattle.sheet_list.specs.Ascending.{ascending};
 
 // The most words of the list's array.
@@ -36,7 +36,7 @@ fn is_list(words: &[u64]) -> bool
 
 // Whether both arrays hold what they should up to their counts.
 pub fn is_held(words: &[u64], count: usize, table: &[u64], weeks: usize) -> bool
-    ensures { λ r. ⌜ r ≡ isHeld (record { words = now (words .entry); count = count; table = now (table .entry); weeks = weeks }) ⌝ }
+    ensures { λ r. ⌜ r ≡ isHeld (held (now (words .entry)) count (now (table .entry)) weeks) ⌝ }
 {
     if MOST_WORDS < words.len() {
         return false;

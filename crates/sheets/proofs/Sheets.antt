@@ -25,7 +25,9 @@ use Rattle.values.proofs.Ranges.{ValidMoment, no-fault-moment}
 use Rattle.sheets.specs.Packing.{bits, packed, unpacked, Fit}
 use Rattle.words.specs.Words.{flag, numberOr0, offsetFlag}
 use Rattle.sheets.specs.Sheets.{sheetWidths, offsetField, fields, wordOf, saidFrom, fieldOffset}
-use Rattle.sheets.specs.Sheets.{sheetFrom, sheetOf, faultOf, isValid, isPacking, packingOf}
+use Rattle.sheets.specs.Sheets.{sheetFrom, sheetOf, faultOf, isValid, isPacking, packingOf, dated, packing}
+use Rattle.sheets.specs.declared.DateFields.{DateFields}
+use Rattle.sheets.specs.declared.DateFields.the-variants.{NoFields, Fields}
 use Rattle.sheets.specs.declared.Packed.the-variants.{Word, Bad}
 use Rattle.sheets.specs.declared.SheetFields.{SheetFields}
 use Rattle.sheets.specs.declared.Sheet.{Sheet}
@@ -189,3 +191,21 @@ module _ (y m d : ℕ) (h n s : Said) (o : Offset) {a b c : ℕ} (p : a ≡ numb
   judged-valid {v} t =
       let g = valid-of _ _ _ v (sym answered ∙ t) in
       (g .0, ap (λ (x : Moment). x .date) (g .1))
+
+-- ---- what packing answers
+
+word-of : (b : Bool) (x f y : ℕ) → cond b (Word x) (Bad f) ≡ Word y → (b ≡ true) × (x ≡ y)
+word-of true x f y e = (refl, cc)
+word-of false x f y e = clash (cc)
+
+-- a word that it answers is a packing
+pub packing-word : (f : SheetFields) {x : ℕ} → packing f ≡ Word x → isPacking x ≡ true
+unfolding packing dated packingOf isValid
+packing-word f {x} e = go (f .date) e
+  where
+    go : (t : DateFields) → dated t f ≡ Word x → isPacking x ≡ true
+    go NoFields q = clash (cc)
+    go (Fields y m d) q =
+        let g = word-of (eqb (faultOf y m d (f .hour) (f .minute) (f .second) (f .offset)) 0) _ _ x q in
+        rw (← g .1)
+        (word-packs (record { date = date y m d; hour = f .hour; minute = f .minute; second = f .second; offset = f .offset }) (g .0))
