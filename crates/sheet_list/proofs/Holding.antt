@@ -220,6 +220,10 @@ module _ (h : Held) (v : Sound h) where
     list-fits : length (inserted x (listOf h)) ≤ length (h .words)
     list-fits = omega (arith, inserted-length x (listOf h), list-length, room-left)
 
+    pub with-words : length (with x h .words) ≡ length (h .words)
+    unfolding with
+    with-words = over-length (inserted x (listOf h)) (h .words) list-fits
+
     pub with-sound : isPacking x ≡ true → Sound (with x h)
     unfolding with
     with-sound p =

@@ -3,6 +3,7 @@ pub mod Shifting
 pub mod Counting
 pub mod Holding
 pub mod Listing
+pub mod Loop
 pub mod Steps
 pub mod Tables
 pub mod Runs

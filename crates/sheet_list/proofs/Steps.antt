@@ -9,7 +9,10 @@ use native.Mathlib.Omega.{arith}
 use borrow.Author.Tests.{eq-eqb, ne-eqb}
 use lib.Dec.{eqb}
 use lib.ListN.{length, take}
+use Rattle.laws.proofs.Cases.{either}
 use Rattle.sheets.specs.Sheets.{isPacking, weekOf, packing}
+use Rattle.sheets.proofs.Sheets.{packing-word}
+use Rattle.sheets.specs.declared.Packed.{Packed}
 use Rattle.sheets.specs.declared.Packed.the-variants.{Word, NoDay, Bad}
 use Rattle.sheets.specs.declared.SheetFields.{SheetFields}
 use Rattle.sheet_list.specs.Adding.{Held, held, listOf, tableLength, isHeld, isFull, over, with, Outcome, outcome}
@@ -17,7 +20,7 @@ use Rattle.sheet_list.specs.Adding.{addingWord, addingPacked, adding, ad
 use Rattle.sheet_list.specs.Ascending.{inserted}
 use Rattle.sheet_list.specs.Private.{countedIn, weekIn}
 use Rattle.sheet_list.specs.Weeks.{weeksOf, tableOf, hasWeek}
-use Rattle.sheet_list.proofs.Holding.{Sound, sound, is-held, list-length, table-with, week-among, with-sound}
+use Rattle.sheet_list.proofs.Holding.{Sound, sound, is-held, list-length, table-with, week-among, with-sound, with-words}
 use Rattle.sheet_list.proofs.Ranks.{inserted-length}
 
 -- ---- 14
@@ -79,3 +82,64 @@ module _ (i : ℕ) (f : SheetFields) (h : Held) where
   pub sheet-word : {x : ℕ} → packing f ≡ Word x → addingWord i x h ≡ adding i f h
   unfolding adding addingPacked
   sheet-word e = rw e
+
+-- ---- whatever becomes of a sheet: it is refused and all is left as it was, or its word is added
+
+module _ (P : Outcome → Type 0) (i : ℕ) (f : SheetFields) (h : Held) (refused : (n p : ℕ) → 0 < n → P (outcome n p i h))
+    (added : (x : ℕ) → isPacking x ≡ true → isHeld h ≡ true → isFull x h ≡ false → P (outcome 0 0 (suc i) (with x h))) where
+  word-cases : (x : ℕ) → isPacking x ≡ true → P (addingWord i x h)
+  unfolding addingWord
+  word-cases x p =
+      either P (isHeld h)
+      (λ e. either P (isFull x h) (λ _. refused 14 0 (omega arith)) (λ g. added x p e g))
+      (λ _. refused 15 0 (omega arith))
+
+  pub sheet-cases : P (adding i f h)
+  unfolding adding addingPacked
+  sheet-cases = go (packing f) refl
+    where
+      go : (p : Packed) → packing f ≡ p → P (addingPacked i p h)
+      go NoDay e = refused 13 0 (omega arith)
+      go (Bad k) e = refused 2 k (omega arith)
+      go (Word x) e = word-cases x (packing-word f e)
+
+-- the arrays keep their lengths
+pub record Lengths (h g : Held) : Type 0 where
+  pub words : length (g .words) ≡ length (h .words)
+  pub table : length (g .table) ≡ length (h .table)
+
+pub adding-lengths : (i : ℕ) (f : SheetFields) (h : Held) → Lengths h (adding i f h .held)
+adding-lengths i f h =
+    sheet-cases (λ o. Lengths h (o .held)) i f h
+    (λ n p l. record { words = refl; table = refl })
+    (λ x p e r.
+    let v = sound h e in
+    let w = with-sound h v x r p in
+    record { words = with-words h v x r; table = w .size ∙ sym (v .size) })
+
+-- a sheet that is added is counted, and both arrays hold what they should
+pub record Taken (i : ℕ) (o : Outcome) : Type 0 where
+  pub place : o .place ≡ 0
+  pub index : o .index ≡ suc i
+  pub holds : isHeld (o .held) ≡ true
+
+pub adding-taken : (i : ℕ) (f : SheetFields) (h : Held) → adding i f h .number ≡ 0 → Taken i (adding i f h)
+adding-taken i f h =
+    sheet-cases (λ o. o .number ≡ 0 → Taken i o) i f h
+    (λ n p l z. absurd (omega (arith, z)))
+    (λ x p e r z. record { place = refl; index = refl; holds = is-held (with x h) (with-sound h (sound h e) x r p) })
+
+-- ---- many
+
+module _ (sheet : ℕ → SheetFields) (i m : ℕ) (h : Held) (l : i < m) where
+  left : m - i ≡ suc (m - suc i)
+  left = omega arith
+
+  pub all-stops : (adding i (sheet i) h .number ≡ 0 → ⊥) → addingAll sheet i (m - i) h ≡ adding i (sheet i) h
+  all-stops n = rw left (unfold addingAll in rw (ne-eqb (adding i (sheet i) h .number) 0 n))
+
+  pub all-goes : adding i (sheet i) h .number ≡ 0 → addingAll sheet i (m - i) h ≡ addingAll sheet (suc i) (m - suc i) (adding i (sheet i) h .held)
+  all-goes e = rw left (unfold addingAll in rw (eq-eqb (adding i (sheet i) h .number) 0 e))
+
+pub all-ends : (sheet : ℕ → SheetFields) (i m : ℕ) (h : Held) → m ≤ i → addingAll sheet i (m - i) h ≡ outcome 0 0 i h
+all-ends sheet i m h l = let e : m - i ≡ 0 = omega arith in rw e (unfold addingAll in refl)

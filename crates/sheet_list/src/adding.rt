@@ -143,7 +143,13 @@ fn add_sheet(
 }
 
 // Adds one sheet.
-pub fn add(fields: SheetFields, words: &mut [u64], count: usize, table: &mut [u64], weeks: usize) -> Added
+pub fn add(
+    fields: SheetFields,
+    words: &mut [u64],
+    count: usize,
+    table: &mut [u64],
+    weeks: usize,
+) -> Added
     ensures { λ r. ⌜ outcomeOf r (now (words .exit)) (now (table .exit))
         ≡ adding 0 fields (held (now (words .entry)) count (now (table .entry)) weeks) ⌝ }
 {
@@ -172,7 +178,13 @@ fn sheet_at(sheets: &[u32], index: usize) -> SheetFields
 }
 
 // Adds many sheets, eleven words each, one after another up to the first refusal. What is held is judged once, before the first is added.
-pub fn add_all(sheets: &[u32], words: &mut [u64], count: usize, table: &mut [u64], weeks: usize) -> Added
+pub fn add_all(
+    sheets: &[u32],
+    words: &mut [u64],
+    count: usize,
+    table: &mut [u64],
+    weeks: usize,
+) -> Added
     ensures { λ r. ⌜ outcomeOf r (now (words .exit)) (now (table .exit))
         ≡ addingWords (now (sheets .entry)) (held (now (words .entry)) count (now (table .entry)) weeks) ⌝ }
 {

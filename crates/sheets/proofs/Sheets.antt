@@ -102,19 +102,40 @@ small s e =
 -- they fit
 pub fields-fit : (s : Sheet) → Small s → Fit sheetWidths (fields s)
 unfolding Fit sheetWidths fields
-fields-fit s v =
-    (omega (arith, v .date .year-high),
-    (omega (arith, v .date .month-high),
-    (omega (arith, v .day),
-    (omega (arith, v .hour-said),
-    (omega (arith, v .hour),
-    (omega (arith, v .minute-said),
-    (omega (arith, v .minute),
-    (omega (arith, v .second-said),
-    (omega (arith, v .second),
-    (omega (arith, v .offset-said),
-    (omega (arith, v .offset-field),
-    (omega arith, tt))))))))))))
+fields-fit s v = (
+  omega (arith, v .date .year-high),
+  (
+    omega (arith, v .date .month-high),
+    (
+      omega (arith, v .day),
+      (
+        omega (arith, v .hour-said),
+        (
+          omega (arith, v .hour),
+          (
+            omega (arith, v .minute-said),
+            (
+              omega (arith, v .minute),
+              (
+                omega (arith, v .second-said),
+                (
+                  omega (arith, v .second),
+                  (
+                    omega (arith, v .offset-said),
+                    (
+                      omega (arith, v .offset-field),
+                      (omega arith, tt),
+                    ),
+                  ),
+                ),
+              ),
+            ),
+          ),
+        ),
+      ),
+    ),
+  ),
+)
 
 -- its word, field by field behind each other, as it is worked out
 module _ (s : Sheet) {h n x o : ℕ} (p : h ≡ flag (s .hour) * 32 + numberOr0 (s .hour)) (q : n ≡ flag (s .minute) * 64 + numberOr0 (s .minute))

@@ -1,59 +1,55 @@
+-- `sheet_list::adding::add_all` meets its contract. Assumes nothing.
+use Rattle.sheet_list.proofs.Loop.{Adding, adding-start, adding-stops, adding-goes, adding-ends, words-then, table-then, index-then}
+use Rattle.sheet_list.proofs.Steps.{adding-lengths, adding-taken, all-stops, all-goes, all-ends}
+use Rattle.sheet_list.specs.Adding.{held, Outcome, outcome, outcomeOf, isHeld, adding, addingAll, sheetAt, addingWords}
+use lib.ListN.{length}
+use borrow.Author.Tests.{ltb-true}
+use native.Mathlib.Omega.{arith}
+use native.Mathlib.Numerals.{add-one}
+use mathlib.Core.Path.{_≡_, refl, sym, ap, _∙_}
+use mathlib.Core.Bool.{true}
+use Prim.Native.Nat.{_-_, _≤_, _<_}
 use Rattle.sheet_list.proofs.adding.add_all.Statement.{statement}
 use Rattle.sheet_list.proofs.adding.add_all.Tie as tie
-use Rattle.sheet_list.proofs.adding.add_all.Reads as reads
-use Rattle.sheet_list.proofs.adding.add_all.Lts as lts
-use Rattle.sheet_list.proofs.adding.add_sheet.Reads as add-sheet-reads
-use Rattle.sheet_list.proofs.adding.sheet_at.Reads as sheet-at-reads
 
 abbrev Inv-loop : tie.InvT-loop
-Inv-loop sheets words₀ count table₀ weeks most added₀ words table added = ?
+Inv-loop sheets words₀ count table₀ weeks most added₀ words table added = Adding sheets (held words₀ count table₀ weeks) most added words table
 
 abbrev μ-loop : tie.MeasureT-loop
-μ-loop sheets words₀ count table₀ weeks most added₀ words table added = ?
+μ-loop sheets words₀ count table₀ weeks most added₀ words table added = most - added .index
 
--- src/adding.rt:187:5
 loop-holds : tie.Need-loop-holds Inv-loop μ-loop
-loop-holds c = ?
+loop-holds c = adding-start _ _
 
--- src/adding.rt:194:13
 sheet-at-requires : tie.Need-sheet-at-requires Inv-loop μ-loop
-sheet-at-requires c κs = ?
+sheet-at-requires c κs = omega arith
 
--- src/adding.rt:191:9
 add-sheet-requires : tie.Need-add-sheet-requires Inv-loop μ-loop
-add-sheet-requires c κs = ?
+add-sheet-requires c κs = ((λ z. c .before .before .before .before .before .loop .inv .holds (ltb-true 0 _ z)), omega arith)
 
--- src/adding.rt:201:13
 same-length : tie.Need-same-length Inv-loop μ-loop
-same-length c = ?
+same-length c = words-then _ _ (c .before .before .before .before .before .before .before .before .before .before .before .before .loop .inv) (c .before .before .before .before .before .before .before .before .before .before .if1 .taken) (c .before .before .before .before .before .before .before .before .before .sheet-at .ensures) (c .before .before .before .before .before .before .add-sheet .ensures)
 
--- src/adding.rt:201:13
 same-length-2 : tie.Need-same-length-2 Inv-loop μ-loop
-same-length-2 c = ?
+same-length-2 c = table-then _ _ (c .before .before .before .before .before .before .before .before .before .before .before .before .loop .inv) (c .before .before .before .before .before .before .before .before .before .before .if1 .taken) (c .before .before .before .before .before .before .before .before .before .sheet-at .ensures) (c .before .before .before .before .before .before .add-sheet .ensures)
 
--- src/adding.rt:201:13
 returns : tie.Need-returns Inv-loop μ-loop
-returns c = ?
+returns c = adding-stops _ _ (c .before .before .before .before .before .before .before .before .before .before .before .before .loop .inv) (c .before .before .before .before .before .before .before .before .before .before .if1 .taken) (c .before .before .before .before .before .before .before .before .before .sheet-at .ensures) (c .before .before .before .before .before .before .add-sheet .ensures) (c .if2 .taken)
 
--- src/adding.rt:187:5
 loop-less : tie.Need-loop-less Inv-loop μ-loop
-loop-less c = ?
+loop-less c = omega (arith, index-then _ _ (c .before .before .before .before .before .before .before .before .before .before .before .before .loop .inv) (c .before .before .before .before .before .before .before .before .before .before .if1 .taken) (c .before .before .before .before .before .before .before .before .before .sheet-at .ensures) (c .before .before .before .before .before .before .add-sheet .ensures) (c .if2 .left))
 
--- src/adding.rt:187:5
 loop-again : tie.Need-loop-again Inv-loop μ-loop
-loop-again c = ?
+loop-again c = adding-goes _ _ (c .before .before .before .before .before .before .before .before .before .before .before .before .loop .inv) (c .before .before .before .before .before .before .before .before .before .before .if1 .taken) (c .before .before .before .before .before .before .before .before .before .sheet-at .ensures) (c .before .before .before .before .before .before .add-sheet .ensures) (c .if2 .left)
 
--- src/adding.rt:175:1
 same-length-3 : tie.Need-same-length-3 Inv-loop μ-loop
-same-length-3 c = ?
+same-length-3 c = c .before .before .loop .inv .words
 
--- src/adding.rt:175:1
 same-length-4 : tie.Need-same-length-4 Inv-loop μ-loop
-same-length-4 c = ?
+same-length-4 c = c .before .before .loop .inv .table
 
--- src/adding.rt:175:1
 returns-2 : tie.Need-returns-2 Inv-loop μ-loop
-returns-2 c = ?
+returns-2 c = adding-ends _ _ (c .before .before .loop .inv) (c .if1 .left)
 
 pub add-all-spec : {M : Type 1} → statement M
 add-all-spec =

@@ -37,9 +37,10 @@ returns-2 c =
 
 put-word-requires : tie.Need-put-word-requires
 put-word-requires c κs =
-    let s = c .before .before .before .before .before .before .before .before .before .before .before .before in
-    (sym (c .before .before .before .before .before .before .before .is-sound .ensures) ∙ not-false _ (c .before .before .before .before .before .before .if1 .left),
-    (s .pre .1 .0, sym (c .before .before .before .is-full .ensures) ∙ c .before .before .if2 .left))
+    let s = c .before .before .before .before .before .before .before .before .before .before .before .before in (
+      sym (c .before .before .before .before .before .before .before .is-sound .ensures) ∙ not-false _ (c .before .before .before .before .before .before .if1 .left),
+      (s .pre .1 .0, sym (c .before .before .before .is-full .ensures) ∙ c .before .before .if2 .left),
+    )
 
 add-t24 : tie.Need-add-t24
 add-t24 c = search needs

@@ -24,9 +24,13 @@ count-week-requires c κs =
     let s = c .before .before .before .before .before .before .before .before in
     let v = sound _ (s .pre .0) in
     let e = c .week-of .ensures in
-    let f = ap (λ k. length (countedIn k (take (s .args .weeks) (s .args .table .now)))) e ∙ ap length (table-with _ v (s .args .word)) in
-    (omega (arith, v .size, v .inside), ((table-rises _ v, omega (arith, e, packing-week (s .args .word) (s .pre .1 .0))),
-    omega (arith, f, weeks-fit _ v (s .args .word) (s .pre .1 .1), v .size)))
+    let f = ap (λ k. length (countedIn k (take (s .args .weeks) (s .args .table .now)))) e ∙ ap length (table-with _ v (s .args .word)) in (
+      omega (arith, v .size, v .inside),
+      (
+        (table-rises _ v, omega (arith, e, packing-week (s .args .word) (s .pre .1 .0))),
+        omega (arith, f, weeks-fit _ v (s .args .word) (s .pre .1 .1), v .size),
+      ),
+    )
 
 same-length : tie.Need-same-length
 same-length c = search needs
