@@ -1,9 +1,10 @@
 -- Adding, one way out at a time, over plain variables.
 -- Assumes nothing.
-use Prim.Native.Nat.{ℕ, zero, suc, _+_, _-_, _*_, _/_, _≤_, _<_}
+use Prim.Native.Nat.{ℕ, zero, suc, _+_, _-_, max, _≤_, _<_}
 use mathlib.Core.Bool.{Bool, true, false, cond, not, _&&_, _||_}
 use mathlib.Core.List.{List, [], _∷_, _++_}
 use mathlib.Core.Path.{_≡_, refl, sym, ap, _∙_}
+use native.Mathlib.Decide.{ℕ-discrete}
 use native.Mathlib.Numerals.{add-one}
 use native.Mathlib.Omega.{arith}
 use borrow.Author.Tests.{eq-eqb, ne-eqb}
@@ -15,7 +16,7 @@ use Rattle.sheets.proofs.Sheets.{packing-word}
 use Rattle.sheets.specs.declared.Packed.{Packed}
 use Rattle.sheets.specs.declared.Packed.the-variants.{Word, NoDay, Bad}
 use Rattle.sheets.specs.declared.SheetFields.{SheetFields}
-use Rattle.sheet_list.specs.Adding.{Held, held, listOf, tableLength, isHeld, isFull, over, with, Outcome, outcome}
+use Rattle.sheet_list.specs.Adding.{Held, held, listOf, mostWords, tableLength, isHeld, isFull, over, with, Outcome, outcome}
 use Rattle.sheet_list.specs.Adding.{addingWord, addingPacked, adding, addingAll}
 use Rattle.sheet_list.specs.Ascending.{inserted}
 use Rattle.sheet_list.specs.Private.{countedIn, weekIn}
@@ -118,16 +119,39 @@ adding-lengths i f h =
     record { words = with-words h v x r; table = w .size ∙ sym (v .size) })
 
 -- a sheet that is added is counted, and both arrays hold what they should
-pub record Taken (i : ℕ) (o : Outcome) : Type 0 where
+pub record Taken (i : ℕ) (h : Held) (o : Outcome) : Type 0 where
   pub place : o .place ≡ 0
   pub index : o .index ≡ suc i
   pub holds : isHeld (o .held) ≡ true
+  pub count : o .held .count ≡ suc (h .count)
 
-pub adding-taken : (i : ℕ) (f : SheetFields) (h : Held) → adding i f h .number ≡ 0 → Taken i (adding i f h)
+with-count : (x : ℕ) (h : Held) → Sound h → with x h .count ≡ suc (h .count)
+unfolding with
+with-count x h v = inserted-length x (listOf h) ∙ ap suc (list-length h v)
+
+pub adding-taken : (i : ℕ) (f : SheetFields) (h : Held) → adding i f h .number ≡ 0 → Taken i h (adding i f h)
 adding-taken i f h =
-    sheet-cases (λ o. o .number ≡ 0 → Taken i o) i f h
+    sheet-cases (λ o. o .number ≡ 0 → Taken i h o) i f h
     (λ n p l z. absurd (omega (arith, z)))
-    (λ x p e r z. record { place = refl; index = refl; holds = is-held (with x h) (with-sound h (sound h e) x r p) })
+    (λ x p e r z.
+    let v = sound h e in
+    record {
+      place = refl;
+      index = refl;
+      holds = is-held (with x h) (with-sound h v x r p);
+      count = with-count x h v;
+    })
+
+-- a sheet that is refused leaves all as it was
+pub record Refused (i : ℕ) (h : Held) (o : Outcome) : Type 0 where
+  pub held : o .held ≡ h
+  pub index : o .index ≡ i
+
+pub adding-refused : (i : ℕ) (f : SheetFields) (h : Held) → (adding i f h .number ≡ 0 → ⊥) → Refused i h (adding i f h)
+adding-refused i f h =
+    sheet-cases (λ o. (o .number ≡ 0 → ⊥) → Refused i h o) i f h
+    (λ n p l z. record { held = refl; index = refl })
+    (λ x p e r z. absurd (z refl))
 
 -- ---- many
 
@@ -143,3 +167,37 @@ module _ (sheet : ℕ → SheetFields) (i m : ℕ) (h : Held) (l : i < m) where
 
 pub all-ends : (sheet : ℕ → SheetFields) (i m : ℕ) (h : Held) → m ≤ i → addingAll sheet i (m - i) h ≡ outcome 0 0 i h
 all-ends sheet i m h l = let e : m - i ≡ 0 = omega arith in rw e (unfold addingAll in refl)
+
+-- ---- how large the counts can get
+
+-- no count is larger than it was, or than the array; and no more sheets were added than the count has grown
+pub record Bounded (i : ℕ) (h : Held) (o : Outcome) : Type 0 where
+  pub count : o .held .count ≤ max (h .count) mostWords
+  pub weeks : o .held .weeks ≤ max (h .weeks) tableLength
+  pub index : o .index + h .count ≤ i + o .held .count
+
+pub all-bounded : (sheet : ℕ → SheetFields) (i n : ℕ) (h : Held) → Bounded i h (addingAll sheet i n h)
+unfolding addingAll
+all-bounded sheet i zero h = record { count = omega arith; weeks = omega arith; index = omega arith }
+all-bounded sheet i (suc n) h =
+    let o = adding i (sheet i) h in
+    elim (ℕ-discrete (o .number) 0) [
+      | yes e ↦
+          let t = adding-taken i (sheet i) h e in
+          let v = sound (o .held) (t .holds) in
+          let b = all-bounded sheet (suc i) n (o .held) in
+          rw (eq-eqb (o .number) 0 e)
+          (record {
+            count = omega (arith, b .count, v .within, v .short);
+            weeks = omega (arith, b .weeks, v .inside);
+            index = omega (arith, b .index, t .count);
+          })
+      | no e ↦
+          let r = adding-refused i (sheet i) h e in
+          rw (ne-eqb (o .number) 0 e)
+          (record {
+            count = rw (r .held) (omega arith);
+            weeks = rw (r .held) (omega arith);
+            index = rw (r .held, r .index) (omega arith);
+          })
+    ]

@@ -1,0 +1,2 @@
+-- Sheets and lists of them on numbers and slices, as C sees them.
+pub mod Sheets
