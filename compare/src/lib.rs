@@ -1,4 +1,5 @@
-//! What the programs `compare` and `vectors` share: the rules once more, what the C library does, and random numbers.
+//! What the programs `compare` and `vectors` share: the rules once more, with the list of sheets, what the C library does, and random
+//! numbers.
 pub mod c_library;
 pub mod c_offsets;
 pub mod c_seconds;
@@ -8,3 +9,6 @@ pub mod elements;
 mod margins;
 pub mod random;
 pub mod rules;
+#[cfg(test)]
+mod sheet_cases;
+pub mod sheets;
