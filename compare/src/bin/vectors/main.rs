@@ -1,14 +1,15 @@
-//! Makes what the programs of crates/ are run on and what they must write, by `rules.rs` and without the proved library:
+//! Makes what the programs of crates/ are run on and what they must write, by `rules.rs` and `sheets.rs` and without the proved library:
 //!
 //!     vectors write INPUT OUTPUT    the input of write_cases, and what it must write
 //!     vectors read INPUT OUTPUT     the input of read_cases, and what it must write
 //!     vectors lines DIRECTORY       for each case of date_lines NAME.in, its input, and NAME.out, what it must write
 //!     vectors quarrels DIRECTORY    the same for each case of quarrels
+//!     vectors weeks DIRECTORY       the same for each case of week_counts
 //!     vectors days                  on standard output what every_day must write
 //!
-//! The first two are kept in the repository, as files `stdin` and `stdout` of crates/write_cases and crates/read_cases, and of the next two
-//! the case `example`, in crates/date_lines and crates/quarrels; what the last writes must be what tests/every_day.py writes by Python's
-//! datetime module.
+//! The first two are kept in the repository, as files `stdin` and `stdout` of crates/write_cases and crates/read_cases, and of the next
+//! three the case `example`, in crates/date_lines, crates/quarrels and crates/week_counts; what the last writes must be what
+//! tests/every_day.py writes by Python's datetime module.
 mod days;
 mod lines;
 mod offsets_read;
@@ -16,6 +17,7 @@ mod offsets_written;
 mod quarrels;
 mod read;
 mod reasons;
+mod weeks;
 mod write;
 
 use compare::rules::Calendar;
@@ -51,9 +53,12 @@ fn main() -> std::io::Result<()> {
         ["read", input, output] => read::make(&Calendar::new(), Path::new(input), Path::new(output)),
         ["lines", directory] => lines::make(&Calendar::new(), Path::new(directory)),
         ["quarrels", directory] => quarrels::make(&Calendar::new(), Path::new(directory)),
+        ["weeks", directory] => weeks::make(&Calendar::new(), Path::new(directory)),
         ["days"] => days::print(&Calendar::new()),
         _ => {
-            eprintln!("usage: vectors write INPUT OUTPUT | read INPUT OUTPUT | lines DIRECTORY | quarrels DIRECTORY | days");
+            eprintln!(
+                "usage: vectors write INPUT OUTPUT | read INPUT OUTPUT | lines DIRECTORY | quarrels DIRECTORY | weeks DIRECTORY | days"
+            );
             std::process::exit(2)
         }
     }
