@@ -5,6 +5,8 @@ use compare::rules::Moment;
 /// The words of a reading, and those of a reason.
 pub const WORDS: usize = 20;
 pub const REASON_WORDS: usize = 33;
+/// The words of a sheet.
+pub const SHEET_WORDS: usize = 11;
 const GUARD: usize = 24;
 
 mod raw {
@@ -59,6 +61,26 @@ mod raw {
         pub fn larusqem_iso_year(year: u32, month: u32, day: u32) -> u32;
         pub fn larusqem_iso_week(year: u32, month: u32, day: u32) -> u32;
         pub fn larusqem_date_word(day_number: u32) -> u32;
+        pub fn larusqem_add_words(
+            sheets: *const u32,
+            sheets_length: usize,
+            words: *mut u64,
+            words_length: usize,
+            weeks: *mut u64,
+            weeks_length: usize,
+            counts: *mut u32,
+            answer: *mut u32,
+        );
+        pub fn larusqem_list_words(
+            words: *const u64,
+            words_length: usize,
+            weeks: *const u64,
+            weeks_length: usize,
+            counts: *const u32,
+        ) -> u32;
+        pub fn larusqem_pack_words(sheet: *const u32, word: *mut u64) -> u64;
+        pub fn larusqem_unpack_words(word: u64, sheet: *mut u32) -> u32;
+        pub fn larusqem_week_words(word: u64, week: *mut u64);
     }
 }
 
@@ -184,7 +206,38 @@ pub fn date_word(day_number: u32) -> u32 {
     unsafe { raw::larusqem_date_word(day_number) }
 }
 
-/// An array of random entries with guards on both sides, and a copy of it as it came.
+/// Adds sheets to a list; the answer is number, place and index.
+pub fn add(sheets: &[u32], words: &mut [u64], weeks: &mut [u64], counts: &mut [u32], answer: &mut [u32]) {
+    assert_eq!((counts.len(), answer.len()), (2, 3));
+    let (start, words_start, weeks_start) = (sheets.as_ptr(), words.as_mut_ptr(), weeks.as_mut_ptr());
+    let (counts, answer) = (counts.as_mut_ptr(), answer.as_mut_ptr());
+    unsafe { raw::larusqem_add_words(start, sheets.len(), words_start, words.len(), weeks_start, weeks.len(), counts, answer) }
+}
+
+/// Judges a list. Its arrays are lent as if they were to be written, so that the compiler takes no change for impossible.
+pub fn list(words: &mut [u64], weeks: &mut [u64], counts: &mut [u32]) -> u32 {
+    assert_eq!(counts.len(), 2);
+    let (words_start, weeks_start) = (words.as_mut_ptr(), weeks.as_mut_ptr());
+    unsafe { raw::larusqem_list_words(words_start, words.len(), weeks_start, weeks.len(), counts.as_mut_ptr()) }
+}
+
+pub fn pack(sheet: &[u32; SHEET_WORDS], word: &mut [u64]) -> (u32, u32) {
+    assert_eq!(word.len(), 1);
+    split(unsafe { raw::larusqem_pack_words(sheet.as_ptr(), word.as_mut_ptr()) })
+}
+
+pub fn unpack(word: u64, sheet: &mut [u32]) -> u32 {
+    assert_eq!(sheet.len(), SHEET_WORDS);
+    unsafe { raw::larusqem_unpack_words(word, sheet.as_mut_ptr()) }
+}
+
+/// ISO year, week and sheets of a word of the week table.
+pub fn week(word: u64, week: &mut [u64]) {
+    assert_eq!(week.len(), 3);
+    unsafe { raw::larusqem_week_words(word, week.as_mut_ptr()) }
+}
+
+/// An array, of random entries or of others, with guards on both sides, and a copy of it as it came.
 pub struct Lent<T> {
     entries: Vec<T>,
     came: Vec<T>,
@@ -195,6 +248,13 @@ impl<T: Copy + PartialEq> Lent<T> {
     pub fn new(random: &mut Random, room: usize, entry: fn(u64) -> T) -> Lent<T> {
         let entries: Vec<T> = (0..room + 2 * GUARD).map(|_| entry(random.next())).collect();
         Lent { came: entries.clone(), entries, room }
+    }
+
+    /// With these entries in it.
+    pub fn of(random: &mut Random, all: &[T], entry: fn(u64) -> T) -> Lent<T> {
+        let mut guard = || (0..GUARD).map(|_| entry(random.next())).collect::<Vec<T>>();
+        let entries = [&guard()[..], all, &guard()].concat();
+        Lent { came: entries.clone(), entries, room: all.len() }
     }
 
     pub fn slice(&mut self) -> &mut [T] {

@@ -1,7 +1,8 @@
 //! Compares the proved library with an independent implementation of the rules (`rules.rs`) on random cases, on every flag and width, on
 //! every set of kinds of facts, on every beginning of a name, on kinds that quarrel and on every offset, its readings by every engine and
 //! with reasons, its writer with the C library's strftime on every day of the years 1000 to 9999, on flags and widths and on every offset,
-//! and with timegm on every day, and its white space with isspace on every byte.
+//! and with timegm on every day, and its white space with isspace on every byte; and its lists of sheets with another (`sheets.rs`), as
+//! they should be, damaged and full.
 //! Usage: compare SECONDS [SEED]
 mod c_columns;
 mod c_days;
@@ -13,6 +14,7 @@ mod library;
 mod names;
 mod quarrels;
 mod readings;
+mod sheets;
 mod speed;
 mod writings;
 mod zones;
@@ -331,6 +333,9 @@ fn main() {
     let offsets = zones::compare(&mut random, &cal, &mut tally);
     println!("{:6.1} s  {offsets} texts and writings of offsets: every sign and digits, every offset", began.elapsed().as_secs_f64());
 
+    let calls = sheets::compare(&mut random, &cal, &mut tally);
+    println!("{:6.1} s  {calls} calls on sheets and lists of them: every day, sound, damaged and full", began.elapsed().as_secs_f64());
+
     let cases_began = Instant::now();
     let mut formats = 0u64;
     while cases_began.elapsed() < Duration::from_secs(seconds) {
@@ -352,6 +357,7 @@ fn main() {
         }
         let kind = 1 + random.below(12);
         quarrels::compare_changed(&mut random, &cal, &mut tally, kind, 200);
+        sheets::compare_some(&mut random, &cal, &mut tally);
     }
     println!("{:6.1} s  {formats} random formats, and with flags and widths", began.elapsed().as_secs_f64());
 
@@ -391,6 +397,22 @@ fn main() {
     );
     let of_kinds = |count: usize| tally.reasons.get(&("quarrel on the day", count)).unwrap_or(&0);
     println!("kinds that quarrel on the day: two {}, three {}, four {}, five {}", of_kinds(2), of_kinds(3), of_kinds(4), of_kinds(5));
+    let calls = |functions: &[&str], refused: bool| {
+        tally.counts.iter().filter(|((f, n, _), _)| functions.contains(f) && (*n > 0) == refused).map(|(_, n)| n).sum::<u64>()
+    };
+    println!(
+        "sheets: one added {} times, refused {}; many added {}, refused {}; lists judged: sound {}, refused {}; packed {}, refused {}; \
+         words and weeks taken apart {}",
+        calls(&["add"], false),
+        calls(&["add"], true),
+        calls(&["add many"], false),
+        calls(&["add many"], true),
+        calls(&["list"], false),
+        calls(&["list"], true),
+        calls(&["pack"], false),
+        calls(&["pack"], true),
+        calls(&["unpack", "week"], false)
+    );
     println!("\nspeed of the library alone, one thread:");
     speed::measure();
     println!("\n{total} cases, {} differences", tally.differences);
