@@ -1,10 +1,6 @@
 /* Ratios of the library's time to the C library's, to chrono's, to the same loop in C, or to its own without a reason. What a row compares
-   is measured in this run, in turns: each round runs every one of them once, and the best round of each counts. */
-#define _GNU_SOURCE
-#include <stdio.h>
-#include <stdlib.h>
-#include <string.h>
-#include <time.h>
+   is measured in this run (race.h). */
+#include "race.h"
 
 #include "larusqem.h"
 
@@ -12,41 +8,9 @@
 #define ROUNDS 100
 #define SCANS 15
 
-static double now(void) {
-    struct timespec t;
-    clock_gettime(CLOCK_MONOTONIC, &t);
-    return t.tv_sec * 1e9 + t.tv_nsec;
-}
-
-/* one of those that a row compares: what it does in a round, and its best round, in ns */
-struct racer {
-    void (*work)(void);
-    double best;
-};
-
-static void race(struct racer *racers, size_t count, int rounds) {
-    for (size_t i = 0; i < count; i++) racers[i].best = 1e18;
-    for (int round = 0; round < rounds; round++)
-        for (size_t i = 0; i < count; i++) {
-            double start = now();
-            racers[i].work();
-            double took = now() - start;
-            if (took < racers[i].best) racers[i].best = took;
-        }
-}
-
-#define COUNT(array) (sizeof array / sizeof *array)
-
 static void fail(const char *what, const char *format, const char *text) {
     fprintf(stderr, "bench: %s: `%s`, `%s`\n", what, format, text);
     exit(1);
-}
-
-static uint32_t state = 12345;
-
-static uint32_t below(uint32_t n) {
-    state = state * 1664525u + 1013904223u;
-    return (state >> 8) % n;
 }
 
 static struct tm dates[DATES];
