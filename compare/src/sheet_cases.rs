@@ -413,6 +413,13 @@ fn full() {
     assert_eq!(list.counts, [1026, 1024]);
     assert_eq!(list.weeks[0], week_word([1934, 10, 2]));
     stays(&cal, &list, Sheet::new(1934, 3, 4), 14, 0);
+    let many = [NIGHT, NIGHT, mondays[1024]];
+    let mut slowly = list.clone();
+    slowly.words.push(0);
+    let mut roomy = slowly.clone();
+    assert_eq!(roomy.add_many(&cal, &many), Added { refusal: Some(Refusal { number: 14, place: 0 }), index: 2 });
+    assert_eq!(slowly.add_slowly(&cal, &many), Added { refusal: Some(Refusal { number: 14, place: 0 }), index: 2 });
+    assert_eq!(roomy, slowly);
     assert_eq!(list.add(&cal, &NIGHT), Ok(()));
     stays(&cal, &list, NIGHT, 14, 0);
     // a list of 1,025 weeks has no table
