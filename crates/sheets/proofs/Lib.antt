@@ -3,3 +3,4 @@ pub mod Offsets
 pub mod Order
 pub mod Rules
 pub mod Sheets
+pub mod Testing

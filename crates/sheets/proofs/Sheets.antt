@@ -4,6 +4,7 @@ use Prim.Native.Nat.{ℕ, zero, suc, _+_, _-_, _*_, _/_, _%_, _^_, _≤_, _<_}
 use mathlib.Core.Bool.{Bool, true, false, cond, _&&_, and-eq-true-iff}
 use mathlib.Core.List.{List, [], _∷_}
 use mathlib.Core.Path.{_≡_, refl, sym, ap, _∙_}
+use native.Mathlib.Decide.{decLt}
 use native.Mathlib.Omega.{arith}
 use borrow.Author.Tests.{eqb-true, eq-eqb, leb-true, le-leb, le-ltb, lt-ltb}
 use lib.Dec.{eqb, leb}
@@ -51,6 +52,18 @@ shifted (pos n) h = (omega arith, rw (le-ltb (suc (n + 1439)) 1440 (omega arith)
 shifted (negsuc n) h =
     let e : natAbs (subℕ 1439 (suc n)) ≡ 1439 - suc n = rw (le-ltb 1439 (suc n) (omega arith)) in
     rw e (omega arith, rw (lt-ltb (suc (1439 - suc n)) 1440 (omega arith)) (ap negsuc (omega arith)))
+
+-- and from a number to its offset
+pub unshifted : (n : ℕ) → n ≤ 2878
+    → (offsetNumber (pos (suc n) -ℤ pos 1440) ≡ n) × (natAbs (pos (suc n) -ℤ pos 1440) ≤ 1439)
+unfolding offsetNumber
+unshifted n h =
+    elim (decLt (suc n) 1440) [
+      | yes l ↦
+          rw (lt-ltb (suc n) 1440 l)
+          (rw (le-ltb 1439 (suc (1440 - suc (suc n))) (omega arith)) (omega arith), omega arith)
+      | no l ↦ rw (le-ltb (suc n) 1440 (omega (arith, l))) (omega arith, omega arith)
+    ]
 
 -- what is known of the fields of a valid sheet
 pub record Small (s : Sheet) : Type 0 where

@@ -1,5 +1,6 @@
 // A sheet (RULES 11): its date, and what is said of hour, minute, second and zone offset; its word of 64 bits; its week.
 use calendar::Date;
+use calendar::FromFields;
 use strptime::Day;
 use strptime::Reading;
 use strptime::Said;
@@ -15,6 +16,7 @@ ghost use mathlib.Core.Bool.{true};
 ghost use Prim.Native.Nat.{_+_, _*_, _<_, _^_};
 ghost use Rattle.words.specs.Words.{flag, numberOr0, offsetFlag};
 ghost use Rattle.sheets.specs.Sheets.{offsetField, wordOf, saidFrom, fieldOffset, sheetOf, isValid};
+ghost use Rattle.sheets.specs.Private.{isField, isDate};
 ghost use Rattle.sheets.specs.Sheets.{weekOfDate, weekOf};
 ghost use Rattle.sheets.specs.Sheets.{isPacking, unpacking, packing, dayFields, readingFields, dateFrom, fieldsFrom};
 
@@ -207,37 +209,48 @@ fn sheet_of(word: u64) -> Sheet
     }
 }
 
-fn is_valid(sheet: Sheet) -> bool
-    ensures { λ r. ⌜ r ≡ isValid sheet ⌝ }
+// Whether a field with its flag, which is worth `size`, is zero, or is said and has one of the `most` lowest numbers.
+fn is_field(field: u64, size: u64, most: u64) -> bool
+    ensures { λ r. ⌜ r ≡ isField field size most ⌝ }
 {
-    let date = sheet.date;
-    let hour = sheet.hour;
-    let minute = sheet.minute;
-    let second = sheet.second;
-    let offset = sheet.offset;
-    match Moment::from_fields(
-        date.year as u32,
-        date.month as u32,
-        date.day as u32,
-        number_or_0(hour),
-        number_or_0(minute),
-        number_or_0(second),
-        offset,
-    ) {
-        MomentFields::Bad(_) => false,
-        MomentFields::Valid(_) => true,
+    if field == 0 {
+        return true;
+    }
+    if field < size {
+        return false;
+    }
+    field - size < most
+}
+
+fn is_date(date: Date) -> bool
+    ensures { λ r. ⌜ r ≡ isDate date ⌝ }
+{
+    match Date::from_fields(date.year as u32, date.month as u32, date.day as u32) {
+        FromFields::Bad(_) => false,
+        FromFields::Valid(_) => true,
     }
 }
 
-// Whether a word is the packing of a sheet.
+// Whether a word is the packing of a sheet: field by field, which is quicker than to unpack it and to pack that again.
 pub fn is_packing(word: u64) -> bool
     ensures { λ r. ⌜ r ≡ isPacking word ⌝ }
 {
-    let sheet = sheet_of(word);
-    if !is_valid(sheet) {
+    if !is_date(date_of(word)) {
         return false;
     }
-    word_of(sheet) == word
+    if !is_field(word / HOUR % 64, 32, 24) {
+        return false;
+    }
+    if !is_field(word / MINUTE % 128, 64, 60) {
+        return false;
+    }
+    if !is_field(word / SECOND % 128, 64, 61) {
+        return false;
+    }
+    if !is_field(word / OFFSET % 8192, 4096, 2879) {
+        return false;
+    }
+    word % OFFSET == 0
 }
 
 // The sheet that a word is the packing of.
