@@ -1,6 +1,6 @@
 -- The order of words is the order of dates, then of the rest as packed; and weeks follow it (RULES 11.1).
 -- Assumes nothing.
-use Prim.Native.Nat.{ℕ, suc, _+_, _*_, _^_, _≤_, _<_}
+use Prim.Native.Nat.{ℕ, suc, _+_, _*_, _/_, _%_, _^_, _≤_, _<_}
 use mathlib.Core.Bool.{true}
 use mathlib.Core.Logic.{_⊎_, inl, inr, ⊎-elim}
 use mathlib.Core.Path.{_≡_, sym, ap, _∙_}
@@ -17,9 +17,9 @@ use Rattle.calendar.proofs.Weeks.{iso-week-is}
 use Rattle.calendar.proofs.Years.{year-located}
 use Rattle.values.specs.Values.{dayNumberOf}
 use lib.ListN.{drop}
-use Rattle.sheets.specs.Packing.{bits, packed, Fit}
+use Rattle.sheets.specs.Packing.{bits, packed, unpacked, Fit}
 use Rattle.sheets.specs.Rules.{restOf, Before}
-use Rattle.sheets.specs.Sheets.{sheetWidths, fields, wordOf, sheetOf, isPacking, weekWidths, weekOfDate, weekOf}
+use Rattle.sheets.specs.Sheets.{sheetWidths, fields, wordOf, sheetFrom, sheetOf, isPacking, weekWidths, weekOfDate, weekOf}
 use Rattle.sheets.specs.declared.Sheet.{Sheet}
 use Rattle.sheets.proofs.Packing.{packed-small}
 use Rattle.sheets.proofs.Sheets.{Small, small, fields-fit, packing-valid, packing-again}
@@ -140,3 +140,12 @@ packing-week x p =
     let t = sheetOf x .date in
     let n = number-within _ _ _ (small (sheetOf x) (packing-valid x p) .date) in
     omega (arith, iso-year-range (dayNumberOf t) (n .0) (n .1), iso-week-range (dayNumberOf t) (n .0) (n .1))
+
+-- words with the same date are of the same week
+pub same-week : (x y : ℕ) → x / 2 ^ 41 ≡ y / 2 ^ 41 → weekOf x ≡ weekOf y
+unfolding weekOf sheetOf sheetFrom sheetWidths unpacked bits
+same-week x y e =
+    let a : x / 2 ^ 50 ≡ y / 2 ^ 50 = omega (arith, e) in
+    let b : x % 2 ^ 50 / 2 ^ 46 ≡ y % 2 ^ 50 / 2 ^ 46 = omega (arith, e) in
+    let c : x % 2 ^ 50 % 2 ^ 46 / 2 ^ 41 ≡ y % 2 ^ 50 % 2 ^ 46 / 2 ^ 41 = omega (arith, e) in
+    rw (a, b, c)

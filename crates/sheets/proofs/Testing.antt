@@ -30,7 +30,7 @@ use Rattle.sheets.proofs.Sheets.{Small, small, word-is, unshifted, pack
 
 either-way : (n size most : ℕ) → isField n size most ≡ true → (n ≡ 0) ⊎ ((size ≤ n) × (n - size < most))
 unfolding isField
-either-way n size most e = go (ℕ-discrete n 0) 
+either-way n size most e = go (ℕ-discrete n 0)
   where
     go : Dec (n ≡ 0) → (n ≡ 0) ⊎ ((size ≤ n) × (n - size < most))
     go (yes z) = inl z

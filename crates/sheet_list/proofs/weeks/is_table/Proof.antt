@@ -1,14 +1,15 @@
 -- `sheet_list::weeks::is_table` meets its contract. Assumes nothing.
 use Rattle.sheet_list.proofs.Tables.{entry-is}
 use Rattle.sheet_list.proofs.Runs.{Walk, list-weekly, walk-end, walk-short, walk-differs, walk-on, run-some, run-within}
+use Rattle.sheet_list.specs.Private.{weekRun}
 use Rattle.sheets.proofs.Order.{packing-week}
 use Rattle.sheets.specs.Sheets.{isPacking, weekOf}
 use Rattle.laws.proofs.Lists.{each}
-use lib.ListN.{length, getD}
+use lib.ListN.{length, getD, drop}
 use borrow.Author.Needs.{needs}
 use native.Mathlib.Omega.{arith}
 use mathlib.Core.Path.{_≡_, refl, sym, ap, _∙_}
-use Prim.Native.Nat.{_-_, _≤_}
+use Prim.Native.Nat.{_+_, _-_, _≤_}
 use Rattle.sheet_list.proofs.weeks.is_table.Statement.{statement}
 use Rattle.sheet_list.proofs.weeks.is_table.Tie as tie
 
@@ -28,15 +29,6 @@ returns c =
     let w = list-weekly (s .args .words .now) (s .pre .packings) (s .pre .ascends) in
     walk-short (s .args .words .now) (s .args .table .now) w (l .i) (l .j) (omega arith) (c .if1 .taken) (l .inv .2)
 
-week-end-requires : tie.Need-week-end-requires Inv-loop μ-loop
-week-end-requires c κs = omega arith
-
-mul-if2 : tie.Need-mul-if2 Inv-loop μ-loop
-mul-if2 c = omega arith
-
-shared-slice-read-if2 : tie.Need-shared-slice-read-if2 Inv-loop μ-loop
-shared-slice-read-if2 c = omega arith
-
 mul-week-of : tie.Need-mul-week-of Inv-loop μ-loop
 mul-week-of c = omega arith
 
@@ -46,33 +38,45 @@ shared-slice-read-week-of c = omega arith
 week-of-requires : tie.Need-week-of-requires Inv-loop μ-loop
 week-of-requires c κs = search needs
 
+week-end-requires : tie.Need-week-end-requires Inv-loop μ-loop
+week-end-requires c κs = (omega arith, c .week-of .ensures)
+
+mul-if2 : tie.Need-mul-if2 Inv-loop μ-loop
+mul-if2 c = omega arith
+
+shared-slice-read-if2 : tie.Need-shared-slice-read-if2 Inv-loop μ-loop
+shared-slice-read-if2 c = omega arith
+
 mul-if2-2 : tie.Need-mul-if2-2 Inv-loop μ-loop
 mul-if2-2 c =
     let s = c .before .before .before .before .before .before .before .before .before in
     let l = c .before .before .before .before .before .before .loop in
     let p = each isPacking 0 (s .args .words .now) (s .pre .packings) (l .i) (λ h. absurd (omega arith)) in
-    let k = packing-week (getD (s .args .words .now) (l .i) 0) p in
-    record { fits = omega (arith, c .week-of .ensures, k) }
+    let m = packing-week (getD (s .args .words .now) (l .i) 0) p in
+    record { fits = omega (arith, c .before .before .week-of .ensures, m) }
 
 sub-if2 : tie.Need-sub-if2 Inv-loop μ-loop
-sub-if2 c = omega (arith, c .before .before .before .week-end .ensures)
+sub-if2 c = omega (arith, c .before .week-end .ensures)
 
 add-if2 : tie.Need-add-if2 Inv-loop μ-loop
 add-if2 c =
     let s = c .before .before .before .before .before .before .before .before .before in
     let l = c .before .before .before .before .before .before .loop in
     let p = each isPacking 0 (s .args .words .now) (s .pre .packings) (l .i) (λ h. absurd (omega arith)) in
-    let k = packing-week (getD (s .args .words .now) (l .i) 0) p in
+    let m = packing-week (getD (s .args .words .now) (l .i) 0) p in
+    let k = c .before .before .week-of .ensures in
+    let d = c .before .week-end .ensures ∙ ap (λ n. l .i + weekRun n (drop (l .i) (s .args .words .now))) k in
     let r = run-within (weekOf (getD (s .args .words .now) (l .i) 0)) (l .i) (s .args .words .now) (l .inv .0) in
-    record { fits = omega (arith, c .week-of .ensures, k, c .before .before .before .week-end .ensures, r, s .pre .short) }
+    record { fits = omega (arith, k, m, d, r, s .pre .short) }
 
 returns-2 : tie.Need-returns-2 Inv-loop μ-loop
 returns-2 c =
     let s = c .before .before .before .before .before .before .before .before .before .before in
     let l = c .before .before .before .before .before .before .before .loop in
     let w = list-weekly (s .args .words .now) (s .pre .packings) (s .pre .ascends) in
-    let e = entry-is (l .i) _ _ (c .before .week-of .ensures) (c .before .before .before .before .week-end .ensures) in
-    walk-differs (s .args .words .now) (s .args .table .now) w (l .i) (l .j) (omega arith) (omega arith) (λ g. c .if2 .taken (g ∙ sym e)) (l .inv .2)
+    let k = c .before .before .before .week-of .ensures in
+    let d = c .before .before .week-end .ensures ∙ ap (λ n. l .i + weekRun n (drop (l .i) (s .args .words .now))) k in
+    walk-differs (s .args .words .now) (s .args .table .now) w (l .i) (l .j) (omega arith) (omega arith) (λ g. c .if2 .taken (g ∙ sym (entry-is (l .i) _ _ k d))) (l .inv .2)
 
 add-j : tie.Need-add-j Inv-loop μ-loop
 add-j c = omega arith
@@ -82,17 +86,19 @@ loop-less c =
     let s = c .before .before .before .before .before .before .before .before .before .before in
     let l = c .before .before .before .before .before .before .before .loop in
     let w = list-weekly (s .args .words .now) (s .pre .packings) (s .pre .ascends) in
-    omega (arith, c .before .before .before .before .week-end .ensures, run-some (s .args .words .now) (s .args .table .now) w (l .i) (l .j) (omega arith))
+    let k = c .before .before .before .week-of .ensures in
+    let d = c .before .before .week-end .ensures ∙ ap (λ n. l .i + weekRun n (drop (l .i) (s .args .words .now))) k in
+    omega (arith, d, run-some (s .args .words .now) (s .args .table .now) w (l .i) (l .j) (omega arith))
 
 loop-again : tie.Need-loop-again Inv-loop μ-loop
 loop-again c =
     let s = c .before .before .before .before .before .before .before .before .before .before in
     let l = c .before .before .before .before .before .before .before .loop in
     let w = list-weekly (s .args .words .now) (s .pre .packings) (s .pre .ascends) in
-    let d = c .before .before .before .before .week-end .ensures in
-    let e = entry-is (l .i) _ _ (c .before .week-of .ensures) d in
+    let k = c .before .before .before .week-of .ensures in
+    let d = c .before .before .week-end .ensures ∙ ap (λ n. l .i + weekRun n (drop (l .i) (s .args .words .now))) k in
     let r = run-within (weekOf (getD (s .args .words .now) (l .i) 0)) (l .i) (s .args .words .now) (l .inv .0) in
-    (omega (arith, d, r), omega arith, rw d (walk-on (s .args .words .now) (s .args .table .now) w (l .i) (l .j) (omega arith) (omega arith) (c .if2 .left ∙ e) (l .inv .2)))
+    (omega (arith, d, r), omega arith, rw d (walk-on (s .args .words .now) (s .args .table .now) w (l .i) (l .j) (omega arith) (omega arith) (c .if2 .left ∙ entry-is (l .i) _ _ k d) (l .inv .2)))
 
 returns-3 : tie.Need-returns-3 Inv-loop μ-loop
 returns-3 c =
@@ -109,12 +115,12 @@ is-table-spec =
     μ-loop
     loop-holds
     returns
-    week-end-requires
-    mul-if2
-    shared-slice-read-if2
     mul-week-of
     shared-slice-read-week-of
     week-of-requires
+    week-end-requires
+    mul-if2
+    shared-slice-read-if2
     mul-if2-2
     sub-if2
     add-if2
