@@ -33,7 +33,7 @@ not-lower x (y ∷ s) zero h l = rw (le-ltb y x l) (omega arith)
 not-lower x (y ∷ s) (suc i) h l =
     picked (λ n. n ≤ suc i) (ltb y x) (omega (arith, not-lower x s i (omega arith) l)) (omega arith)
 
-at-least : (low : ℕ) (s : List ℕ) (i : ℕ) → ascendingFrom low s ≡ true → i < length s → low ≤ getD s i 0
+pub at-least : (low : ℕ) (s : List ℕ) (i : ℕ) → ascendingFrom low s ≡ true → i < length s → low ≤ getD s i 0
 at-least low [] i a h = absurd (omega arith)
 at-least low (y ∷ s) zero a h = first-rest low y s a .0
 at-least low (y ∷ s) (suc i) a h =

@@ -7,19 +7,20 @@ use mathlib.Core.Path.{_≡_, refl, sym, ap, _∙_}
 use native.Mathlib.Decide.{ℕ-discrete}
 use native.Mathlib.Numerals.{add-one}
 use native.Mathlib.Omega.{arith}
-use borrow.Author.Tests.{eq-eqb, ne-eqb, eqb-true, leb-true}
-use lib.Dec.{eqb, leb}
+use borrow.Author.Tests.{eq-eqb, ne-eqb, eqb-true, eqb-false, lt-ltb, le-ltb}
+use lib.Dec.{eqb, ltb}
 use lib.ListN.{length, getD, take, drop, length-drop, drop-of-length-le}
 use lib.Seq.{drop-cons, drop-drop}
 use Rattle.laws.specs.Lists.{every}
-use Rattle.sheets.specs.Sheets.{isPacking, weekOf}
-use Rattle.sheets.proofs.Order.{packing-weeks}
+use Rattle.laws.proofs.Lists.{each}
+use Rattle.sheets.specs.Sheets.{isPacking, weekOf, nextWeek}
+use Rattle.sheets.proofs.Order.{packing-weeks, by-next-week}
 use Rattle.sheet_list.specs.Adding.{same}
 use Rattle.sheet_list.specs.Ascending.{ascendingFrom}
-use Rattle.sheet_list.specs.Private.{weekRun}
+use Rattle.sheet_list.specs.Private.{weekRun, Listed}
 use Rattle.sheet_list.specs.Weeks.{Tally, tally, counted, weeksOf, tallyWord, tableOf}
 use Rattle.sheet_list.proofs.Counting.{counted-less, counted-same}
-use Rattle.sheet_list.proofs.Ranks.{first-rest}
+use Rattle.sheet_list.proofs.Ranks.{first-rest, at-least}
 
 -- the weeks of words do not fall, from a week on
 unfoldable pub Weekly : ℕ → List ℕ → Type 0
@@ -168,3 +169,27 @@ module _ (k from : ℕ) (s : List ℕ) where
   run-ends i h e =
       let z : weekRun k (drop i s) ≡ 0 = unfold weekRun in rw (drop-of-length-le s {i = i} h) in
       omega (arith, e, z)
+
+-- ---- by the first word of a later week
+
+-- a word is at least as high as those before it
+pub ascends-to : (low : ℕ) (s : List ℕ) (i j : ℕ) → ascendingFrom low s ≡ true → i ≤ j → j < length s → getD s i 0 ≤ getD s j 0
+ascends-to low [] i j a h l = absurd (omega arith)
+ascends-to low (x ∷ s) zero zero a h l = omega arith
+ascends-to low (x ∷ s) zero (suc j) a h l = at-least x s j (first-rest low x s a .1) (omega arith)
+ascends-to low (x ∷ s) (suc i) zero a h l = absurd (omega arith)
+ascends-to low (x ∷ s) (suc i) (suc j) a h l = ascends-to x s i j (first-rest low x s a .1) (omega arith) (omega arith)
+
+module _ (s : List ℕ) (v : Listed s) (from i : ℕ) (h : from ≤ i) (l : i < length s) where
+  packs : (j : ℕ) → j < length s → isPacking (getD s j 0) ≡ true
+  packs j m = each isPacking 0 s (v .packings) j (λ n. absurd (omega arith))
+
+  week-by : ltb (getD s i 0) (nextWeek (getD s from 0)) ≡ eqb (weekOf (getD s i 0)) (weekOf (getD s from 0))
+  week-by =
+      by-next-week (getD s from 0) (getD s i 0) (packs from (omega arith)) (packs i l) (ascends-to 0 s from i (v .ascends) h l)
+
+  pub later-week : nextWeek (getD s from 0) ≤ getD s i 0 → weekOf (getD s i 0) ≡ weekOf (getD s from 0) → ⊥
+  later-week n = eqb-false _ _ (sym week-by ∙ le-ltb (getD s i 0) (nextWeek (getD s from 0)) n)
+
+  pub that-week : getD s i 0 < nextWeek (getD s from 0) → weekOf (getD s i 0) ≡ weekOf (getD s from 0)
+  that-week n = eqb-true _ _ (sym week-by ∙ lt-ltb (getD s i 0) (nextWeek (getD s from 0)) n)

@@ -1,11 +1,11 @@
 // The table of weeks: for each week that has sheets, in order, the week in the high bits and how many sheets in the low ones.
 use crate::ascending::put_at;
 use crate::ascending::rank;
+use sheets::next_week;
 use sheets::week_of;
 ghost use mathlib.Core.Bool.{true};
 ghost use mathlib.Core.Path.{_≡_};
 ghost use Prim.Native.Nat.{_+_, _-_, _≤_, _<_, _^_};
-ghost use lib.Dec.{eqb};
 ghost use lib.ListN.{length, getD, take, drop};
 ghost use Rattle.sheets.specs.Sheets.{weekOf};
 ghost use Rattle.sheet_list.specs.Adding.{over, same};
@@ -16,33 +16,17 @@ ghost use Rattle.sheet_list.specs.Weeks.{tableOf};
 // What one of a week's bits is in a word of the table.
 const WEEK: u64 = 17592186044416;
 
-// What one day is in a word of the list: two to the bits after the date.
-const DAY: u64 = 2199023255552;
-
-// Whether a word is of the week that the word before it is of: it most often has the same date.
-fn is_of_week(word: u64, previous: u64, week: u64) -> bool
-    requires { ⌜ weekOf previous ≡ week ⌝ }
-    ensures { λ r. ⌜ r ≡ eqb (weekOf word) week ⌝ }
-{
-    if word / DAY == previous / DAY {
-        return true;
-    }
-    week_of(word) == week
-}
-
 // Where the words from `from` on end that are of the week of the first of them.
-fn week_end(words: &[u64], from: usize, week: u64) -> usize
-    requires { ⌜ (from < length (now words)) × (week ≡ weekOf (getD (now words) from 0)) ⌝ }
-    ensures { λ r. ⌜ r ≡ from + weekRun week (drop from (now (words .entry))) ⌝ }
+fn week_end(words: &[u64], from: usize) -> usize
+    requires { ⌜ (from < length (now words)) × Listed (now words) ⌝ }
+    ensures { λ r. ⌜ r ≡ from + weekRun (weekOf (getD (now (words .entry)) from 0)) (drop from (now (words .entry))) ⌝ }
 {
-    let mut previous = words[from];
+    let later = next_week(words[from]);
     let mut i = from;
     while i < words.len() {
-        let word = words[i];
-        if !is_of_week(word, previous, week) {
+        if later <= words[i] {
             return i;
         }
-        previous = word;
         i += 1;
     }
     i
@@ -60,7 +44,7 @@ pub(crate) fn is_table(words: &[u64], table: &[u64]) -> bool
             return false;
         }
         let week = week_of(words[i]);
-        let end = week_end(words, i, week);
+        let end = week_end(words, i);
         if table[j] != week * WEEK + (end - i) as u64 {
             return false;
         }

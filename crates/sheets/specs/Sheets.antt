@@ -1,12 +1,15 @@
 -- A sheet (RULES 11): its date, and what is said of hour, minute, second and zone offset; which are valid; and its word.
-use Prim.Native.Nat.{ℕ, suc}
+use Prim.Native.Nat.{ℕ, suc, _+_, _-_, _^_}
 use mathlib.Core.Bool.{Bool, cond, _&&_}
 use mathlib.Core.List.{List, [], _∷_}
 use lib.Dec.{eqb}
 use lib.ListN.{getD}
-use Rattle.calendar.specs.Calendar.{date, isoYear, isoWeek}
+use Rattle.calendar.specs.Calendar.{date, weekday, isoYear, isoWeek}
+use Rattle.calendar.specs.Dates.{fromDayNumber}
 use Rattle.calendar.specs.declared.Date.{Date}
-use Rattle.strptime.specs.declared.Day.{Day}
+use Rattle.calendar.specs.declared.FromNumber.{FromNumber}
+use Rattle.calendar.specs.declared.FromNumber.the-variants.{Day, Outside}
+use Rattle.strptime.specs.declared.Day.{Day as ReadDay}
 use Rattle.strptime.specs.declared.Day.the-variants.{NoDate, On}
 use Rattle.strptime.specs.declared.Reading.{Reading}
 use Rattle.strptime.specs.declared.Said.{Said}
@@ -108,7 +111,7 @@ unfoldable pub packing : SheetFields → Packed
 packing f = dated (f .date) f
 
 -- what a reading says of a sheet; a refused one says nothing
-unfoldable pub dayFields : Day → DateFields
+unfoldable pub dayFields : ReadDay → DateFields
 dayFields NoDate = NoFields
 dayFields (On t) = Fields (t .year) (t .month) (t .day)
 
@@ -138,8 +141,19 @@ weekOfDate t = packed weekWidths (isoYear (dayNumberOf t) ∷ isoWeek (dayNumber
 unfoldable pub weekOf : ℕ → ℕ
 weekOf x = weekOfDate (sheetOf x .date)
 
+-- the lowest word of a later week: that of the Monday after, where nothing else is said, or the highest number where the calendar ends first
+unfoldable pub dateWord : Date → ℕ
+dateWord t = packed (14 ∷ 4 ∷ 5 ∷ 41 ∷ []) (t .year ∷ t .month ∷ t .day ∷ 0 ∷ [])
+
+unfoldable pub wordFrom : FromNumber → ℕ
+wordFrom (Day t) = dateWord t
+wordFrom Outside = 2 ^ 64 - 1
+
+unfoldable pub nextWeek : ℕ → ℕ
+nextWeek x = let k = dayNumberOf (sheetOf x .date) in wordFrom (fromDayNumber (k + 8 - weekday k))
+
 -- everything here, for proofs that compute
 unfoldable pub computes : Unit {0}
 unfolding sheetWidths offsetField fields wordOf saidFrom fieldOffset sheetFrom sheetOf
-    faultOf isValid isPacking unpacking packingOf dated packing dayFields readingFields dateFrom fieldsFrom weekWidths weekOfDate weekOf
+    faultOf isValid isPacking unpacking packingOf dated packing dayFields readingFields dateFrom fieldsFrom weekWidths weekOfDate weekOf dateWord wordFrom nextWeek
 computes = tt

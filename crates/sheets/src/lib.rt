@@ -1,6 +1,7 @@
 // A sheet (RULES 11): its date, and what is said of hour, minute, second and zone offset; its word of 64 bits; its week.
 use calendar::Date;
 use calendar::FromFields;
+use calendar::FromNumber;
 use strptime::Day;
 use strptime::Reading;
 use strptime::Said;
@@ -17,7 +18,7 @@ ghost use Prim.Native.Nat.{_+_, _*_, _<_, _^_};
 ghost use Rattle.words.specs.Words.{flag, numberOr0, offsetFlag};
 ghost use Rattle.sheets.specs.Sheets.{offsetField, wordOf, saidFrom, fieldOffset, sheetOf, isValid};
 ghost use Rattle.sheets.specs.Private.{isField, isDate};
-ghost use Rattle.sheets.specs.Sheets.{weekOfDate, weekOf};
+ghost use Rattle.sheets.specs.Sheets.{weekOfDate, weekOf, dateWord, nextWeek};
 ghost use Rattle.sheets.specs.Sheets.{isPacking, unpacking, packing, dayFields, readingFields, dateFrom, fieldsFrom};
 
 pub struct Sheet {
@@ -347,4 +348,23 @@ pub fn week_of(word: u64) -> u64
     ensures { λ r. ⌜ r ≡ weekOf word ⌝ }
 {
     week_of_date(date_of(word))
+}
+
+// The lowest word of a date.
+fn date_word(date: Date) -> u64
+    requires { ⌜ date .year < 10000 ⌝ }
+    ensures { λ r. ⌜ r ≡ dateWord date ⌝ }
+{
+    date.year as u64 * YEAR + date.month as u64 * MONTH + date.day as u64 * DAY
+}
+
+// The lowest word of a later week, for a packing.
+pub fn next_week(word: u64) -> u64
+    ensures { λ r. ⌜ r ≡ nextWeek word ⌝ }
+{
+    let date = date_of(word);
+    match Date::from_day_number(date.day_number() + 8 - date.weekday()) {
+        FromNumber::Day(monday) => date_word(monday),
+        FromNumber::Outside => 18446744073709551615,
+    }
 }

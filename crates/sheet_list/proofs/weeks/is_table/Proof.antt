@@ -1,15 +1,14 @@
 -- `sheet_list::weeks::is_table` meets its contract. Assumes nothing.
 use Rattle.sheet_list.proofs.Tables.{entry-is}
 use Rattle.sheet_list.proofs.Runs.{Walk, list-weekly, walk-end, walk-short, walk-differs, walk-on, run-some, run-within}
-use Rattle.sheet_list.specs.Private.{weekRun}
 use Rattle.sheets.proofs.Order.{packing-week}
 use Rattle.sheets.specs.Sheets.{isPacking, weekOf}
 use Rattle.laws.proofs.Lists.{each}
-use lib.ListN.{length, getD, drop}
+use lib.ListN.{length, getD}
 use borrow.Author.Needs.{needs}
 use native.Mathlib.Omega.{arith}
 use mathlib.Core.Path.{_≡_, refl, sym, ap, _∙_}
-use Prim.Native.Nat.{_+_, _-_, _≤_}
+use Prim.Native.Nat.{_-_, _≤_}
 use Rattle.sheet_list.proofs.weeks.is_table.Statement.{statement}
 use Rattle.sheet_list.proofs.weeks.is_table.Tie as tie
 
@@ -39,7 +38,7 @@ week-of-requires : tie.Need-week-of-requires Inv-loop μ-loop
 week-of-requires c κs = search needs
 
 week-end-requires : tie.Need-week-end-requires Inv-loop μ-loop
-week-end-requires c κs = (omega arith, c .week-of .ensures)
+week-end-requires c κs = (omega arith, c .before .before .before .before .before .before .before .pre)
 
 mul-if2 : tie.Need-mul-if2 Inv-loop μ-loop
 mul-if2 c = omega arith
@@ -65,7 +64,7 @@ add-if2 c =
     let p = each isPacking 0 (s .args .words .now) (s .pre .packings) (l .i) (λ h. absurd (omega arith)) in
     let m = packing-week (getD (s .args .words .now) (l .i) 0) p in
     let k = c .before .before .week-of .ensures in
-    let d = c .before .week-end .ensures ∙ ap (λ n. l .i + weekRun n (drop (l .i) (s .args .words .now))) k in
+    let d = c .before .week-end .ensures in
     let r = run-within (weekOf (getD (s .args .words .now) (l .i) 0)) (l .i) (s .args .words .now) (l .inv .0) in
     record { fits = omega (arith, k, m, d, r, s .pre .short) }
 
@@ -75,7 +74,7 @@ returns-2 c =
     let l = c .before .before .before .before .before .before .before .loop in
     let w = list-weekly (s .args .words .now) (s .pre .packings) (s .pre .ascends) in
     let k = c .before .before .before .week-of .ensures in
-    let d = c .before .before .week-end .ensures ∙ ap (λ n. l .i + weekRun n (drop (l .i) (s .args .words .now))) k in
+    let d = c .before .before .week-end .ensures in
     walk-differs (s .args .words .now) (s .args .table .now) w (l .i) (l .j) (omega arith) (omega arith) (λ g. c .if2 .taken (g ∙ sym (entry-is (l .i) _ _ k d))) (l .inv .2)
 
 add-j : tie.Need-add-j Inv-loop μ-loop
@@ -87,7 +86,7 @@ loop-less c =
     let l = c .before .before .before .before .before .before .before .loop in
     let w = list-weekly (s .args .words .now) (s .pre .packings) (s .pre .ascends) in
     let k = c .before .before .before .week-of .ensures in
-    let d = c .before .before .week-end .ensures ∙ ap (λ n. l .i + weekRun n (drop (l .i) (s .args .words .now))) k in
+    let d = c .before .before .week-end .ensures in
     omega (arith, d, run-some (s .args .words .now) (s .args .table .now) w (l .i) (l .j) (omega arith))
 
 loop-again : tie.Need-loop-again Inv-loop μ-loop
@@ -96,7 +95,7 @@ loop-again c =
     let l = c .before .before .before .before .before .before .before .loop in
     let w = list-weekly (s .args .words .now) (s .pre .packings) (s .pre .ascends) in
     let k = c .before .before .before .week-of .ensures in
-    let d = c .before .before .week-end .ensures ∙ ap (λ n. l .i + weekRun n (drop (l .i) (s .args .words .now))) k in
+    let d = c .before .before .week-end .ensures in
     let r = run-within (weekOf (getD (s .args .words .now) (l .i) 0)) (l .i) (s .args .words .now) (l .inv .0) in
     (omega (arith, d, r), omega arith, rw d (walk-on (s .args .words .now) (s .args .table .now) w (l .i) (l .j) (omega arith) (omega arith) (c .if2 .left ∙ entry-is (l .i) _ _ k d) (l .inv .2)))
 
