@@ -25,7 +25,6 @@ use Rattle.text.proofs.Fill.{fill-below}
 use Rattle.text.specs.Digits.{digits, plain, isDigit, digitRun, decimal}
 use Rattle.format.specs.Conversions as conversions
 use Rattle.format.specs.Conversions.{among, conversionOf, isName, isNumber}
-use Rattle.format.specs.Opening as opening
 use Rattle.format.specs.Opening.{Opening, Whole, BadAt, opening, flags, flagRun, widthRun, conversion, letter, withStyle, styled, piece}
 use Rattle.format.specs.Opening.{longest, unstyled, isUnstyled, takesStyle, toRead, before, conversionAt}
 use Rattle.format.specs.Opening.{acted, nothing, openFrom}
@@ -51,15 +50,7 @@ use Rattle.demands.proofs.Seconds.{no-seconds}
 use Rattle.strftime.proofs.Lengths.{by-form, element-styled}
 use Rattle.strptime.specs.Answers as reader
 use Rattle.strptime.specs.Answers.{reading}
-use Rattle.calendar.specs.Calendar as calendar
-use Rattle.values.specs.Moments as moments
-use Rattle.values.specs.Offsets as offsets
-use Rattle.values.specs.Values as values
-use Rattle.text.specs.Names as tables
-use Rattle.text.specs.Naming as naming
-use Rattle.demands.specs.Starred as cases
-use Rattle.demands.specs.Starred.{Case}
-use Rattle.demands.specs.Columns.{columnCases, Columns, Writes, numbers, blanks, names, others, asked, format, digitsOf, column}
+use Rattle.demands.specs.Columns.{Columns, Writes, numbers, blanks, names, others, asked, format, digitsOf, column}
 use Rattle.demands.specs.Columns.{belongs}
 
 not-eq-true : (t : Bool) → not t ≡ true → t ≡ false
@@ -547,9 +538,3 @@ columns t m v w c h a =
       refuses = refuses t m v w c h a;
       reads-none = λ f k. unread-by t m v f w c k h a;
     }
-
--- the cases, by computing
-pub columns-hold : map (λ (c : Case). c .0) columnCases ≡ map (λ (c : Case). c .1) columnCases
-unfolding cases.computes columnCases fold capital cased digits plain fill isDigit digitRun decimal calendar.computes moments.computes
-    offsets.computes values.computes tables.computes naming.computes conversions.computes opening.computes writer.computes
-columns-hold = refl

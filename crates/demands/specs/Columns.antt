@@ -18,7 +18,6 @@ use Rattle.values.specs.declared.Moment.{Moment}
 use Rattle.strftime.specs.Writing as writer
 use Rattle.strftime.specs.Writing.{put, converted, writing}
 use Rattle.strftime.specs.declared.Fields.{Fields}
-use Rattle.demands.specs.Starred.{Case, moment, writes, gives}
 use Rattle.strptime.specs.Answers as reader
 use Rattle.strptime.specs.Answers.{reading}
 
@@ -63,17 +62,6 @@ column f w c m =
 -- a flag that belongs to a letter
 unfoldable pub belongs : ℕ → ℕ → Bool
 belongs f c = (among c numbers && among f (0 ∷ bytes "_-0")) || (among c names && among f (0 ∷ bytes "^"))
-
--- some columns, each beside what it must give: one after the other, with what follows a conversion left alone; before E; a number 0 by -;
--- small and capital letters; and a refusal that is not at the format's start
-unfoldable pub columnCases : List Case
-columnCases =
-    (writes (moment 34 3 5 0 8 9) "%_3d%^11B%_6Y|" 21, gives 21 "  5      MARCH    34|")
-    ∷ (writes (moment 34 3 5 0 8 9) "%_5Ey%-Od5" 7, gives 7 "   3455")
-    ∷ (writes (moment 34 3 5 0 8 9) "%-H:%-5M:%03S" 7, gives 7 "0:8:009")
-    ∷ (writes (moment 34 3 5 0 8 9) "%4P|%^P|%^5p" 13, gives 13 "  am|AM|   AM")
-    ∷ (writes (moment 34 3 5 0 8 9) "%d %^d" 5, 3 ∷ 3 ∷ bytes "#####")
-    ∷ []
 
 pub record Columns (t : Fields) (m : Moment) (w c : ℕ) : Type 0 where
   -- a number by each flag, and by none

@@ -18,7 +18,7 @@ use Rattle.reasons.specs.declared.Explained.{Explained}
 use Rattle.reasons.specs.declared.Part.the-variants.{Year, Month, Day}
 use Rattle.reasons.specs.declared.Reason.{Reason}
 use Rattle.reasons.specs.declared.Reason.the-variants.{NoReason, Quarrel, Differ, Hours}
-use Rattle.demands.specs.Starred.{Case}
+use Rattle.cases.specs.Starred.{Case}
 
 -- where kinds are first said by a format: for each its first offset, and the one after its last
 unfoldable pub stand : String → String → List ℕ → List ℕ

@@ -1,4 +1,4 @@
--- Every starred case gives what it must: one statement, by computing.
+-- Every case of Examined gives what it must: one statement, by computing.
 -- Assumes nothing.
 use mathlib.Core.List.{map}
 use mathlib.Core.Path.{_≡_, refl}
@@ -23,12 +23,14 @@ use Rattle.matching.specs.Elements as elements
 use Rattle.matching.specs.Steps as reading
 use Rattle.values.specs.Offsets as offsets
 use Rattle.strptime.specs.Answers as answers
-use Rattle.demands.specs.Starred as cases
-use Rattle.demands.specs.Starred.{Case, starred}
+use Rattle.cases.specs.Starred as cases
+use Rattle.cases.specs.Examined as examined
+use Rattle.cases.specs.Starred.{Case}
+use Rattle.cases.specs.Examined.{examinedCases}
 
-pub all-hold : map (λ (c : Case). c .0) starred ≡ map (λ (c : Case). c .1) starred
-unfolding cases.computes fold cased digits plain fill isDigit digitRun decimal goesOn firstForm readName isSpace spaces
-    calendar.computes moments.computes values.computes names.computes naming.computes conversions.computes opening.computes
+pub all-examined : map (λ (c : Case). c .0) examinedCases ≡ map (λ (c : Case). c .1) examinedCases
+unfolding cases.computes examined.computes fold cased digits plain fill isDigit digitRun decimal goesOn firstForm readName
+    isSpace spaces calendar.computes moments.computes values.computes names.computes naming.computes conversions.computes opening.computes
     writer.computes agreement.computes search.computes verdicts.computes engines.computes elements.computes reading.computes
     answers.computes offsets.computes
-all-hold = refl
+all-examined = refl

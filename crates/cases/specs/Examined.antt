@@ -6,7 +6,7 @@ use Rattle.laws.specs.Bytes.{bytes}
 use Rattle.judge.specs.declared.Engine.{Engine}
 use Rattle.judge.specs.declared.Engine.the-variants.{Skipping, Plain, Within}
 use Rattle.strptime.specs.Answers.{readingBy}
-use Rattle.demands.specs.Starred.{Case, shown}
+use Rattle.cases.specs.Starred.{Case, shown}
 
 -- what a reading by an engine comes to: the number, the place, the days examined, and what is shown
 unfoldable pub readsBy : Engine → String → String → List ℕ

@@ -67,11 +67,11 @@ use Rattle.strptime.specs.Answers.{finished, reading}
 use Rattle.strptime.specs.declared.Day.the-variants.{NoDate}
 use Rattle.strptime.specs.declared.Reading.{Reading}
 use Rattle.strptime.specs.declared.Said.the-variants.{Unsaid}
 use Rattle.demands.specs.Columns.{Writes}
 use Rattle.demands.proofs.Seconds.{no-seconds}
-use Rattle.demands.specs.Offsets as cases
-use Rattle.demands.specs.Offsets.{ZoneRule, Ignored, Answer, writeCases, readCases}
-use Rattle.demands.specs.Starred.{Case}
+use Rattle.cases.specs.Offsets as cases
+use Rattle.cases.specs.Offsets.{ZoneRule, Ignored, Answer, writeCases, readCases}
+use Rattle.cases.specs.Starred.{Case}
 
 -- ---- the cases
 

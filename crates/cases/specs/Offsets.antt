@@ -25,9 +25,9 @@ use Rattle.strftime.specs.declared.Fields.{Fields}
 use Rattle.strptime.specs.Answers.{finished, reading}
 use Rattle.strptime.specs.declared.Day.the-variants.{NoDate}
 use Rattle.strptime.specs.declared.Said.the-variants.{Unsaid}
 use Rattle.demands.specs.Columns.{Writes}
-use Rattle.demands.specs.Starred as starred
-use Rattle.demands.specs.Starred.{Case, writes, gives}
+use Rattle.cases.specs.Starred as starred
+use Rattle.cases.specs.Starred.{Case, writes, gives}
 
 -- ---- %z
 

@@ -21,8 +21,8 @@ use Rattle.text.specs.declared.names.NameRead.{NameRead}
 use Rattle.text.specs.declared.names.NameRead.the-variants.{Found, Nothing}
 use Rattle.text.specs.declared.names.Names.{Names}
 use Rattle.text.specs.declared.names.Names.the-variants.{Weekdays, Months, Halves}
 use Rattle.demands.specs.Facts.{lastForm, facts, endFrom}
-use Rattle.demands.specs.Starred.{Case}
+use Rattle.cases.specs.Starred.{Case}
 
 -- a form by a number: 0 none, 1 full, 2 middle, 3 short
 unfoldable pub form : NameForm → ℕ

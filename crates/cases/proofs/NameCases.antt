@@ -1,6 +1,6 @@
--- Every case of Examined gives what it must: one statement, by computing.
+-- Every case of NameCases gives what it must, and every table has its forms: one statement each, by computing.
 -- Assumes nothing.
-use mathlib.Core.List.{map}
+use mathlib.Core.List.{map, flatMap}
 use mathlib.Core.Path.{_≡_, refl}
 use Rattle.calendar.specs.Calendar as calendar
 use Rattle.values.specs.Moments as moments
@@ -23,14 +23,19 @@ use Rattle.matching.specs.Elements as elements
 use Rattle.matching.specs.Steps as reading
 use Rattle.values.specs.Offsets as offsets
 use Rattle.strptime.specs.Answers as answers
-use Rattle.demands.specs.Starred as cases
-use Rattle.demands.specs.Examined as examined
-use Rattle.demands.specs.Starred.{Case}
-use Rattle.demands.specs.Examined.{examinedCases}
+use Rattle.cases.specs.Starred as cases
+use Rattle.demands.specs.Facts as facts
+use Rattle.cases.specs.NameCases as forms
+use Rattle.cases.specs.NameCases.{nameCases, formCases}
+use Rattle.cases.specs.Starred.{Case}
 
-pub all-examined : map (λ (c : Case). c .0) examinedCases ≡ map (λ (c : Case). c .1) examinedCases
-unfolding cases.computes examined.computes fold cased digits plain fill isDigit digitRun decimal goesOn firstForm readName
+pub all-named : map (λ (c : Case). c .0) nameCases ≡ map (λ (c : Case). c .1) nameCases
+unfolding cases.computes facts.computes forms.computes fold cased digits plain fill isDigit digitRun decimal goesOn firstForm readName
     isSpace spaces calendar.computes moments.computes values.computes names.computes naming.computes conversions.computes opening.computes
     writer.computes agreement.computes search.computes verdicts.computes engines.computes elements.computes reading.computes
     answers.computes offsets.computes
-all-examined = refl
+all-named = refl
+
+pub all-forms : map (λ (c : Case). c .0) formCases ≡ map (λ (c : Case). c .1) formCases
+unfolding forms.computes fold goesOn firstForm readName names.computes flatMap
+all-forms = refl
