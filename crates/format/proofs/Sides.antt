@@ -4,7 +4,7 @@ use Prim.Native.Char.{code}
 use Prim.Native.Nat.{ℕ, zero, suc, _+_, _-_, _≤_, _<_}
 use mathlib.Core.Bool.{Bool, true, false, cond, _||_, _&&_, and-eq-true-iff, and-false}
 use mathlib.Core.List.{List, [], _∷_, _++_, map, append-assoc}
-use mathlib.Core.Path.{_≡_, refl, sym, ap, _∙_}
+use mathlib.Core.Path.{_≡_, refl, sym, ap, _∙_, fun-ext}
 use native.Mathlib.Decide.{decLe}
 use native.Mathlib.Nat.{zero-add, le-of-suc-le-suc, lt-of-not-le}
 use native.Mathlib.Omega.{arith}
@@ -29,6 +29,7 @@ use Rattle.format.specs.declared.opening.Act.the-variants.{Byte, Convert
 use Rattle.format.specs.declared.opening.Piece.{Piece}
 use Rattle.format.specs.declared.opening.Side.{Side}
 use Rattle.format.specs.declared.opening.Side.the-variants.{Writer, Reader}
+use Rattle.format.specs.declared.opening.Sign.{Sign}
 use Rattle.format.specs.declared.opening.Sign.the-variants.{Own, Of}
 use Rattle.format.specs.declared.opening.Style.{Style}
 use Rattle.format.proofs.Bound.{bound}
@@ -228,7 +229,12 @@ first b s = go (eqb b (code "%")) refl
 
 -- ---- a composite is opened alike for both
 
-own-alike : (f g : List ℕ → Opening) (c : ℕ) (xs : List Composite)
+-- what stands first at each place of a format, for a side
+unfoldable firsts : Side → List ℕ → List Piece
+firsts d [] = []
+firsts d (b ∷ s) = pieceOf d b s ∷ firsts d s
+
+own-alike : (f g : List ℕ → List Piece) (c : ℕ) (xs : List Composite)
     → map (λ (x : Composite). f (x .format)) xs ≡ map (λ (x : Composite). g (x .format)) xs → f [] ≡ g []
     → f (formatOf c xs) ≡ g (formatOf c xs)
 unfolding formatOf
@@ -237,13 +243,35 @@ own-alike f g c (x ∷ xs) e n =
     let more : map (λ (x : Composite). f (x .format)) xs ≡ map (λ (x : Composite). g (x .format)) xs = cc in
     picked (λ (s : List ℕ). f s ≡ g s) (eqb c (x .letter)) (cc) (own-alike f g c xs more n)
 
+-- a composite's own format has neither flag nor width nor %s: one test over the table
+own-firsts : (c : ℕ) → firsts Writer (ownFormat c) ≡ firsts Reader (ownFormat c)
+unfolding ownFormat
+own-firsts c =
+    own-alike (firsts Writer) (firsts Reader) c composites (unfold rows-compute computes firsts in refl) (unfold firsts in refl)
+
+-- where the same stands first at each place, the same is opened
+open-alike : (inner : ℕ → ℕ → Opening) (g : Sign) (i past : ℕ) (s : List ℕ) → firsts Writer s ≡ firsts Reader s
+    → openFrom Writer inner g i past s ≡ openFrom Reader inner g i past s
+unfolding openFrom firsts
+open-alike inner g i past [] e = refl
+open-alike inner g i (suc past) (b ∷ s) e =
+    let more : firsts Writer s ≡ firsts Reader s = cc in
+    open-alike inner g (i + 1) past s more
+open-alike inner g i zero (b ∷ s) e =
+    let more : firsts Writer s ≡ firsts Reader s = cc in
+    let p : pieceOf Writer b s ≡ pieceOf Reader b s = cc in
+    rw (p, open-alike inner g (i + 1) (pieceOf Reader b s .length - 1) s more)
+
+any-depth : (depth sign c : ℕ) → compositeTo Writer depth sign c ≡ compositeTo Reader depth sign c
+unfolding compositeTo
+any-depth zero sign c = refl
+any-depth (suc depth) sign c =
+    let inner : compositeTo Writer depth ≡ compositeTo Reader depth = fun-ext (λ p. fun-ext (λ l. any-depth depth p l)) in
+    ap (λ (f : ℕ → ℕ → Opening). openFrom Writer f (Of sign) 0 0 (ownFormat c)) inner
+    ∙ open-alike (compositeTo Reader depth) (Of sign) 0 0 (ownFormat c) (own-firsts c)
+
 pub composites-alike : (sign c : ℕ) → compositeTo Writer 2 sign c ≡ compositeTo Reader 2 sign c
-unfolding compositeTo ownFormat
-composites-alike sign c =
-    own-alike (λ s. openFrom Writer (compositeTo Writer 1) (Of sign) 0 0 s) (λ s. openFrom Reader (compositeTo Reader 1) (Of sign) 0 0 s) c
-    composites
-    (unfold rows-compute computes in refl)
-    (unfold computes in refl)
+composites-alike sign c = any-depth 2 sign c
 
 -- ---- the whole format
 
