@@ -11,7 +11,7 @@ use Rattle.text.specs.Digits.{digits, plain, isDigit, digitRun, decimal}
 use Rattle.text.specs.Fill.{fill}
 use Rattle.text.specs.Names as tables
 use Rattle.text.specs.Naming as naming
-use Rattle.format.specs.Conversions as conversions
+use Rattle.conversions.specs.Conversions as conversions
 use Rattle.format.specs.Opening as opening
 use Rattle.strftime.specs.Writing as writer
 use Rattle.cases.specs.ColumnCases.{columnCases}

@@ -8,7 +8,8 @@ use mathlib.Core.Path.{_≡_}
 use lib.IntN.{ℤ, pos, negsuc}
 use lib.ListN.{length, replicate}
 use Rattle.laws.specs.Bytes.{bytes}
-use Rattle.format.specs.Opening.{unstyled, conversionAt}
+use Rattle.conversions.specs.Pieces.{unstyled}
+use Rattle.format.specs.Opening.{conversionAt}
 use Rattle.kinds.specs.Kinds.{zoneOffset}
 use Rattle.agreement.specs.Verdicts.{hourVerdict}
 use Rattle.agreement.specs.declared.Facts.{Facts}

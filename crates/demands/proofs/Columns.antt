@@ -23,21 +23,24 @@ use Rattle.text.specs.Naming.{nameFor}
 use Rattle.text.proofs.Case.{capital-fold}
 use Rattle.text.proofs.Fill.{fill-below}
 use Rattle.text.specs.Digits.{digits, plain, isDigit, digitRun, decimal}
-use Rattle.format.specs.Conversions as conversions
-use Rattle.format.specs.Conversions.{among, conversionOf, isName, isNumber}
-use Rattle.format.specs.Opening.{Opening, Whole, BadAt, opening, flags, flagRun, widthRun, conversion, letter, withStyle, styled, piece}
-use Rattle.format.specs.Opening.{longest, unstyled, isUnstyled, takesStyle, toRead, before, conversionAt}
+use Rattle.conversions.specs.Conversions as conversions
+use Rattle.conversions.specs.Conversions.{among, conversionOf, isName, isNumber}
+use Rattle.conversions.specs.Pieces.{flags, flagRun, widthRun, conversion, letter, withStyle, styled, piece}
+use Rattle.format.specs.Opening.{Opening, Whole, BadAt, opening}
+use Rattle.conversions.specs.Pieces.{unstyled, isUnstyled, takesStyle, toRead}
+use Rattle.format.specs.Opening.{longest, before, conversionAt}
 use Rattle.format.specs.Opening.{acted, nothing, openFrom}
-use Rattle.format.specs.Opening.{compositeTo, openTo, signed, pieceOf, signAt, styleFrom}
-use Rattle.format.specs.declared.conversions.Conversion.{Conversion}
-use Rattle.format.specs.declared.conversions.Form.{Form}
-use Rattle.format.specs.declared.conversions.Form.the-variants.{Zeros, Blanks, FromSunday, Short, Full, Lower, Zone, Seconds, Unknown}
+use Rattle.conversions.specs.Pieces.{styleFrom}
+use Rattle.format.specs.Opening.{compositeTo, openTo, signed, pieceOf, signAt}
+use Rattle.conversions.specs.declared.conversions.Conversion.{Conversion}
+use Rattle.conversions.specs.declared.conversions.Form.{Form}
+use Rattle.conversions.specs.declared.conversions.Form.the-variants.{Zeros, Blanks, FromSunday, Short, Full, Lower, Zone, Seconds, Unknown}
 use Rattle.format.specs.declared.opening.Side.{Side}
 use Rattle.format.specs.declared.opening.Side.the-variants.{Writer, Reader}
 use Rattle.format.specs.declared.opening.Sign.{Sign}
 use Rattle.format.specs.declared.opening.Sign.the-variants.{Own}
-use Rattle.format.specs.declared.opening.Act.the-variants.{Convert, Refuse}
-use Rattle.format.specs.declared.opening.Style.{Style}
+use Rattle.conversions.specs.declared.following.Act.the-variants.{Convert, Refuse}
+use Rattle.conversions.specs.declared.following.Style.{Style}
 use Rattle.values.specs.Moments.{momentOf}
 use Rattle.values.specs.Values.{value}
 use Rattle.values.specs.declared.Moment.{Moment}

@@ -13,7 +13,7 @@ use lib.Seq.{sets, sets-eq, length-sets, drop-append-seam}
 use Rattle.laws.specs.Bytes.{bytes}
 use Rattle.laws.specs.Lists.{every}
 use Rattle.laws.proofs.Cases.{either, picked}
-use Rattle.format.specs.Conversions.{among}
+use Rattle.conversions.specs.Conversions.{among}
 use Rattle.format.specs.Opening.{Ended, Whole, BadAt, opening, longest, isByte}
 use Rattle.format.specs.declared.opening.Side.the-variants.{Writer, Reader}
 use Rattle.format.proofs.Refused.{bad-within}

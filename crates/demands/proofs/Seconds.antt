@@ -15,22 +15,24 @@ use lib.Seq.{drop-drop}
 use Rattle.laws.specs.Bytes.{bytes}
 use Rattle.laws.specs.Lists.{every}
 use Rattle.laws.proofs.Cases.{either, picked, clash}
-use Rattle.format.specs.Conversions.{computes as rows-compute}
+use Rattle.conversions.specs.Conversions.{computes as rows-compute}
 use Rattle.format.specs.Opening.{Ended, Whole, BadAt, Opening, opening, openTo, openFrom, compositeTo, longest, isByte, letterOf, afterSign}
-use Rattle.format.specs.Opening.{conversionAt, conversion, flagRun, widthRun, styleFrom}
-use Rattle.format.specs.Opening.{isUnstyled, takesStyle, withStyle, styled, signed, pieceOf, before, composed, acted, nothing, signAt}
+use Rattle.conversions.specs.Pieces.{conversion, flagRun, widthRun, styleFrom}
+use Rattle.format.specs.Opening.{conversionAt}
+use Rattle.conversions.specs.Pieces.{isUnstyled, takesStyle, withStyle, styled}
+use Rattle.format.specs.Opening.{signed, pieceOf, before, composed, acted, nothing, signAt}
 use Rattle.format.specs.Opening.{isElement}
-use Rattle.format.specs.declared.opening.Act.{Act}
-use Rattle.format.specs.declared.opening.Act.the-variants.{Byte, Convert, Open, Refuse}
-use Rattle.format.specs.declared.opening.Piece.{Piece}
+use Rattle.conversions.specs.declared.following.Act.{Act}
+use Rattle.conversions.specs.declared.following.Act.the-variants.{Byte, Convert, Open, Refuse}
+use Rattle.conversions.specs.declared.following.Piece.{Piece}
 use Rattle.format.specs.declared.opening.Side.the-variants.{Writer, Reader}
 use Rattle.format.specs.declared.opening.Sign.the-variants.{Own}
-use Rattle.format.specs.declared.opening.Style.{Style}
+use Rattle.conversions.specs.declared.following.Style.{Style}
 use Rattle.format.proofs.Elements.{composite-elements, read-letter}
 use Rattle.format.proofs.Pieces.{Follows, follows}
-use Rattle.format.proofs.Seconds.{conversion-s}
+use Rattle.conversions.proofs.Seconds.{conversion-s}
 use Rattle.format.proofs.Sides.{composites-alike}
-use Rattle.format.proofs.Styles.{flag-run, width-run}
+use Rattle.conversions.proofs.Styles.{flag-run, width-run}
 use Rattle.values.specs.declared.offsets.Offset.{Offset}
 use Rattle.values.specs.declared.offsets.Offset.the-variants.{Unsaid, Minutes}
 use Rattle.text.specs.Digits.{decimal}

@@ -10,12 +10,12 @@ use borrow.Author.Tests.{eqb-true}
 use lib.Dec.{eqb, leb, eqb→eq}
 use lib.ListN.{length, take, drop}
 use Rattle.kinds.specs.Kinds.{zoneOffset}
-use Rattle.format.specs.Conversions.{conversionOf, computes as rows-compute}
-use Rattle.format.proofs.Rows.{conversion-passes}
+use Rattle.conversions.specs.Conversions.{conversionOf, computes as rows-compute}
+use Rattle.conversions.proofs.Rows.{conversion-passes}
 use Rattle.format.specs.Opening.{isByte, letterOf}
-use Rattle.format.specs.declared.conversions.Conversion.{Conversion}
-use Rattle.format.specs.declared.conversions.Form.{Form}
-use Rattle.format.specs.declared.conversions.Form.the-variants.{Zeros, Blanks, FromSunday, Short, Full, Lower, Zone, Seconds, Unknown}
+use Rattle.conversions.specs.declared.conversions.Conversion.{Conversion}
+use Rattle.conversions.specs.declared.conversions.Form.{Form}
+use Rattle.conversions.specs.declared.conversions.Form.the-variants.{Zeros, Blanks, FromSunday, Short, Full, Lower, Zone, Seconds, Unknown}
 use Rattle.laws.specs.Lists.{every}
 use Rattle.laws.proofs.Cases.{picked, either}
 use Rattle.laws.proofs.Lists.{every-member}

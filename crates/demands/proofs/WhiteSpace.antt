@@ -12,8 +12,8 @@ use Rattle.laws.specs.Lists.{range}
 use Rattle.laws.proofs.Table.{same-at}
 use Rattle.text.specs.Digits.{isDigit, digitRun, decimal}
 use Rattle.text.specs.Space.{isSpace, spaces}
-use Rattle.format.specs.Conversions as conversions
-use Rattle.format.specs.Conversions.{among}
+use Rattle.conversions.specs.Conversions as conversions
+use Rattle.conversions.specs.Conversions.{among}
 use Rattle.format.specs.Opening as opening
 use Rattle.format.specs.Opening.{Whole, opening}
 use Rattle.format.specs.declared.opening.Side.the-variants.{Writer}

@@ -15,12 +15,13 @@ use lib.Seq.{sets, sets-eq, take-append-seam}
 use Rattle.kinds.specs.Kinds.{halfOfDay}
 use Rattle.calendar.specs.Calendar.{dateOf, days, computes}
 use Rattle.calendar.proofs.Dates.{valid-no-fault, number-of-date}
-use Rattle.format.specs.Conversions as conversions
-use Rattle.format.specs.Conversions.{conversionOf}
+use Rattle.conversions.specs.Conversions as conversions
+use Rattle.conversions.specs.Conversions.{conversionOf}
 use Rattle.format.specs.Opening as opening
-use Rattle.format.specs.Opening.{Opening, Whole, opening, unstyled, conversionAt, letterOf}
-use Rattle.format.specs.declared.conversions.Conversion.{Conversion}
-use Rattle.format.specs.declared.conversions.Form.the-variants.{Zeros}
+use Rattle.conversions.specs.Pieces.{unstyled}
+use Rattle.format.specs.Opening.{Opening, Whole, opening, conversionAt, letterOf}
+use Rattle.conversions.specs.declared.conversions.Conversion.{Conversion}
+use Rattle.conversions.specs.declared.conversions.Form.the-variants.{Zeros}
 use Rattle.format.specs.declared.opening.Side.the-variants.{Writer}
 use Rattle.text.specs.declared.names.Names.the-variants.{Halves}
 use Rattle.laws.specs.Lists.{range}

@@ -11,8 +11,9 @@ use Rattle.laws.specs.Bytes.{bytes}
 use Rattle.text.specs.Case.{capital}
 use Rattle.text.specs.Digits.{plain}
 use Rattle.text.specs.Fill.{fill}
-use Rattle.format.specs.Conversions.{among, conversionOf}
-use Rattle.format.specs.Opening.{longest, unstyled}
+use Rattle.conversions.specs.Conversions.{among, conversionOf}
+use Rattle.conversions.specs.Pieces.{unstyled}
+use Rattle.format.specs.Opening.{longest}
 use Rattle.values.specs.Values.{value}
 use Rattle.values.specs.declared.Moment.{Moment}
 use Rattle.strftime.specs.Writing as writer

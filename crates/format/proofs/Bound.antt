@@ -8,18 +8,18 @@ use native.Mathlib.Omega.{arith}
 use lib.Dec.{T, leb, leb→le}
 use lib.ListN.{length, length-append}
 use Rattle.laws.specs.Lists.{every}
-use Rattle.format.specs.Conversions.{Composite, composites, ownFormat, computes as rows-compute}
+use Rattle.conversions.specs.Conversions.{Composite, composites, ownFormat, computes as rows-compute}
 use Rattle.format.specs.Opening.{Ended, Opening, pieceOf, nothing, before, composed, acted, signAt, openFrom, compositeTo}
 use Rattle.format.specs.Opening.{openTo, opening, computes}
 use Rattle.format.specs.Opening.Ended.{Whole, BadAt}
-use Rattle.format.specs.declared.opening.Act.{Act}
-use Rattle.format.specs.declared.opening.Act.the-variants.{Byte, Convert, Open, Refuse}
+use Rattle.conversions.specs.declared.following.Act.{Act}
+use Rattle.conversions.specs.declared.following.Act.the-variants.{Byte, Convert, Open, Refuse}
 use Rattle.format.specs.declared.opening.Side.{Side}
 use Rattle.format.specs.declared.opening.Side.the-variants.{Writer, Reader}
 use Rattle.format.specs.declared.opening.Sign.{Sign}
 use Rattle.format.specs.declared.opening.Sign.the-variants.{Own, Of}
 use Rattle.format.proofs.Pieces.{Follows, follows}
-use Rattle.format.proofs.Rows.{own-passes}
+use Rattle.conversions.proofs.Rows.{own-passes}
 
 composed-length : (e : List ℕ) (d : Ended) (rest : Opening)
     → length (composed (record { elements = e; ended = d }) rest .elements) ≤ length e + length (rest .elements)

@@ -5,7 +5,7 @@ use mathlib.Core.List.{[], _∷_, map}
 use mathlib.Core.Path.{_≡_, refl}
 use lib.ListN.{length, replicate}
 use Rattle.laws.specs.Bytes.{bytes}
-use Rattle.format.specs.Conversions.{computes as rows-compute}
+use Rattle.conversions.specs.Conversions.{computes as rows-compute}
 use Rattle.format.specs.Opening.{opening, openTo, computes}
 use Rattle.format.specs.Opening.Ended.{Whole, BadAt}
 use Rattle.format.specs.declared.opening.Side.the-variants.{Writer, Reader}

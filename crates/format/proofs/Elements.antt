@@ -14,27 +14,29 @@ use lib.ListN.{length, getD, drop}
 use Rattle.laws.specs.Lists.{every}
 use Rattle.laws.proofs.Cases.{either, picked, clash}
 use Rattle.laws.proofs.Lists.{each, every-of, every-append}
-use Rattle.format.specs.Conversions.{Row, among, rows, isConversion, conversionOf, ownFormat, computes as rows-compute}
-use Rattle.format.specs.Opening.{Ended, Opening, longest, unstyled, conversionAt, isByte, isPlain, letterOf, afterSign}
-use Rattle.format.specs.Opening.{conversion, flags, flagRun, widthRun, styleFrom, takesStyle, isUnstyled, withStyle, isRead, toRead}
-use Rattle.format.specs.Opening.{styled, signed, pieceOf, nothing, before, composed, acted, signAt, openFrom, compositeTo}
+use Rattle.conversions.specs.Conversions.{Row, among, rows, isConversion, conversionOf, ownFormat, computes as rows-compute}
+use Rattle.conversions.specs.Pieces.{unstyled}
+use Rattle.format.specs.Opening.{Ended, Opening, longest, conversionAt, isByte, isPlain, letterOf, afterSign}
+use Rattle.conversions.specs.Pieces.{conversion, flags, flagRun, widthRun, styleFrom, takesStyle, isUnstyled, withStyle, isRead, toRead}
+use Rattle.conversions.specs.Pieces.{styled}
+use Rattle.format.specs.Opening.{signed, pieceOf, nothing, before, composed, acted, signAt, openFrom, compositeTo}
 use Rattle.format.specs.Opening.{openTo, opening, mostElements, isTaken, isElement, elementsIn}
 use Rattle.format.specs.Opening.Ended.{Whole, BadAt}
-use Rattle.format.specs.declared.conversions.Form.the-variants.{Unknown}
-use Rattle.format.specs.declared.opening.Act.{Act}
-use Rattle.format.specs.declared.opening.Act.the-variants.{Byte, Convert, Open, Refuse}
-use Rattle.format.specs.declared.opening.Piece.{Piece}
+use Rattle.conversions.specs.declared.conversions.Form.the-variants.{Unknown}
+use Rattle.conversions.specs.declared.following.Act.{Act}
+use Rattle.conversions.specs.declared.following.Act.the-variants.{Byte, Convert, Open, Refuse}
+use Rattle.conversions.specs.declared.following.Piece.{Piece}
 use Rattle.format.specs.declared.opening.Side.{Side}
 use Rattle.format.specs.declared.opening.Side.the-variants.{Writer, Reader}
 use Rattle.format.specs.declared.opening.Sign.{Sign}
 use Rattle.format.specs.declared.opening.Sign.the-variants.{Own, Of}
-use Rattle.format.specs.declared.opening.Style.{Style}
+use Rattle.conversions.specs.declared.following.Style.{Style}
 use Rattle.format.proofs.Bound.{bound}
 use Rattle.format.proofs.Entries.{all-in}
-use Rattle.format.proofs.Letters.{among-past}
+use Rattle.conversions.proofs.Letters.{among-past}
 use Rattle.format.proofs.Pieces.{Unstyled, conversion-unstyled, Follows, follows}
-use Rattle.format.proofs.Rows.{own-passes, conversion-known}
-use Rattle.format.proofs.Styles.{flag-run, width-run}
+use Rattle.conversions.proofs.Rows.{own-passes, conversion-known}
+use Rattle.conversions.proofs.Styles.{flag-run, width-run}
 
 -- a conversion's letter is a byte
 pub letter-below : (c : ℕ) → isConversion c ≡ true → c < 256

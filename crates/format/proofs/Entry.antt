@@ -11,13 +11,15 @@ use borrow.Author.Tests.{lt-ltb, le-ltb, le-leb, lt-leb, not-true, not-false, le
 use lib.Dec.{leb}
 use lib.ListN.{length, getD, List·getD-eq-default}
 use Rattle.laws.proofs.Cases.{either, clash}
-use Rattle.format.specs.Conversions.{among, isConversion}
-use Rattle.format.specs.Opening.{flags, letterOf, afterSign, isPlain, styleOf, isUnstyled}
-use Rattle.format.specs.Opening.{takesStyle, isRead, isTaken, isElement, elementsIn, entryPlace}
+use Rattle.conversions.specs.Conversions.{among, isConversion}
+use Rattle.conversions.specs.Pieces.{flags, isUnstyled}
+use Rattle.format.specs.Opening.{letterOf, afterSign, isPlain, styleOf}
+use Rattle.conversions.specs.Pieces.{takesStyle, isRead}
+use Rattle.format.specs.Opening.{isTaken, isElement, elementsIn, entryPlace}
 use Rattle.format.specs.Private.{takesLetter}
 use Rattle.format.specs.declared.opening.Side.{Side}
 use Rattle.format.specs.declared.opening.Side.the-variants.{Writer, Reader}
-use Rattle.format.specs.declared.opening.Style.{Style}
+use Rattle.conversions.specs.declared.following.Style.{Style}
 
 -- ---- its flag and width, which are y
 

@@ -16,28 +16,31 @@ use Rattle.laws.specs.Lists.{every}
 use Rattle.laws.proofs.Cases.{either, picked, clash}
 use Rattle.laws.proofs.Table.{at}
 use Rattle.text.specs.Digits.{isDigit, digitRun, decimal}
-use Rattle.format.specs.Conversions.{Composite, among, isConversion, composites, formatOf, ownFormat}
-use Rattle.format.specs.Conversions.{computes as rows-compute}
-use Rattle.format.specs.Opening.{Ended, Opening, unstyled, conversionAt, letter, piece, conversion, flags, flagRun, widthRun}
-use Rattle.format.specs.Opening.{isUnstyled, takesStyle, withStyle, isRead, toRead, styled, signed, pieceOf}
+use Rattle.conversions.specs.Conversions.{Composite, among, isConversion, composites, formatOf, ownFormat}
+use Rattle.conversions.specs.Conversions.{computes as rows-compute}
+use Rattle.conversions.specs.Pieces.{unstyled, letter, piece, conversion, flags, flagRun, widthRun}
+use Rattle.format.specs.Opening.{Ended, Opening, conversionAt}
+use Rattle.conversions.specs.Pieces.{isUnstyled, takesStyle, withStyle, isRead, toRead, styled}
+use Rattle.format.specs.Opening.{signed, pieceOf}
 use Rattle.format.specs.Opening.{nothing, before, composed, acted, signAt}
 use Rattle.format.specs.Opening.{openFrom, compositeTo, openTo, opening, longest, mostElements, isByte, letterOf, afterSign}
-use Rattle.format.specs.Opening.{styleFrom, isTaken, isElement, elementsIn, entryPlace, computes}
+use Rattle.conversions.specs.Pieces.{styleFrom}
+use Rattle.format.specs.Opening.{isTaken, isElement, elementsIn, entryPlace, computes}
 use Rattle.format.specs.Opening.Ended.{Whole, BadAt}
-use Rattle.format.specs.declared.opening.Act.{Act}
-use Rattle.format.specs.declared.opening.Act.the-variants.{Byte, Convert, Open, Refuse}
-use Rattle.format.specs.declared.opening.Piece.{Piece}
+use Rattle.conversions.specs.declared.following.Act.{Act}
+use Rattle.conversions.specs.declared.following.Act.the-variants.{Byte, Convert, Open, Refuse}
+use Rattle.conversions.specs.declared.following.Piece.{Piece}
 use Rattle.format.specs.declared.opening.Side.{Side}
 use Rattle.format.specs.declared.opening.Side.the-variants.{Writer, Reader}
 use Rattle.format.specs.declared.opening.Sign.{Sign}
 use Rattle.format.specs.declared.opening.Sign.the-variants.{Own, Of}
-use Rattle.format.specs.declared.opening.Style.{Style}
+use Rattle.conversions.specs.declared.following.Style.{Style}
 use Rattle.format.proofs.Bound.{bound}
 use Rattle.format.proofs.Elements.{letter-below, elements, element-at}
 use Rattle.format.proofs.Entry.{not-read as unread}
-use Rattle.format.proofs.Letters.{among-past}
+use Rattle.conversions.proofs.Letters.{among-past}
 use Rattle.format.proofs.Pieces.{Unstyled, conversion-unstyled, Follows, follows}
-use Rattle.format.proofs.Styles.{flag-run, width-run}
+use Rattle.conversions.proofs.Styles.{flag-run, width-run}
 
 -- ---- a byte that begins a flag or a width begins no conversion
 

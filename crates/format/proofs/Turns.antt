@@ -10,20 +10,20 @@ use lib.ListN.{length, getD, drop, set, length-set, length-append, drop-of-lengt
 use lib.Seq.{sets, drop-cons, drop-drop, length-sets}
 use Rattle.laws.proofs.Cases.{clash}
 use Rattle.laws.proofs.Stores.{sets-append}
-use Rattle.format.specs.Conversions.{ownFormat}
+use Rattle.conversions.specs.Conversions.{ownFormat}
 use Rattle.format.specs.Opening.{Ended, Opening, conversionAt, pieceOf, nothing, before, composed, acted, signAt}
 use Rattle.format.specs.Opening.{openFrom, compositeTo, openTo, closed, longest}
 use Rattle.format.specs.Opening.Ended.{Whole, BadAt}
 use Rattle.format.specs.Private.{CanOpen, answered}
-use Rattle.format.specs.declared.opening.Act.{Act}
-use Rattle.format.specs.declared.opening.Act.the-variants.{Byte, Convert, Open, Refuse}
+use Rattle.conversions.specs.declared.following.Act.{Act}
+use Rattle.conversions.specs.declared.following.Act.the-variants.{Byte, Convert, Open, Refuse}
 use Rattle.format.specs.declared.opening.Opened.{Opened}
 use Rattle.format.specs.declared.opening.Opened.the-variants.{Done, Bad}
-use Rattle.format.specs.declared.opening.Piece.{Piece}
+use Rattle.conversions.specs.declared.following.Piece.{Piece}
 use Rattle.format.specs.declared.opening.Side.{Side}
 use Rattle.format.specs.declared.opening.Sign.{Sign}
 use Rattle.format.specs.declared.opening.Sign.the-variants.{Own, Of}
-use Rattle.format.specs.declared.opening.Style.{Style}
+use Rattle.conversions.specs.declared.following.Style.{Style}
 use Rattle.format.proofs.Pieces.{Modest, Follows, follows, takes}
 
 -- ---- one turn of the definition

@@ -1,4 +1,3 @@
--- What a format means: the conversions and their rows, and opening a format into elements.
-pub mod Conversions
+-- What a format means: opening it into elements.
 pub mod Opening
 pub mod Private

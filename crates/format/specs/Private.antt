@@ -1,24 +1,14 @@
 -- What the private functions of the code ask and answer.
-use Prim.Native.Nat.{ℕ, _+_, _-_, _/_, _%_, _^_, _≤_, _<_}
-use mathlib.Core.Bool.{Bool, true, false, cond}
+use Prim.Native.Nat.{ℕ, _+_, _≤_, _<_}
+use mathlib.Core.Bool.{Bool, true}
 use mathlib.Core.List.{List}
-use mathlib.Core.Path.{_≡_}
-use lib.Dec.{eqb, ltb}
 use lib.ListN.{length}
-use Rattle.format.specs.Conversions.{among}
-use Rattle.format.specs.Opening.{Opening, longest, mostElements, isRead, signAt, openTo, closed}
+use Rattle.conversions.specs.Pieces.{isRead}
+use Rattle.format.specs.Opening.{Opening, longest, mostElements, signAt, openTo, closed}
 use Rattle.format.specs.declared.opening.Opened.{Opened}
 use Rattle.format.specs.declared.opening.Side.{Side}
 use Rattle.format.specs.declared.opening.Side.the-variants.{Writer, Reader}
 use Rattle.format.specs.declared.opening.Sign.{Sign}
-
--- a set of letters is a number whose bit at 64 less than its byte says whether a letter is in
-unfoldable pub holds : ℕ → ℕ → Bool
-holds set b = cond (ltb b 64) false (cond (ltb 127 b) false (eqb (set / 2 ^ (b - 64) % 2) 1))
-
--- a number is the set of these letters
-abbrev pub SetOf : ℕ → List ℕ → Type 0
-SetOf set letters = (b : ℕ) → holds set b ≡ among b letters
 
 -- a letter is taken by a side without flag and width, if it is a conversion's
 unfoldable pub takesLetter : Side → ℕ → Bool

@@ -1,16 +1,11 @@
-// The format layer (RULES 4): the table of conversions, and opening a format into elements.
-mod conversions;
+// The format layer (RULES 4): opening a format into elements.
 mod opening;
 
-pub use conversions::Conversion;
-pub use conversions::Form;
-pub use conversions::conversion_of;
 pub use opening::LONGEST;
 pub use opening::MOST_ELEMENTS;
 pub use opening::Opened;
 pub use opening::PLAIN;
 pub use opening::Side;
-pub use opening::Style;
 pub use opening::elements_in;
 pub use opening::entry_place;
 pub use opening::open;

@@ -10,11 +10,11 @@ use lib.Dec.{T, eqb, leb, leb→le, lit≤}
 use lib.ListN.{length, drop, length-drop}
 use Rattle.laws.proofs.Cases.{either, picked}
 use Rattle.laws.proofs.Table.{both}
-use Rattle.format.specs.Conversions.{conversionOf}
+use Rattle.conversions.specs.Conversions.{conversionOf}
 use Rattle.format.specs.Opening.{isByte, letterOf}
-use Rattle.format.specs.declared.conversions.Conversion.{Conversion}
-use Rattle.format.specs.declared.conversions.Form.{Form}
-use Rattle.format.specs.declared.conversions.Form.the-variants.{Zeros, Blanks, FromSunday, Short, Full, Lower, Zone, Seconds, Unknown}
+use Rattle.conversions.specs.declared.conversions.Conversion.{Conversion}
+use Rattle.conversions.specs.declared.conversions.Form.{Form}
+use Rattle.conversions.specs.declared.conversions.Form.the-variants.{Zeros, Blanks, FromSunday, Short, Full, Lower, Zone, Seconds, Unknown}
 use Rattle.matching.specs.Elements.{ordinary, readByte, ranged, readNumber, fromSunday, named, readNamed, readForm}
 use Rattle.matching.specs.Elements.{readConversion, readElement}
 use Rattle.matching.specs.declared.elements.Item.{Item}

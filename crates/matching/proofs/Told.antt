@@ -8,12 +8,12 @@ use lib.ListN.{length, getD}
 use Rattle.laws.specs.Lists.{every}
 use Rattle.laws.proofs.Table.{both, all, at}
 use Rattle.kinds.specs.Kinds.{kinds}
-use Rattle.format.specs.Conversions as rows
-use Rattle.format.specs.Conversions.{conversionOf}
-use Rattle.format.specs.declared.conversions.Conversion.{Conversion}
-use Rattle.format.specs.declared.conversions.Form.{Form}
-use Rattle.format.specs.declared.conversions.Form.the-variants.{Zeros, Blanks, FromSunday, Short, Full, Lower, Zone, Seconds, Unknown}
-use Rattle.format.proofs.Rows.{conversion-passes}
+use Rattle.conversions.specs.Conversions as rows
+use Rattle.conversions.specs.Conversions.{conversionOf}
+use Rattle.conversions.specs.declared.conversions.Conversion.{Conversion}
+use Rattle.conversions.specs.declared.conversions.Form.{Form}
+use Rattle.conversions.specs.declared.conversions.Form.the-variants.{Zeros, Blanks, FromSunday, Short, Full, Lower, Zone, Seconds, Unknown}
+use Rattle.conversions.proofs.Rows.{conversion-passes}
 use Rattle.values.proofs.Ranges.{lowest, highest}
 use Rattle.text.specs.Names as names
 use Rattle.text.specs.Names.{namesOf}

@@ -10,8 +10,8 @@ use borrow.Author.Tests.{le-leb, lt-leb, eq-eqb, ne-eqb}
 use lib.Dec.{eqb, leb}
 use lib.ListN.{length, getD, drop, length-drop, drop-of-length-le}
 use lib.Seq.{drop-cons}
-use Rattle.format.specs.declared.conversions.Conversion.{Conversion}
-use Rattle.format.specs.declared.conversions.Form.{Form}
+use Rattle.conversions.specs.declared.conversions.Conversion.{Conversion}
+use Rattle.conversions.specs.declared.conversions.Form.{Form}
 use Rattle.matching.specs.Elements.{ordinary, readByte, ranged, readNumber, named, readNamed, readForm, readConversion}
 use Rattle.matching.specs.declared.elements.Item.{Item}
 use Rattle.matching.specs.declared.elements.Item.the-variants.{Skip, Fact, NoMatch, OutOfRange}

@@ -13,7 +13,7 @@ use lib.IntN.{ℤ, pos, negℤ, natAbs, _+ℤ_}
 use lib.ListN.{length, getD, drop, drop-of-length-le}
 use lib.Seq.{drop-cons}
 use Rattle.laws.proofs.Cases.{either}
-use Rattle.format.specs.declared.conversions.Conversion.{Conversion}
+use Rattle.conversions.specs.declared.conversions.Conversion.{Conversion}
 use Rattle.matching.specs.Zones.{isSign, signedBy, offsetAt, signedAt, readZone}
 use Rattle.matching.specs.declared.elements.Item.{Item}
 use Rattle.matching.specs.declared.elements.Item.the-variants.{Fact, NoMatch, OutOfRange}

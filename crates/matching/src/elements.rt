@@ -1,8 +1,8 @@
 // Reading one element of a format.
 use crate::zones::read_zone;
-use format::Conversion;
-use format::Form;
-use format::conversion_of;
+use conversions::Conversion;
+use conversions::Form;
+use conversions::conversion_of;
 use text::NameForm;
 use text::NameRead;
 use text::Names;

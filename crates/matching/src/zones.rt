@@ -1,6 +1,6 @@
 // Reading a zone offset.
 use crate::elements::Item;
-use format::Conversion;
+use conversions::Conversion;
 use text::Digits;
 use text::NameForm;
 use text::read_digits;

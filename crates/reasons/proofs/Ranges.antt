@@ -9,7 +9,7 @@ use native.Mathlib.Nat.{eq-or-lt-of-le}
 use native.Mathlib.Omega.{arith}
 use borrow.Author.Tests.{le-leb, lt-leb}
 use lib.Dec.{leb, lit≤, lit<}
-use Rattle.format.specs.Conversions.{among}
+use Rattle.conversions.specs.Conversions.{among}
 use Rattle.kinds.specs.Kinds as kinds
 use Rattle.laws.specs.Lists.{range}
 use Rattle.laws.proofs.Table.{same-at}

@@ -3,7 +3,7 @@
 use mathlib.Core.List.{map}
 use mathlib.Core.Path.{_≡_, refl}
 use Rattle.calendar.specs.Calendar as calendar
-use Rattle.format.specs.Conversions as conversions
+use Rattle.conversions.specs.Conversions as conversions
 use Rattle.format.specs.Opening as opening
 use Rattle.agreement.specs.Agreement as agreement
 use Rattle.agreement.specs.Search as search

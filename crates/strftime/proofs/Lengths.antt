@@ -28,16 +28,17 @@ use Rattle.text.proofs.Case.{cased-length}
 use Rattle.text.proofs.Fill.{fill-length, fill-below, filled-is-fill, plain-most}
 use Rattle.text.proofs.ReadBack.{filled-length}
 use Rattle.text.proofs.Rows.{held}
-use Rattle.format.specs.Conversions.{conversionOf, isNumber, computes as rows-compute}
-use Rattle.format.specs.Opening.{isByte, letterOf, isPlain, unstyled, styleOf, isRead, isTaken, isElement}
-use Rattle.format.specs.declared.conversions.Conversion.{Conversion}
-use Rattle.format.specs.declared.conversions.Form.{Form}
-use Rattle.format.specs.declared.conversions.Form.the-variants.{Zeros, Blanks, FromSunday, Short, Full, Lower, Zone, Seconds, Unknown}
+use Rattle.conversions.specs.Conversions.{conversionOf, isNumber, computes as rows-compute}
+use Rattle.conversions.specs.Pieces.{unstyled, isRead}
+use Rattle.format.specs.Opening.{isByte, letterOf, isPlain, styleOf, isTaken, isElement}
+use Rattle.conversions.specs.declared.conversions.Conversion.{Conversion}
+use Rattle.conversions.specs.declared.conversions.Form.{Form}
+use Rattle.conversions.specs.declared.conversions.Form.the-variants.{Zeros, Blanks, FromSunday, Short, Full, Lower, Zone, Seconds, Unknown}
 use Rattle.format.specs.declared.opening.Side.the-variants.{Reader}
-use Rattle.format.specs.declared.opening.Style.{Style}
+use Rattle.conversions.specs.declared.following.Style.{Style}
 use Rattle.format.proofs.Elements.{element-conversion, read-letter}
-use Rattle.format.proofs.Rows.{conversion-passes, seconds-letter}
-use Rattle.format.proofs.Small.{conversion-small}
+use Rattle.conversions.proofs.Rows.{conversion-passes, seconds-letter}
+use Rattle.conversions.proofs.Small.{conversion-small}
 use Rattle.values.specs.Offsets.{isOffset, seconds}
 use Rattle.values.specs.Values.{value}
 use Rattle.values.specs.declared.Moment.{Moment}

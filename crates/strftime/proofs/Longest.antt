@@ -18,24 +18,26 @@ use Rattle.laws.proofs.Cases.{either, picked}
 use Rattle.laws.proofs.Table.{both}
 use Rattle.calendar.specs.Calendar.{date}
 use Rattle.text.proofs.Fill.{plain-most}
-use Rattle.format.specs.Conversions.{conversionOf, ownFormat, computes as rows-compute}
-use Rattle.format.specs.Opening.{Ended, Opening, longest, conversionAt, isByte, letterOf, styleOf, flagRun, widthRun, styleFrom, takesStyle}
-use Rattle.format.specs.Opening.{after-E, after-O, paired, conversion, isUnstyled, withStyle, styled, signed, pieceOf}
+use Rattle.conversions.specs.Conversions.{conversionOf, ownFormat, computes as rows-compute}
+use Rattle.conversions.specs.Pieces.{flagRun, widthRun, styleFrom, takesStyle}
+use Rattle.format.specs.Opening.{Ended, Opening, longest, conversionAt, isByte, letterOf, styleOf}
+use Rattle.conversions.specs.Pieces.{after-E, after-O, paired, conversion, isUnstyled, withStyle, styled}
+use Rattle.format.specs.Opening.{signed, pieceOf}
 use Rattle.format.specs.Opening.{nothing, before, composed, acted, signAt, openFrom, compositeTo, openTo, opening}
 use Rattle.format.specs.Opening.{mostElements, elementsIn, computes as opening-computes}
 use Rattle.format.specs.Opening.Ended.{Whole, BadAt}
-use Rattle.format.specs.declared.opening.Act.{Act}
-use Rattle.format.specs.declared.opening.Act.the-variants.{Byte, Convert, Open, Refuse}
-use Rattle.format.specs.declared.opening.Piece.{Piece}
+use Rattle.conversions.specs.declared.following.Act.{Act}
+use Rattle.conversions.specs.declared.following.Act.the-variants.{Byte, Convert, Open, Refuse}
+use Rattle.conversions.specs.declared.following.Piece.{Piece}
 use Rattle.format.specs.declared.opening.Side.the-variants.{Writer}
 use Rattle.format.specs.declared.opening.Sign.{Sign}
 use Rattle.format.specs.declared.opening.Sign.the-variants.{Own, Of}
-use Rattle.format.specs.declared.opening.Style.{Style}
+use Rattle.conversions.specs.declared.following.Style.{Style}
 use Rattle.format.proofs.Elements.{letter-below}
 use Rattle.format.proofs.Pieces.{Unstyled, conversion-unstyled, Follows, follows}
-use Rattle.format.proofs.Rows.{own-passes}
-use Rattle.format.proofs.Small.{conversion-small}
-use Rattle.format.proofs.Styles.{flag-run, width-run}
+use Rattle.conversions.proofs.Rows.{own-passes}
+use Rattle.conversions.proofs.Small.{conversion-small}
+use Rattle.conversions.proofs.Styles.{flag-run, width-run}
 use Rattle.values.specs.Moments.{momentFault, momentOf}
 use Rattle.values.specs.Values.{value}
 use Rattle.values.specs.declared.Moment.{Moment}

@@ -17,7 +17,7 @@ use Rattle.text.specs.declared.names.Case.the-variants.{AsIs, Small, Capital}
 use Rattle.text.proofs.Case.{cased-length}
 use Rattle.text.proofs.Fill.{fill-length, plain-places}
 use Rattle.text.proofs.ReadBack.{filled-length}
-use Rattle.format.specs.declared.opening.Style.{Style}
+use Rattle.conversions.specs.declared.following.Style.{Style}
 use Rattle.strftime.specs.Writing.{fillBy, placesBy, number, caseBy, name}
 
 take-part : (k : ℕ) (x : List ℕ) → take (length (take k x)) x ≡ take k x

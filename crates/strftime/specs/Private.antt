@@ -5,9 +5,9 @@ use mathlib.Core.List.{List}
 use mathlib.Core.Path.{_≡_}
 use lib.Dec.{leb}
 use lib.ListN.{length, take}
-use Rattle.format.specs.Conversions.{isNumber}
+use Rattle.conversions.specs.Conversions.{isNumber}
 use Rattle.format.specs.Opening.{longest, mostElements}
-use Rattle.format.specs.declared.conversions.Conversion.{Conversion}
+use Rattle.conversions.specs.declared.conversions.Conversion.{Conversion}
 use Rattle.format.specs.declared.opening.Opened.{Opened}
 use Rattle.format.specs.declared.opening.Opened.the-variants.{Done, TooLong, Bad}
 use Rattle.values.specs.Moments.{momentFault}

@@ -13,14 +13,14 @@ use Rattle.text.specs.Names.{short}
 use Rattle.text.specs.Naming.{nameFor}
 use Rattle.text.specs.declared.names.Case.{Case}
 use Rattle.text.specs.declared.names.Case.the-variants.{AsIs, Small, Capital}
-use Rattle.format.specs.Conversions.{conversionOf}
+use Rattle.conversions.specs.Conversions.{conversionOf}
 use Rattle.format.specs.Opening.{Ended, Whole, BadAt, opening, longest, isByte, letterOf, afterSign, styleOf}
 use Rattle.format.specs.Opening.{mostElements, elementsIn}
-use Rattle.format.specs.declared.conversions.Conversion.{Conversion}
-use Rattle.format.specs.declared.conversions.Form.{Form}
-use Rattle.format.specs.declared.conversions.Form.the-variants.{Zeros, Blanks, FromSunday, Short, Full, Lower, Zone, Seconds, Unknown}
+use Rattle.conversions.specs.declared.conversions.Conversion.{Conversion}
+use Rattle.conversions.specs.declared.conversions.Form.{Form}
+use Rattle.conversions.specs.declared.conversions.Form.the-variants.{Zeros, Blanks, FromSunday, Short, Full, Lower, Zone, Seconds, Unknown}
 use Rattle.format.specs.declared.opening.Side.the-variants.{Writer}
-use Rattle.format.specs.declared.opening.Style.{Style}
+use Rattle.conversions.specs.declared.following.Style.{Style}
 use Rattle.values.specs.Moments.{momentOf}
 use Rattle.values.specs.Values.{value}
 use Rattle.values.specs.declared.Moment.{Moment}

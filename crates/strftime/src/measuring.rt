@@ -1,11 +1,11 @@
 // How many bytes elements write.
 use crate::zones::seconds_length;
 use crate::zones::zone_length;
-use format::Conversion;
-use format::Form;
+use conversions::Conversion;
+use conversions::Form;
+use conversions::Style;
+use conversions::conversion_of;
 use format::PLAIN;
-use format::Style;
-use format::conversion_of;
 use format::style_of;
 use text::Names;
 use text::digit_count;
@@ -17,7 +17,8 @@ ghost use Prim.Native.Nat.{max, _≤_};
 ghost use lib.ListN.{length};
 ghost use Rattle.text.specs.Names.{short};
 ghost use Rattle.text.specs.Naming.{nameFor};
-ghost use Rattle.format.specs.Opening.{unstyled, mostElements};
+ghost use Rattle.conversions.specs.Pieces.{unstyled};
+ghost use Rattle.format.specs.Opening.{mostElements};
 ghost use Rattle.strftime.specs.Private.{IsMoment, HasRoom};
 ghost use Rattle.strftime.specs.Writing.{placesBy, converted, element, text};
 

@@ -17,7 +17,7 @@ use Rattle.format.proofs.opening.open_to.Reads as open-to
 use Rattle.format.proofs.opening.open_to.Kinds as open-to-kinds
 use Rattle.format.proofs.opening.+open_to.Lts-open_to as open-to-lts
 use Rattle.format.proofs.opening.conversion_at.Reads as conversion-at-reads
-use Rattle.format.proofs.opening.own_format.Reads as own-format-reads
+use Rattle.conversions.proofs.own_format.Reads as own-format-reads
 use Rattle.format.proofs.opening.piece_at.Reads as piece-at-reads
 use Rattle.format.proofs.opening.sign_at.Reads as sign-at-reads
 use Rattle.format.proofs.opening.store.Reads as store-reads

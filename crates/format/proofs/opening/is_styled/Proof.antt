@@ -4,12 +4,12 @@ use mathlib.Core.Bool.{Bool}
 use mathlib.Core.Path.{_≡_}
 use native.Mathlib.Omega.{arith}
 use borrow.Author.Needs.{needs}
-use Rattle.format.specs.Conversions.{isConversion, computes}
+use Rattle.conversions.specs.Conversions.{isConversion, computes}
 use Rattle.format.specs.Opening.{letterOf, isTaken, isElement}
 use Rattle.format.specs.declared.opening.Side.the-variants.{Writer}
-use Rattle.format.specs.Private.{holds}
+use Rattle.conversions.specs.Private.{holds}
 use Rattle.format.proofs.Entry.{no-letter, no-sign, signed-is, too-wide, unknown-flag, known-flag}
-use Rattle.format.proofs.Letters.{is-among}
+use Rattle.conversions.proofs.Letters.{is-among}
 use Rattle.format.proofs.opening.is_styled.Statement.{statement}
 use Rattle.format.proofs.opening.is_styled.Tie as tie
 

@@ -2,9 +2,10 @@
 use mathlib.Core.Path.{_≡_}
 use borrow.Author.Needs.{needs}
 use borrow.Author.Tests.{not-true, not-false}
-use Rattle.format.specs.Conversions.{isConversion, computes}
-use Rattle.format.specs.Private.{holds, takesLetter}
-use Rattle.format.proofs.Letters.{is-among}
+use Rattle.conversions.specs.Conversions.{isConversion, computes}
+use Rattle.conversions.specs.Private.{holds}
+use Rattle.format.specs.Private.{takesLetter}
+use Rattle.conversions.proofs.Letters.{is-among}
 use Rattle.format.proofs.opening.is_taken.Statement.{statement}
 use Rattle.format.proofs.opening.is_taken.Tie as tie
 

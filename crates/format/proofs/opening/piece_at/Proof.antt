@@ -11,7 +11,7 @@ use borrow.Author.Tests.{eq-eqb, ne-eqb}
 use lib.ListN.{length, drop, length-drop}
 use lib.Seq.{getD-drop}
 use Rattle.format.specs.Opening.{pieceOf}
-use Rattle.format.proofs.Pieces.{rest}
+use Rattle.conversions.proofs.Pieces.{rest}
 use Rattle.format.proofs.Sides.{nothing-after, letter-after}
 use Rattle.format.proofs.opening.piece_at.Statement.{statement}
 use Rattle.format.proofs.opening.piece_at.Tie as tie

@@ -3,7 +3,7 @@ use mathlib.Core.Path.{sym, _∙_}
 use borrow.Author.Needs.{needs}
 use borrow.Author.Tests.{not-true, not-false}
 use Rattle.format.specs.Opening.{signed}
-use Rattle.format.proofs.Seconds.{conversion-read, conversion-unread}
+use Rattle.conversions.proofs.Seconds.{conversion-read, conversion-unread}
 use Rattle.format.proofs.opening.signed.Statement.{statement}
 use Rattle.format.proofs.opening.signed.Tie as tie
 

@@ -2,7 +2,7 @@
 use borrow.Author.Needs.{needs}
 use native.Mathlib.Omega.{arith}
 use borrow.Author.Tests.{lt-ltb, le-ltb}
-use Rattle.format.proofs.Small.{conversion-small}
+use Rattle.conversions.proofs.Small.{conversion-small}
 use Rattle.matching.specs.Elements.{readElement}
 use Rattle.matching.proofs.elements.read_element.Statement.{statement}
 use Rattle.matching.proofs.elements.read_element.Tie as tie

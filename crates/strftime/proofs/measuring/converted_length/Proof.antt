@@ -1,8 +1,8 @@
 -- `strftime::measuring::converted_length` meets its contract: one return for each form.
 use mathlib.Core.Path.{refl, _∙_}
 use native.Mathlib.Omega.{arith}
-use Rattle.format.specs.Conversions.{isNumber}
-use Rattle.format.specs.Opening.{unstyled}
+use Rattle.conversions.specs.Conversions.{isNumber}
+use Rattle.conversions.specs.Pieces.{unstyled}
 use Rattle.strftime.specs.Writing.{converted, formed}
 use Rattle.strftime.proofs.Lengths.{by-form, room-of, plain-length, plain-name-length}
 use borrow.Author.Needs.{needs}

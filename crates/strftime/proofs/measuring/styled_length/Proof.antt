@@ -2,7 +2,7 @@
 use Prim.Native.Nat.{_%_}
 use mathlib.Core.Path.{_≡_}
 use borrow.Author.Needs.{needs}
-use Rattle.format.specs.declared.conversions.Form.{Form}
+use Rattle.conversions.specs.declared.conversions.Form.{Form}
 use Rattle.text.specs.declared.names.Case.the-variants.{AsIs, Small}
 use Rattle.strftime.specs.Writing.{formed, converted}
 use Rattle.strftime.proofs.Lengths.{by-form, number-length, name-length}

@@ -5,9 +5,9 @@ use mathlib.Core.Path.{_≡_, refl, sym}
 use native.Mathlib.Nat.{add-zero}
 use native.Mathlib.Omega.{arith}
 use lib.ListN.{length}
-use Rattle.format.specs.Conversions.{isNumber}
-use Rattle.format.specs.Opening.{unstyled}
-use Rattle.format.specs.declared.conversions.Form.{Form}
+use Rattle.conversions.specs.Conversions.{isNumber}
+use Rattle.conversions.specs.Pieces.{unstyled}
+use Rattle.conversions.specs.declared.conversions.Form.{Form}
 use Rattle.text.specs.declared.names.Case.the-variants.{AsIs, Small}
 use Rattle.strftime.specs.Writing.{formed, converted}
 use Rattle.strftime.proofs.Lengths.{by-form, room-of, plain-length, plain-name-length, number-plain, name-plain}

@@ -2,7 +2,7 @@
 use mathlib.Core.Path.{_≡_, refl, ap}
 use native.Mathlib.Omega.{arith}
 use lib.ListN.{length}
-use Rattle.format.specs.Opening.{unstyled}
+use Rattle.conversions.specs.Pieces.{unstyled}
 use Rattle.strftime.specs.Writing.{converted, element}
 use Rattle.strftime.proofs.Lengths.{element-byte, element-plain, element-styled, has-room}
 use borrow.Author.Needs.{needs}

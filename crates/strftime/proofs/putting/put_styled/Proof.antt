@@ -3,7 +3,7 @@ use Prim.Native.Nat.{_+_, _≤_}
 use mathlib.Core.Path.{_≡_, refl, sym}
 use native.Mathlib.Nat.{add-zero}
 use lib.ListN.{length}
-use Rattle.format.specs.declared.conversions.Form.{Form}
+use Rattle.conversions.specs.declared.conversions.Form.{Form}
 use Rattle.strftime.specs.Writing.{formed, converted}
 use Rattle.strftime.proofs.Lengths.{by-form}
 use borrow.Author.Needs.{needs}
