@@ -45,12 +45,15 @@ use Rattle.values.specs.Moments.{momentOf}
 use Rattle.values.specs.Values.{value}
 use Rattle.values.specs.declared.Moment.{Moment}
 use Rattle.values.specs.declared.MomentFields.the-variants.{Valid}
+use Rattle.converted.specs.Converted as styles
 use Rattle.strftime.specs.Writing as writer
-use Rattle.strftime.specs.Writing.{formed, converted, element, text, put, isSeconds, lacking, byFormat, forMoment, forFields, writing}
+use Rattle.converted.specs.Converted.{formed, converted}
+use Rattle.strftime.specs.Writing.{element, text, put, isSeconds, lacking, byFormat, forMoment, forFields, writing}
 use Rattle.strftime.specs.declared.Fields.{Fields}
 use Rattle.strftime.proofs.Complete.{puts-text}
 use Rattle.demands.proofs.Seconds.{no-seconds}
-use Rattle.strftime.proofs.Lengths.{by-form, element-styled}
+use Rattle.converted.proofs.Lengths.{by-form}
+use Rattle.strftime.proofs.Lengths.{element-styled}
 use Rattle.strptime.specs.Answers as reader
 use Rattle.strptime.specs.Answers.{reading}
 use Rattle.demands.specs.Columns.{Columns, Writes, numbers, blanks, names, others, asked, format, digitsOf, column}
@@ -386,10 +389,10 @@ Column f w own width v x =
     (cond (eqb f 95) (fill 32 n (plain v)) (cond (eqb f 48) (fill 48 n (plain v)) (fill own n (plain v))))
 
 filled-by : (f w own width v : ℕ) → among f (0 ∷ bytes "_-0") ≡ true
-    → Column f w own width v (writer.number (record { flag = f; width = w }) own width v)
-unfolding writer.number writer.fillBy writer.placesBy
+    → Column f w own width v (styles.number (record { flag = f; width = w }) own width v)
+unfolding styles.number styles.fillBy styles.placesBy
 filled-by f w own width v a =
-    flag-cases (λ f. Column f w own width v (writer.number (record { flag = f; width = w }) own width v)) f a
+    flag-cases (λ f. Column f w own width v (styles.number (record { flag = f; width = w }) own width v)) f a
     refl refl (fill-below own 0 (plain v) (omega arith)) refl
 
 -- by the forms of numbers: the weekday from Sunday, those filled with blanks, and the others
@@ -426,7 +429,7 @@ capital-small (b ∷ s) = rw (capital-fold b, capital-small s)
 module _ (m : Moment) (w : ℕ) where
   name-column : (f : Form) → isName f ≡ true → (width v : ℕ)
       → formed m (record { flag = 0; width = w }) f width v ≡ fill 32 w (formed m unstyled f width v)
-  unfolding isName formed writer.name writer.caseBy cased
+  unfolding isName formed styles.name styles.caseBy cased
   name-column Zeros e width v = clash (cc)
   name-column Blanks e width v = clash (cc)
   name-column FromSunday e width v = clash (cc)
@@ -439,7 +442,7 @@ module _ (m : Moment) (w : ℕ) where
 
   capital-column : (f : Form) → isName f ≡ true → (width v : ℕ)
       → formed m (record { flag = 94; width = w }) f width v ≡ fill 32 w (map capital (formed m unstyled f width v))
-  unfolding isName formed writer.name writer.caseBy cased
+  unfolding isName formed styles.name styles.caseBy cased
   capital-column Zeros e width v = clash (cc)
   capital-column Blanks e width v = clash (cc)
   capital-column FromSunday e width v = clash (cc)

@@ -1,33 +1,24 @@
 -- What an element writes, and how long that is: without a width at most nine bytes, but for %s, by one test over the table of conversions;
 -- with one at most its width or nine.
 -- Assumes nothing.
-use Prim.Native.Nat.{ℕ, max, _+_, _*_, _/_, _%_, _^_, _≤_, _<_}
+use Prim.Native.Nat.{ℕ, _+_, _*_, _/_, _%_, _^_, _≤_, _<_}
 use mathlib.Core.Bool.{Bool, true, cond, _&&_, and-eq-true-iff}
 use mathlib.Core.List.{List, [], _∷_, _++_}
-use mathlib.Core.Path.{_≡_, refl, sym, ap, _∙_}
+use mathlib.Core.Path.{_≡_, refl}
 use native.Mathlib.Decide.{decLe}
 use native.Mathlib.Nat.{lt-of-not-le}
 use native.Mathlib.Numerals.{add-one}
 use native.Mathlib.Omega.{arith}
 use borrow.Author.Tests.{lt-ltb, le-ltb, ltb-true, ltb-false, leb-true}
-use lib.Dec.{eqb, leb, ltb, leb→le, ltb→lt, lit≤}
+use lib.Dec.{leb, ltb, leb→le, ltb→lt, lit≤}
 use lib.IntN.{natAbs}
-use lib.ListN.{length, drop, getD, replicate, length-append, length-take, drop-of-length-le}
+use lib.ListN.{length, drop, getD, length-append, length-take, drop-of-length-le}
 use lib.Seq.{drop-cons}
 use Rattle.laws.specs.Lists.{every}
-use Rattle.laws.proofs.Cases.{either, picked, clash}
+use Rattle.laws.proofs.Cases.{either, clash}
 use Rattle.laws.proofs.Table.{both}
-use Rattle.text.specs.Case.{cased}
-use Rattle.text.specs.Digits.{plain, filled}
-use Rattle.text.specs.Names.{nameAt}
-use Rattle.text.specs.Naming.{placeFor, nameFor}
-use Rattle.text.specs.Rows.{padded}
-use Rattle.text.specs.declared.names.Case.{Case}
-use Rattle.text.specs.declared.names.Names.{Names}
-use Rattle.text.proofs.Case.{cased-length}
-use Rattle.text.proofs.Fill.{fill-length, fill-below, filled-is-fill, plain-most}
-use Rattle.text.proofs.ReadBack.{filled-length}
-use Rattle.text.proofs.Rows.{held}
+use Rattle.text.specs.Naming.{nameFor}
+use Rattle.text.proofs.Fill.{plain-most}
 use Rattle.conversions.specs.Conversions.{conversionOf, isNumber, computes as rows-compute}
 use Rattle.conversions.specs.Pieces.{unstyled, isRead}
 use Rattle.format.specs.Opening.{isByte, letterOf, isPlain, styleOf, isTaken, isElement}
@@ -46,17 +37,14 @@ use Rattle.values.proofs.Ranges.{highest, no-fault-moment, value-ranged}
 use Rattle.values.specs.declared.offsets.Offset.{Offset}
 use Rattle.values.specs.declared.offsets.Offset.the-variants.{Unsaid, Minutes}
 use Rattle.values.proofs.Seconds.{seconds-most}
+use Rattle.converted.proofs.Lengths.{number-length, name-length, places-most, name-most}
 use Rattle.strftime.specs.Private.{IsMoment, HasRoom}
-use Rattle.strftime.specs.Writing.{fillBy, placesBy, number, caseBy, name, formed, converted, element, text}
-use Rattle.strftime.specs.Zones.{zone, epochSeconds}
-use Rattle.strftime.proofs.Offsets.{zone-short, whole-most}
+use Rattle.converted.specs.Converted.{formed, converted}
+use Rattle.strftime.specs.Writing.{element, text}
+use Rattle.converted.specs.Zones.{zone, epochSeconds}
+use Rattle.converted.proofs.Offsets.{zone-short, whole-most}
 
 -- ---- what an element writes
-
-pub by-form : (y : Style) (c : Conversion) (m : Moment) {f : Form} {v : ℕ} → c .form ≡ f → v ≡ value (c .kind) m
-    → converted y c m ≡ formed m y f (c .width) v
-unfolding converted
-by-form y c m p q = rw (p, q)
 
 module _ (m : Moment) (e : ℕ) where
   pub element-byte : e < 256 → element m e ≡ e ∷ []
@@ -74,52 +62,9 @@ module _ (m : Moment) (e : ℕ) where
         let w : e / 262144 % 128 ≡ 0 = omega arith in
         element-styled (rw (f, w))
 
-pub named : (t : Names) (v : ℕ) {i : ℕ} → i ≡ placeFor t v → nameAt t i ≡ nameFor t v
-unfolding nameFor
-named t v p = rw p
-
--- ---- without flag and width
-
--- a number that has room stands on its own width
-pub number-plain : (own w v : ℕ) → 1 ≤ w → v < 10 ^ w → number unstyled own w v ≡ filled own w v
-unfolding number fillBy placesBy
-number-plain own w v h l = let e : max w 0 ≡ w = omega arith in rw e (sym (filled-is-fill own w v h l))
-
-pub name-plain : (k : Case) (s : List ℕ) → name unstyled k s ≡ cased k s
-unfolding name caseBy
-name-plain k s = fill-below 32 0 (cased k s) (omega arith)
-
 -- ---- how long it is
 
-module _ (y : Style) where
-  pub number-length : (own w v : ℕ) → length (number y own w v) ≡ max (placesBy y w) (length (plain v))
-  unfolding number
-  number-length own w v = fill-length (fillBy (y .flag) own) (placesBy y w) (plain v)
-
-  pub name-length : (k : Case) (s : List ℕ) → length (name y k s) ≡ max (y .width) (length s)
-  unfolding name
-  name-length k s =
-      fill-length 32 (y .width) (cased (caseBy (y .flag) k) s) ∙ ap (max (y .width)) (cased-length (caseBy (y .flag) k) s)
-
-  places-most : (w : ℕ) → placesBy y w ≤ max w (y .width)
-  unfolding placesBy
-  places-most w = picked (λ n. n ≤ max w (y .width)) (eqb (y .flag) 45) (omega arith) (omega arith)
-
--- as long as its own width, and as the name
-pub plain-length : (own w v : ℕ) → 1 ≤ w → v < 10 ^ w → w ≡ length (number unstyled own w v)
-plain-length own w v h l = rw (number-plain own w v h l) (sym (filled-length own w v))
-
-pub plain-name-length : (k : Case) (s : List ℕ) → length s ≡ length (name unstyled k s)
-plain-name-length k s = rw (name-plain k s) (sym (cased-length k s))
-
--- no name has more than nine letters
-name-most : (t : Names) (v : ℕ) → length (nameFor t v) ≤ 9
-unfolding nameFor padded
-name-most t v =
-    let name = nameAt t (placeFor t v) in
-    omega (arith, held t (placeFor t v) refl refl .fits, length-take 9 (name ++ replicate 9 32))
-
--- nor has the value of a number more digits than its width: one test over the rows
+-- the value of a number has no more digits than its width: one test over the rows
 roomy : Conversion → Bool
 roomy c = cond (isNumber (c .form)) (leb 1 (c .width) && ltb (getD highest (c .kind) 0) (10 ^ c .width)) true
 

@@ -1,4 +1,3 @@
 -- What the writer means.
 pub mod Private
 pub mod Writing
-pub mod Zones

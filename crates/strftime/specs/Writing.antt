@@ -1,35 +1,23 @@
 -- The writer: what an element writes for a moment (RULES 5), and what a writing answers and leaves in the buffer (RULES 3).
 use Prim.Native.Char.{code}
-use Prim.Native.Nat.{ℕ, max, _-_, _%_}
+use Prim.Native.Nat.{ℕ, _-_}
 use mathlib.Core.Bool.{Bool, false, cond}
 use mathlib.Core.List.{List, [], _∷_, _++_}
 use lib.Dec.{eqb, leb}
 use lib.ListN.{length}
 use lib.Seq.{sets}
-use Rattle.text.specs.Case.{cased}
-use Rattle.text.specs.Digits.{plain}
-use Rattle.text.specs.Fill.{fill}
-use Rattle.text.specs.Names.{short}
-use Rattle.text.specs.Naming.{nameFor}
-use Rattle.text.specs.declared.names.Case.{Case}
-use Rattle.text.specs.declared.names.Case.the-variants.{AsIs, Small, Capital}
 use Rattle.conversions.specs.Conversions.{conversionOf}
 use Rattle.format.specs.Opening.{Ended, Whole, BadAt, opening, longest, isByte, letterOf, afterSign, styleOf}
 use Rattle.format.specs.Opening.{mostElements, elementsIn}
-use Rattle.conversions.specs.declared.conversions.Conversion.{Conversion}
-use Rattle.conversions.specs.declared.conversions.Form.{Form}
-use Rattle.conversions.specs.declared.conversions.Form.the-variants.{Zeros, Blanks, FromSunday, Short, Full, Lower, Zone, Seconds, Unknown}
 use Rattle.format.specs.declared.opening.Side.the-variants.{Writer}
-use Rattle.conversions.specs.declared.following.Style.{Style}
 use Rattle.values.specs.Moments.{momentOf}
-use Rattle.values.specs.Values.{value}
 use Rattle.values.specs.declared.Moment.{Moment}
 use Rattle.values.specs.declared.MomentFields.{MomentFields}
 use Rattle.values.specs.declared.MomentFields.the-variants.{Valid, Bad}
 use Rattle.values.specs.declared.offsets.Offset.{Offset}
 use Rattle.values.specs.declared.offsets.Offset.the-variants.{Unsaid, Minutes}
-use Rattle.strftime.specs.Zones as zones
-use Rattle.strftime.specs.Zones.{zone, epochSeconds}
+use Rattle.converted.specs.Converted as written
+use Rattle.converted.specs.Converted.{converted}
 use Rattle.strftime.specs.declared.Fields.{Fields}
 use Rattle.strftime.specs.declared.Lack.{Lack}
 use Rattle.strftime.specs.declared.Lack.the-variants.{Nothing, ZoneOffset}
@@ -38,41 +26,6 @@ use Rattle.strftime.specs.declared.Written.{Written}
 use Rattle.strftime.specs.declared.Written.the-variants.{Done, FormatTooLong, BadMoment, BadConversion, NoOffset, BufferTooSmall}
 
 -- ---- what is written
-
--- the byte that fills a number: a blank by _, a zero by 0, otherwise its own
-unfoldable pub fillBy : ℕ → ℕ → ℕ
-fillBy flag own = cond (eqb flag (code "_")) 32 (cond (eqb flag (code "0")) 48 own)
-
--- the places that a number is filled to: none by -, otherwise the larger of its own width and the one asked for
-unfoldable pub placesBy : Style → ℕ → ℕ
-placesBy y own = cond (eqb (y .flag) (code "-")) 0 (max own (y .width))
-
--- a number: its digits, filled on the left
-unfoldable pub number : Style → ℕ → ℕ → ℕ → List ℕ
-number y own w v = fill (fillBy (y .flag) own) (placesBy y w) (plain v)
-
--- the case of a name: capitals by ^, otherwise its own
-unfoldable pub caseBy : ℕ → Case → Case
-caseBy flag own = cond (eqb flag (code "^")) Capital own
-
--- a name, filled on the left with blanks
-unfoldable pub name : Style → Case → List ℕ → List ℕ
-name y own s = fill 32 (y .width) (cased (caseBy (y .flag) own) s)
-
--- a value of a moment written by a form and its width, with a flag and a width asked for; %z and %s take the moment's offset
-unfoldable pub formed : Moment → Style → Form → ℕ → ℕ → List ℕ
-formed m y Zeros w v = number y 48 w v
-formed m y Blanks w v = number y 32 w v
-formed m y FromSunday w v = number y 48 w (v % 7)
-formed m y (Short t) w v = name y AsIs (short (nameFor t v))
-formed m y (Full t) w v = name y AsIs (nameFor t v)
-formed m y (Lower t) w v = name y Small (nameFor t v)
-formed m y Zone w v = zone (m .offset)
-formed m y Seconds w v = epochSeconds m (m .offset)
-formed m y Unknown w v = []
-
-unfoldable pub converted : Style → Conversion → Moment → List ℕ
-converted y c m = formed m y (c .form) (c .width) (value (c .kind) m)
 
 -- what an element writes: a byte itself, a conversion its value
 unfoldable pub element : Moment → ℕ → List ℕ
@@ -173,7 +126,7 @@ longestWriting = 25344
 
 -- everything here, for proofs that compute
 unfoldable pub computes : Unit {0}
-unfolding zones.computes fillBy placesBy number caseBy name formed converted element text writingOf refused put
+unfolding written.computes element text writingOf refused put
     isSeconds firstSeconds lacking
     offered byFormat byElements
     forMoment forFields writing elementsWriting

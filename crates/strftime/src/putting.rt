@@ -1,13 +1,15 @@
 // What elements write, put into a buffer that has room for it. Each function puts from a place on and answers the place after.
-use crate::measuring::full_length;
-use crate::measuring::places_by;
-use crate::measuring::short_length;
 use crate::zones::put_seconds;
 use crate::zones::put_zone;
 use conversions::Conversion;
 use conversions::Form;
 use conversions::Style;
 use conversions::conversion_of;
+use converted::case_by;
+use converted::fill_by;
+use converted::full_length;
+use converted::places_by;
+use converted::short_length;
 use format::PLAIN;
 use format::style_of;
 use text::Case;
@@ -18,7 +20,6 @@ use text::write_name;
 use text::write_number;
 use values::Moment;
 ghost use Prim.Native.Nat.{_+_, _-_, _≤_};
-ghost use mathlib.Core.Path.{_≡_};
 ghost use lib.ListN.{length, replicate};
 ghost use Rattle.laws.specs.Stores.{Puts};
 ghost use Rattle.text.specs.Case.{cased};
@@ -27,7 +28,8 @@ ghost use Rattle.text.specs.Names.{short};
 ghost use Rattle.text.specs.Naming.{nameFor};
 ghost use Rattle.conversions.specs.Pieces.{unstyled};
 ghost use Rattle.strftime.specs.Private.{IsMoment, HasRoom};
-ghost use Rattle.strftime.specs.Writing.{fillBy, number, caseBy, name, converted, element, text};
+ghost use Rattle.converted.specs.Converted.{number, name, converted};
+ghost use Rattle.strftime.specs.Writing.{element, text};
 
 // All elements, one after the other, over the start.
 pub(crate) fn put_elements(out: &mut [u8], elements: &[u32], moment: Moment) -> usize
@@ -160,27 +162,6 @@ fn put_fill(out: &mut [u8], at: usize, fill: u8, places: usize, n: usize) -> usi
         k += 1;
     }
     end
-}
-
-// The byte that fills a number.
-fn fill_by(flag: u8, own: u8) -> u8
-    ensures { λ r. ⌜ r ≡ fillBy flag own ⌝ }
-{
-    match flag {
-        b'_' => b' ',
-        b'0' => b'0',
-        _ => own,
-    }
-}
-
-// The case of a name.
-fn case_by(flag: u8, own: Case) -> Case
-    ensures { λ r. ⌜ r ≡ caseBy flag own ⌝ }
-{
-    if flag == b'^' {
-        return Case::Capital;
-    }
-    own
 }
 
 // A number on exactly `width` places.

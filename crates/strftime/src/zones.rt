@@ -1,69 +1,19 @@
-// What %z and %s write: how long it is, and how it is put.
+// What %z and %s write, put into a buffer that has room for it.
 use crate::putting::put_number;
+use converted::BILLION;
+use converted::zone_sign;
 use text::digit_count;
 use values::Moment;
 use values::Offset;
 use values::is_negative;
 use values::magnitude;
 ghost use Prim.Native.Nat.{_+_, _^_, _≤_, _<_};
-ghost use mathlib.Core.Path.{_≡_};
-ghost use mathlib.Core.Bool.{cond};
 ghost use mathlib.Core.List.{[], _∷_};
 ghost use lib.IntN.{natAbs};
 ghost use lib.ListN.{length};
 ghost use Rattle.laws.specs.Stores.{Puts};
 ghost use Rattle.text.specs.Digits.{plain};
-ghost use Rattle.values.specs.Offsets.{isNegative};
-ghost use Rattle.strftime.specs.Zones.{hoursMinutes, east, zone, whole, epochSeconds};
-
-// One more than nine digits hold.
-const BILLION: u64 = 1000000000;
-
-// ---- Lengths
-
-pub(crate) fn zone_length(moment: Moment) -> usize
-    ensures { λ r. ⌜ r ≡ length (zone (moment .offset)) ⌝ }
-{
-    let offset = moment.offset;
-    match offset {
-        Offset::Unsaid => 0,
-        Offset::Minutes(_) => 5,
-    }
-}
-
-pub(crate) fn seconds_length(moment: Moment) -> usize
-    ensures { λ r. ⌜ r ≡ length (epochSeconds moment (moment .offset)) ⌝ }
-{
-    let offset = moment.offset;
-    match offset {
-        Offset::Unsaid => 0,
-        Offset::Minutes(east) => whole_length(moment.seconds(east)),
-    }
-}
-
-fn whole_length(z: i64) -> usize
-    requires { ⌜ natAbs z < 10 ^ 15 ⌝ }
-    ensures { λ r. ⌜ r ≡ length (whole z) ⌝ }
-{
-    let digits = long_count(magnitude(z));
-    if is_negative(z) {
-        return digits + 1;
-    }
-    digits
-}
-
-// How many digits a number has that may not fit 32 bits: nine, and those before them.
-fn long_count(n: u64) -> usize
-    requires { ⌜ n < 10 ^ 15 ⌝ }
-    ensures { λ r. ⌜ r ≡ length (plain n) ⌝ }
-{
-    if n < BILLION {
-        return digit_count(n as u32);
-    }
-    digit_count((n / BILLION) as u32) + 9
-}
-
-// ---- Putting
+ghost use Rattle.converted.specs.Zones.{hoursMinutes, east, zone, whole, epochSeconds};
 
 pub(crate) fn put_zone(out: &mut [u8], at: usize, moment: Moment) -> usize
     requires { ⌜ at + length (zone (moment .offset)) ≤ length (now out) ⌝ }
@@ -92,12 +42,6 @@ fn put_byte(out: &mut [u8], at: usize, b: u8) -> usize
 {
     out[at] = b;
     at + 1
-}
-
-fn zone_sign(minutes: i64) -> u8
-    ensures { λ r. ⌜ r ≡ cond (isNegative minutes) 45 43 ⌝ }
-{
-    if is_negative(minutes) { b'-' } else { b'+' }
 }
 
 fn put_hours(out: &mut [u8], at: usize, minutes: u64) -> usize

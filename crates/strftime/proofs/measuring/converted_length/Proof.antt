@@ -3,8 +3,9 @@ use mathlib.Core.Path.{refl, _∙_}
 use native.Mathlib.Omega.{arith}
 use Rattle.conversions.specs.Conversions.{isNumber}
 use Rattle.conversions.specs.Pieces.{unstyled}
-use Rattle.strftime.specs.Writing.{converted, formed}
-use Rattle.strftime.proofs.Lengths.{by-form, room-of, plain-length, plain-name-length}
+use Rattle.converted.specs.Converted.{converted, formed}
+use Rattle.converted.proofs.Lengths.{by-form, plain-length, plain-name-length}
+use Rattle.strftime.proofs.Lengths.{room-of}
 use borrow.Author.Needs.{needs}
 use Rattle.strftime.proofs.measuring.converted_length.Statement.{statement}
 use Rattle.strftime.proofs.measuring.converted_length.Tie as tie

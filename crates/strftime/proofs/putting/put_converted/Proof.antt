@@ -9,8 +9,9 @@ use Rattle.conversions.specs.Conversions.{isNumber}
 use Rattle.conversions.specs.Pieces.{unstyled}
 use Rattle.conversions.specs.declared.conversions.Form.{Form}
 use Rattle.text.specs.declared.names.Case.the-variants.{AsIs, Small}
-use Rattle.strftime.specs.Writing.{formed, converted}
-use Rattle.strftime.proofs.Lengths.{by-form, room-of, plain-length, plain-name-length, number-plain, name-plain}
+use Rattle.converted.specs.Converted.{formed, converted}
+use Rattle.converted.proofs.Lengths.{by-form, plain-length, plain-name-length, number-plain, name-plain}
+use Rattle.strftime.proofs.Lengths.{room-of}
 use borrow.Author.Needs.{needs}
 use Rattle.strftime.proofs.putting.put_converted.Statement.{statement}
 use Rattle.strftime.proofs.putting.put_converted.Tie as tie

@@ -3,7 +3,8 @@ use mathlib.Core.Path.{_≡_, refl, ap}
 use native.Mathlib.Omega.{arith}
 use lib.ListN.{length}
 use Rattle.conversions.specs.Pieces.{unstyled}
-use Rattle.strftime.specs.Writing.{converted, element}
+use Rattle.converted.specs.Converted.{converted}
+use Rattle.strftime.specs.Writing.{element}
 use Rattle.strftime.proofs.Lengths.{element-byte, element-plain, element-styled, has-room}
 use borrow.Author.Needs.{needs}
 use Rattle.strftime.proofs.putting.put_element.Statement.{statement}

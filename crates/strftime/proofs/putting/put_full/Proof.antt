@@ -2,7 +2,7 @@
 use native.Mathlib.Omega.{arith}
 use Rattle.text.specs.Naming.{nameFor}
 use Rattle.text.proofs.Case.{cased-length}
-use Rattle.strftime.proofs.Lengths.{named}
+use Rattle.converted.proofs.Lengths.{named}
 use Rattle.strftime.proofs.Parts.{puts-full}
 use borrow.Author.Needs.{needs}
 use Rattle.strftime.proofs.putting.put_full.Statement.{statement}

@@ -1,13 +1,13 @@
--- `strftime::measuring::styled_length` meets its contract: one return for each form.
+-- `converted::measuring::styled_length` meets its contract: one return for each form.
 use Prim.Native.Nat.{_%_}
 use mathlib.Core.Path.{_≡_}
 use borrow.Author.Needs.{needs}
 use Rattle.conversions.specs.declared.conversions.Form.{Form}
 use Rattle.text.specs.declared.names.Case.the-variants.{AsIs, Small}
-use Rattle.strftime.specs.Writing.{formed, converted}
-use Rattle.strftime.proofs.Lengths.{by-form, number-length, name-length}
-use Rattle.strftime.proofs.measuring.styled_length.Statement.{statement}
-use Rattle.strftime.proofs.measuring.styled_length.Tie as tie
+use Rattle.converted.specs.Converted.{formed, converted}
+use Rattle.converted.proofs.Lengths.{by-form, number-length, name-length}
+use Rattle.converted.proofs.measuring.styled_length.Statement.{statement}
+use Rattle.converted.proofs.measuring.styled_length.Tie as tie
 
 -- the function's entry, and what the conversion writes, by its form
 abbrev start : tie.After-value → tie.Start

@@ -1,8 +1,8 @@
--- `strftime::putting::case_by` meets its contract: the definition makes the same test.
+-- `converted::styles::case_by` meets its contract: the definition makes the same test.
 use borrow.Author.Tests.{eq-eqb, ne-eqb}
-use Rattle.strftime.specs.Writing.{caseBy}
-use Rattle.strftime.proofs.putting.case_by.Statement.{statement}
-use Rattle.strftime.proofs.putting.case_by.Tie as tie
+use Rattle.converted.specs.Converted.{caseBy}
+use Rattle.converted.proofs.styles.case_by.Statement.{statement}
+use Rattle.converted.proofs.styles.case_by.Tie as tie
 
 returns : tie.Need-returns
 unfolding caseBy

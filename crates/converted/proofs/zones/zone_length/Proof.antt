@@ -1,10 +1,10 @@
--- `strftime::zones::zone_length` meets its contract.
+-- `converted::zones::zone_length` meets its contract.
 use mathlib.Core.Path.{sym}
 use borrow.Author.Needs.{needs}
-use Rattle.strftime.specs.Zones.{zone}
-use Rattle.strftime.proofs.Offsets.{east-length}
-use Rattle.strftime.proofs.zones.zone_length.Statement.{statement}
-use Rattle.strftime.proofs.zones.zone_length.Tie as tie
+use Rattle.converted.specs.Zones.{zone}
+use Rattle.converted.proofs.Offsets.{east-length}
+use Rattle.converted.proofs.zones.zone_length.Statement.{statement}
+use Rattle.converted.proofs.zones.zone_length.Tie as tie
 
 enum-told : tie.Need-enum-told
 enum-told c = search needs

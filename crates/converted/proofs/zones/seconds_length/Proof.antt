@@ -1,10 +1,10 @@
--- `strftime::zones::seconds_length` meets its contract.
+-- `converted::zones::seconds_length` meets its contract.
 use mathlib.Core.Path.{sym, ap, _∙_}
 use borrow.Author.Needs.{needs}
 use lib.ListN.{length}
-use Rattle.strftime.proofs.Offsets.{epoch-unsaid, epoch-said, still-small}
-use Rattle.strftime.proofs.zones.seconds_length.Statement.{statement}
-use Rattle.strftime.proofs.zones.seconds_length.Tie as tie
+use Rattle.converted.proofs.Offsets.{epoch-unsaid, epoch-said, still-small}
+use Rattle.converted.proofs.zones.seconds_length.Statement.{statement}
+use Rattle.converted.proofs.zones.seconds_length.Tie as tie
 
 enum-told : tie.Need-enum-told
 enum-told c = search needs

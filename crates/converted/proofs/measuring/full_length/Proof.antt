@@ -1,10 +1,10 @@
--- `strftime::measuring::full_length` meets its contract.
+-- `converted::measuring::full_length` meets its contract.
 use mathlib.Core.Path.{ap, _∙_}
 use lib.ListN.{length}
-use Rattle.strftime.proofs.Lengths.{named}
+use Rattle.converted.proofs.Lengths.{named}
 use borrow.Author.Needs.{needs}
-use Rattle.strftime.proofs.measuring.full_length.Statement.{statement}
-use Rattle.strftime.proofs.measuring.full_length.Tie as tie
+use Rattle.converted.proofs.measuring.full_length.Statement.{statement}
+use Rattle.converted.proofs.measuring.full_length.Tie as tie
 
 place-for-requires : tie.Need-place-for-requires
 place-for-requires c κs = search needs

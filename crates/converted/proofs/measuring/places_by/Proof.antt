@@ -1,9 +1,9 @@
--- `strftime::measuring::places_by` meets its contract: the definition makes the same test.
+-- `converted::measuring::places_by` meets its contract: the definition makes the same test.
 use borrow.Author.Needs.{needs}
 use borrow.Author.Tests.{eq-eqb, ne-eqb}
-use Rattle.strftime.specs.Writing.{placesBy}
-use Rattle.strftime.proofs.measuring.places_by.Statement.{statement}
-use Rattle.strftime.proofs.measuring.places_by.Tie as tie
+use Rattle.converted.specs.Converted.{placesBy}
+use Rattle.converted.proofs.measuring.places_by.Statement.{statement}
+use Rattle.converted.proofs.measuring.places_by.Tie as tie
 
 returns : tie.Need-returns
 unfolding placesBy

@@ -1,12 +1,12 @@
--- `strftime::zones::long_count` meets its contract.
+-- `converted::zones::long_count` meets its contract.
 use Prim.Native.Nat.{_/_}
 use native.Mathlib.Omega.{arith}
 use borrow.Author.Needs.{needs}
 use lib.Dec.{lit≤}
 use Rattle.text.proofs.Fill.{plain-most}
-use Rattle.strftime.proofs.Offsets.{long-length}
-use Rattle.strftime.proofs.zones.long_count.Statement.{statement}
-use Rattle.strftime.proofs.zones.long_count.Tie as tie
+use Rattle.converted.proofs.Offsets.{long-length}
+use Rattle.converted.proofs.zones.long_count.Statement.{statement}
+use Rattle.converted.proofs.zones.long_count.Tie as tie
 
 cast-digit-count : tie.Need-cast-digit-count
 cast-digit-count c = search needs

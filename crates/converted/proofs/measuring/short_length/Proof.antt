@@ -1,9 +1,9 @@
--- `strftime::measuring::short_length` meets its contract.
+-- `converted::measuring::short_length` meets its contract.
 use native.Mathlib.Omega.{arith}
 use lib.ListN.{length-take}
 use borrow.Author.Needs.{needs}
-use Rattle.strftime.proofs.measuring.short_length.Statement.{statement}
-use Rattle.strftime.proofs.measuring.short_length.Tie as tie
+use Rattle.converted.proofs.measuring.short_length.Statement.{statement}
+use Rattle.converted.proofs.measuring.short_length.Tie as tie
 
 full-length-requires : tie.Need-full-length-requires
 full-length-requires c κs = search needs

@@ -1,8 +1,8 @@
--- `strftime::putting::fill_by` meets its contract: the definition makes the same tests.
+-- `converted::styles::fill_by` meets its contract: the definition makes the same tests.
 use borrow.Author.Tests.{ne-eqb}
-use Rattle.strftime.specs.Writing.{fillBy}
-use Rattle.strftime.proofs.putting.fill_by.Statement.{statement}
-use Rattle.strftime.proofs.putting.fill_by.Tie as tie
+use Rattle.converted.specs.Converted.{fillBy}
+use Rattle.converted.proofs.styles.fill_by.Statement.{statement}
+use Rattle.converted.proofs.styles.fill_by.Tie as tie
 
 returns : tie.Need-returns
 unfolding fillBy

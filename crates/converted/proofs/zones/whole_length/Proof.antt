@@ -1,4 +1,4 @@
--- `strftime::zones::whole_length` meets its contract.
+-- `converted::zones::whole_length` meets its contract.
 use Prim.Native.Nat.{ℕ}
 use mathlib.Core.Path.{ap}
 use native.Mathlib.Omega.{arith}
@@ -7,9 +7,9 @@ use lib.Dec.{lit≤}
 use lib.ListN.{length}
 use Rattle.text.specs.Digits.{plain}
 use Rattle.text.proofs.Fill.{plain-most}
-use Rattle.strftime.proofs.Offsets.{whole-negative, whole-positive, size, sign}
-use Rattle.strftime.proofs.zones.whole_length.Statement.{statement}
-use Rattle.strftime.proofs.zones.whole_length.Tie as tie
+use Rattle.converted.proofs.Offsets.{whole-negative, whole-positive, size, sign}
+use Rattle.converted.proofs.zones.whole_length.Statement.{statement}
+use Rattle.converted.proofs.zones.whole_length.Tie as tie
 
 magnitude-requires : tie.Need-magnitude-requires
 magnitude-requires c κs = search needs

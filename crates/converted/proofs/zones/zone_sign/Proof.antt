@@ -1,10 +1,10 @@
--- `strftime::zones::zone_sign` meets its contract.
+-- `converted::zones::zone_sign` meets its contract.
 use mathlib.Core.Path.{sym, ap, _∙_}
 use mir.Facts.{toZ-ofZ}
 use borrow.Author.Needs.{needs}
 use Rattle.values.specs.Offsets.{isNegative}
-use Rattle.strftime.proofs.zones.zone_sign.Statement.{statement}
-use Rattle.strftime.proofs.zones.zone_sign.Tie as tie
+use Rattle.converted.proofs.zones.zone_sign.Statement.{statement}
+use Rattle.converted.proofs.zones.zone_sign.Tie as tie
 
 is-negative-requires : tie.Need-is-negative-requires
 is-negative-requires c κs = search needs
