@@ -6,11 +6,11 @@ use Rattle.calendar.specs.Calendar as calendar
 use Rattle.values.specs.Moments as moments
 use Rattle.values.specs.Offsets as offsets
 use Rattle.values.specs.Values as values
-use Rattle.text.specs.Case.{fold, capital, cased}
+use Rattle.names.specs.Case.{fold, capital, cased}
 use Rattle.text.specs.Digits.{digits, plain, isDigit, digitRun, decimal}
 use Rattle.text.specs.Fill.{fill}
-use Rattle.text.specs.Names as tables
-use Rattle.text.specs.Naming as naming
+use Rattle.names.specs.Names as tables
+use Rattle.names.specs.Naming as naming
 use Rattle.conversions.specs.Conversions as conversions
 use Rattle.format.specs.Opening as opening
 use Rattle.strftime.specs.Writing as writer

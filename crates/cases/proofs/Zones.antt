@@ -26,13 +26,13 @@ use Rattle.values.specs.declared.Moment.{Moment}
 use Rattle.values.specs.declared.MomentFields.{MomentFields}
 use Rattle.values.specs.declared.MomentFields.the-variants.{Valid}
 use Rattle.values.specs.declared.offsets.Offset.the-variants.{Minutes}
-use Rattle.text.specs.Case.{fold, cased}
+use Rattle.names.specs.Case.{fold, cased}
 use Rattle.text.specs.Digits as digits
 use Rattle.text.specs.Digits.{plain, filled, leading, isDigit, digitRun, decimal, readDigits}
 use Rattle.text.specs.Fill.{fill}
-use Rattle.text.specs.Names as names
-use Rattle.text.specs.Names.{goesOn, firstForm, readName}
-use Rattle.text.specs.Naming as naming
+use Rattle.names.specs.Names as names
+use Rattle.names.specs.Names.{goesOn, firstForm, readName}
+use Rattle.names.specs.Naming as naming
 use Rattle.text.specs.Space.{isSpace, spaces}
 use Rattle.conversions.specs.Conversions as conversions
 use Rattle.format.specs.Opening as opening

@@ -14,13 +14,13 @@ use Rattle.format.specs.declared.opening.Side.the-variants.{Reader}
 use Rattle.judge.specs.declared.Engine.{Engine}
 use Rattle.judge.specs.declared.Engine.the-variants.{Skipping, Within}
 use Rattle.strptime.specs.Answers.{readingBy}
-use Rattle.text.specs.Names.{namesOf, readName}
-use Rattle.text.specs.declared.names.NameForm.{NameForm}
-use Rattle.text.specs.declared.names.NameForm.the-variants.{NoName, Full, Middle, Short}
-use Rattle.text.specs.declared.names.NameRead.{NameRead}
-use Rattle.text.specs.declared.names.NameRead.the-variants.{Found, Nothing}
-use Rattle.text.specs.declared.names.Names.{Names}
-use Rattle.text.specs.declared.names.Names.the-variants.{Weekdays, Months, Halves}
+use Rattle.names.specs.Names.{namesOf, readName}
+use Rattle.names.specs.declared.names.NameForm.{NameForm}
+use Rattle.names.specs.declared.names.NameForm.the-variants.{NoName, Full, Middle, Short}
+use Rattle.names.specs.declared.names.NameRead.{NameRead}
+use Rattle.names.specs.declared.names.NameRead.the-variants.{Found, Nothing}
+use Rattle.names.specs.declared.names.Names.{Names}
+use Rattle.names.specs.declared.names.Names.the-variants.{Weekdays, Months, Halves}
 use Rattle.demands.specs.Facts.{lastForm, facts, endFrom}
 use Rattle.cases.specs.Starred.{Case}
 

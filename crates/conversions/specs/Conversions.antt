@@ -8,7 +8,7 @@ use mathlib.Core.List.{List, [], _∷_, map}
 use lib.Dec.{eqb}
 use Rattle.laws.specs.Bytes.{bytes}
 use Rattle.kinds.specs.Kinds as kinds
-use Rattle.text.specs.declared.names.Names.the-variants.{Weekdays, Months, Halves}
+use Rattle.names.specs.declared.names.Names.the-variants.{Weekdays, Months, Halves}
 use Rattle.conversions.specs.declared.conversions.Conversion.{Conversion}
 use Rattle.conversions.specs.declared.conversions.Form.{Form}
 use Rattle.conversions.specs.declared.conversions.Form.the-variants.{Zeros, Blanks, FromSunday, Short, Full, Lower}

@@ -1,6 +1,6 @@
 ghost use mathlib.Core.Path.{_≡_};
 ghost use Rattle.conversions.specs.Conversions.{conversionOf};
-use text::Names;
+use names::Names;
 
 // How a conversion is written and read: numbers filled with zeros or blanks, the weekday counted from Sunday 0; names of a table
 // in three letters, in full, or in full with small letters; a zone offset; the seconds of %s; or no conversion at all.

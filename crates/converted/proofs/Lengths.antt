@@ -7,17 +7,17 @@ use native.Mathlib.Omega.{arith}
 use lib.Dec.{eqb}
 use lib.ListN.{length, replicate, length-take}
 use Rattle.laws.proofs.Cases.{picked}
-use Rattle.text.specs.Case.{cased}
+use Rattle.names.specs.Case.{cased}
 use Rattle.text.specs.Digits.{plain, filled}
-use Rattle.text.specs.Names.{nameAt}
-use Rattle.text.specs.Naming.{placeFor, nameFor}
-use Rattle.text.specs.Rows.{padded}
-use Rattle.text.specs.declared.names.Case.{Case}
-use Rattle.text.specs.declared.names.Names.{Names}
-use Rattle.text.proofs.Case.{cased-length}
+use Rattle.names.specs.Names.{nameAt}
+use Rattle.names.specs.Naming.{placeFor, nameFor}
+use Rattle.names.specs.Rows.{padded}
+use Rattle.names.specs.declared.names.Case.{Case}
+use Rattle.names.specs.declared.names.Names.{Names}
+use Rattle.names.proofs.Case.{cased-length}
 use Rattle.text.proofs.Fill.{fill-length, fill-below, filled-is-fill}
 use Rattle.text.proofs.ReadBack.{filled-length}
-use Rattle.text.proofs.Rows.{held}
+use Rattle.names.proofs.Rows.{held}
 use Rattle.conversions.specs.Pieces.{unstyled}
 use Rattle.conversions.specs.declared.conversions.Conversion.{Conversion}
 use Rattle.conversions.specs.declared.conversions.Form.{Form}

@@ -4,13 +4,13 @@ use Prim.Native.Nat.{ℕ, max, _%_}
 use mathlib.Core.Bool.{cond}
 use mathlib.Core.List.{List, []}
 use lib.Dec.{eqb}
-use Rattle.text.specs.Case.{cased}
+use Rattle.names.specs.Case.{cased}
 use Rattle.text.specs.Digits.{plain}
 use Rattle.text.specs.Fill.{fill}
-use Rattle.text.specs.Names.{short}
-use Rattle.text.specs.Naming.{nameFor}
-use Rattle.text.specs.declared.names.Case.{Case}
-use Rattle.text.specs.declared.names.Case.the-variants.{AsIs, Small, Capital}
+use Rattle.names.specs.Names.{short}
+use Rattle.names.specs.Naming.{nameFor}
+use Rattle.names.specs.declared.names.Case.{Case}
+use Rattle.names.specs.declared.names.Case.the-variants.{AsIs, Small, Capital}
 use Rattle.conversions.specs.declared.conversions.Conversion.{Conversion}
 use Rattle.conversions.specs.declared.conversions.Form.{Form}
 use Rattle.conversions.specs.declared.conversions.Form.the-variants.{Zeros, Blanks, FromSunday, Short, Full, Lower, Zone, Seconds, Unknown}

@@ -4,16 +4,16 @@ use crate::zones::zone_length;
 use conversions::Conversion;
 use conversions::Form;
 use conversions::Style;
-use text::Names;
+use names::Names;
+use names::name_length;
+use names::place_for;
 use text::digit_count;
-use text::name_length;
-use text::place_for;
 use values::Moment;
 ghost use mathlib.Core.Path.{_≡_};
 ghost use Prim.Native.Nat.{max};
 ghost use lib.ListN.{length};
-ghost use Rattle.text.specs.Names.{short};
-ghost use Rattle.text.specs.Naming.{nameFor};
+ghost use Rattle.names.specs.Names.{short};
+ghost use Rattle.names.specs.Naming.{nameFor};
 ghost use Rattle.converted.specs.Converted.{placesBy, converted};
 
 // With a flag or a width.

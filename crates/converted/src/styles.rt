@@ -1,5 +1,5 @@
 // What a flag chooses: the fill of a number, the case of a name.
-use text::Case;
+use names::Case;
 ghost use mathlib.Core.Path.{_≡_};
 ghost use Rattle.converted.specs.Converted.{fillBy, caseBy};
 

@@ -16,11 +16,11 @@ use Rattle.laws.specs.Bytes.{bytes}
 use Rattle.laws.specs.Lists.{every, range}
 use Rattle.laws.proofs.Cases.{either, picked, clash}
 use Rattle.laws.proofs.Table.{same-at}
-use Rattle.text.specs.Case.{fold, capital, cased}
+use Rattle.names.specs.Case.{fold, capital, cased}
 use Rattle.text.specs.Fill.{fill}
-use Rattle.text.specs.Names.{short}
-use Rattle.text.specs.Naming.{nameFor}
-use Rattle.text.proofs.Case.{capital-fold}
+use Rattle.names.specs.Names.{short}
+use Rattle.names.specs.Naming.{nameFor}
+use Rattle.names.proofs.Case.{capital-fold}
 use Rattle.text.proofs.Fill.{fill-below}
 use Rattle.text.specs.Digits.{digits, plain, isDigit, digitRun, decimal}
 use Rattle.conversions.specs.Conversions as conversions

@@ -6,14 +6,14 @@ use mathlib.Core.List.{List}
 use mathlib.Core.Path.{_≡_, refl, _∙_}
 use Rattle.laws.specs.Lists.{every}
 use Rattle.laws.proofs.Lists.{every-member}
-use Rattle.text.specs.Names as names
-use Rattle.text.specs.Names.{Form, othersOf, readName}
-use Rattle.text.specs.declared.names.NameForm.{NameForm}
-use Rattle.text.specs.declared.names.NameForm.the-variants.{NoName, Full, Middle, Short}
-use Rattle.text.specs.declared.names.Names.{Names}
-use Rattle.text.specs.declared.names.Names.the-variants.{Weekdays, Months, Halves}
-use Rattle.text.proofs.Forms.{of-name, one-value, longest, longest-other, reads-full, no-full, reads-none}
-use Rattle.text.proofs.Goes.{fails}
+use Rattle.names.specs.Names as names
+use Rattle.names.specs.Names.{Form, othersOf, readName}
+use Rattle.names.specs.declared.names.NameForm.{NameForm}
+use Rattle.names.specs.declared.names.NameForm.the-variants.{NoName, Full, Middle, Short}
+use Rattle.names.specs.declared.names.Names.{Names}
+use Rattle.names.specs.declared.names.Names.the-variants.{Weekdays, Months, Halves}
+use Rattle.names.proofs.Forms.{of-name, one-value, longest, longest-other, reads-full, no-full, reads-none}
+use Rattle.names.proofs.Goes.{fails}
 use Rattle.demands.specs.Names.{NameRule}
 
 -- the other forms are not full: one computed test of each table

@@ -25,16 +25,16 @@ use Rattle.matching.specs.Zones.{isSign, offsetAt, signedAt, readZone}
 use Rattle.matching.specs.Extents.{between}
 use Rattle.matching.specs.declared.elements.Item.{Item}
 use Rattle.matching.specs.declared.elements.Item.the-variants.{Skip, Fact, NoMatch, OutOfRange}
-use Rattle.text.specs.Case.{fold}
+use Rattle.names.specs.Case.{fold}
 use Rattle.text.specs.Digits.{isDigit, digitRun, decimal, readDigits}
-use Rattle.text.specs.Names as names
-use Rattle.text.specs.Names.{formsOf, goesOn, readName}
+use Rattle.names.specs.Names as names
+use Rattle.names.specs.Names.{formsOf, goesOn, readName}
 use Rattle.text.specs.Space.{isSpace, spaces}
-use Rattle.text.specs.declared.names.NameRead.{NameRead}
-use Rattle.text.specs.declared.names.NameRead.the-variants.{Found, Nothing}
-use Rattle.text.specs.declared.names.Names.{Names}
-use Rattle.text.specs.declared.names.Names.the-variants.{Weekdays, Months, Halves}
-use Rattle.text.proofs.Forms.{is-read}
+use Rattle.names.specs.declared.names.NameRead.{NameRead}
+use Rattle.names.specs.declared.names.NameRead.the-variants.{Found, Nothing}
+use Rattle.names.specs.declared.names.Names.{Names}
+use Rattle.names.specs.declared.names.Names.the-variants.{Weekdays, Months, Halves}
+use Rattle.names.proofs.Forms.{is-read}
 use Rattle.demands.specs.Reasons.{isLetter, FromTheFirst}
 
 -- ---- white space

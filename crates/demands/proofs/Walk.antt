@@ -23,8 +23,8 @@ use Rattle.matching.specs.declared.Stepped.{Stepped}
 use Rattle.matching.specs.declared.elements.Item.{Item}
 use Rattle.matching.specs.declared.elements.Item.the-variants.{Skip, Fact as Reads, NoMatch, OutOfRange}
 use Rattle.matching.proofs.Sound.{Finds, Sound, sound}
-use Rattle.text.specs.declared.names.NameForm.{NameForm}
-use Rattle.text.specs.declared.names.NameForm.the-variants.{NoName, Full, Middle, Short}
+use Rattle.names.specs.declared.names.NameForm.{NameForm}
+use Rattle.names.specs.declared.names.NameForm.the-variants.{NoName, Full, Middle, Short}
 use Rattle.demands.specs.Facts.{Fact, saying, factsFrom, Says, isName, lastForm, going, allRead, ending, endFrom}
 
 -- a number is kept for a kind

@@ -23,15 +23,15 @@ use Rattle.format.specs.Opening.{Opening, Whole, opening, conversionAt, letterO
 use Rattle.conversions.specs.declared.conversions.Conversion.{Conversion}
 use Rattle.conversions.specs.declared.conversions.Form.the-variants.{Zeros}
 use Rattle.format.specs.declared.opening.Side.the-variants.{Writer}
-use Rattle.text.specs.declared.names.Names.the-variants.{Halves}
+use Rattle.names.specs.declared.names.Names.the-variants.{Halves}
 use Rattle.laws.specs.Lists.{range}
 use Rattle.laws.proofs.Table.{same-at}
-use Rattle.text.specs.Case.{fold, cased}
+use Rattle.names.specs.Case.{fold, cased}
 use Rattle.text.proofs.Fill.{fill-below}
 use Rattle.text.specs.Digits.{filled, decimal}
-use Rattle.text.specs.Names as names
-use Rattle.text.specs.Naming as naming
-use Rattle.text.specs.Naming.{nameFor}
+use Rattle.names.specs.Names as names
+use Rattle.names.specs.Naming as naming
+use Rattle.names.specs.Naming.{nameFor}
 use Rattle.text.proofs.ReadBack.{filled-length, filled-digits, filled-back}
 use Rattle.values.specs.Moments.{momentOf, momentFault}
 use Rattle.values.specs.Offsets.{isOffset}

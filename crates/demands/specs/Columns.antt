@@ -8,7 +8,7 @@ use mathlib.Core.Path.{_≡_}
 use lib.Dec.{eqb}
 use lib.ListN.{length}
 use Rattle.laws.specs.Bytes.{bytes}
-use Rattle.text.specs.Case.{capital}
+use Rattle.names.specs.Case.{capital}
 use Rattle.text.specs.Digits.{plain}
 use Rattle.text.specs.Fill.{fill}
 use Rattle.conversions.specs.Conversions.{among, conversionOf}

@@ -12,8 +12,8 @@ use Rattle.format.specs.declared.opening.Side.the-variants.{Reader}
 use Rattle.matching.specs.Elements.{readElement}
 use Rattle.matching.specs.declared.elements.Item.{Item}
 use Rattle.matching.specs.declared.elements.Item.the-variants.{Skip, Fact as Reads, NoMatch, OutOfRange}
-use Rattle.text.specs.declared.names.NameForm.{NameForm}
-use Rattle.text.specs.declared.names.NameForm.the-variants.{NoName, Full, Middle, Short}
+use Rattle.names.specs.declared.names.NameForm.{NameForm}
+use Rattle.names.specs.declared.names.NameForm.the-variants.{NoName, Full, Middle, Short}
 
 -- A fact is a kind with a number, where AM is 0, PM is 1 and a zone offset is 1439 more than its minutes, and with the form of the name
 -- that says it, or none where digits do; it stands in the text from its first digit or letter, or its sign, up to `next`.

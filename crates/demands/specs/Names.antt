@@ -4,10 +4,10 @@ use mathlib.Core.Bool.{true}
 use mathlib.Core.List.{List, List·Memᴰ as Member}
 use mathlib.Core.Path.{_≡_}
 use lib.ListN.{length}
-use Rattle.text.specs.Names.{Form, namesOf, nameAt, othersOf, formsOf, goesOn, readName}
-use Rattle.text.specs.declared.names.NameForm.the-variants.{Full}
-use Rattle.text.specs.declared.names.NameRead.the-variants.{Found, Nothing}
-use Rattle.text.specs.declared.names.Names.{Names}
+use Rattle.names.specs.Names.{Form, namesOf, nameAt, othersOf, formsOf, goesOn, readName}
+use Rattle.names.specs.declared.names.NameForm.the-variants.{Full}
+use Rattle.names.specs.declared.names.NameRead.the-variants.{Found, Nothing}
+use Rattle.names.specs.declared.names.Names.{Names}
 
 module _ (t : Names) (s : List ℕ) where
   -- the text goes on with the full name at a place of the table, and with one of some forms

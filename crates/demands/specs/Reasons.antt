@@ -27,10 +27,10 @@ use Rattle.reasons.specs.declared.Reason.the-variants.{NoReason, Quarrel, Diffe
 use Rattle.strftime.specs.declared.Fields.{Fields}
 use Rattle.strptime.specs.Answers.{readingBy}
 use Rattle.strptime.specs.declared.Shown.the-variants.{Days, Hours as TwoHours}
-use Rattle.text.specs.Case.{fold}
+use Rattle.names.specs.Case.{fold}
 use Rattle.text.specs.Digits.{isDigit}
 use Rattle.text.specs.Space.{isSpace}
-use Rattle.text.specs.declared.names.NameForm.{NameForm}
+use Rattle.names.specs.declared.names.NameForm.{NameForm}
 use Rattle.demands.specs.Facts.{Fact, Says, facts}
 use Rattle.demands.specs.Writes.{WouldWrite, onDay, atHour}
 

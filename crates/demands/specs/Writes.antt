@@ -11,7 +11,7 @@ use Rattle.laws.specs.Bytes.{bytes}
 use Rattle.laws.specs.Lists.{every}
 use Rattle.kinds.specs.Kinds.{halfOfDay}
 use Rattle.calendar.specs.Calendar.{dateOf}
-use Rattle.text.specs.Case.{fold}
+use Rattle.names.specs.Case.{fold}
 use Rattle.text.specs.Digits.{isDigit, decimal}
 use Rattle.values.specs.declared.offsets.Offset.the-variants.{Unsaid as NoOffset}
 use Rattle.strftime.specs.Writing.{Result, writing}

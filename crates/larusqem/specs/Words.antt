@@ -15,8 +15,8 @@ use Rattle.strptime.specs.declared.Day.the-variants.{NoDate, On}
 use Rattle.strptime.specs.declared.Reading.{Reading}
 use Rattle.strptime.specs.declared.Shown.{Shown}
 use Rattle.strptime.specs.declared.Shown.the-variants.{Nothing, Days, Hours}
-use Rattle.text.specs.declared.names.NameForm.{NameForm}
-use Rattle.text.specs.declared.names.NameForm.the-variants.{NoName, Full, Middle, Short}
+use Rattle.names.specs.declared.names.NameForm.{NameForm}
+use Rattle.names.specs.declared.names.NameForm.the-variants.{NoName, Full, Middle, Short}
 use Rattle.words.specs.Words as words
 use Rattle.words.specs.Words.{offsetFrom, offsetFlag, offsetWord, flag, numberOr0}
 

@@ -8,15 +8,15 @@ use lib.Dec.{lit≤}
 use lib.ListN.{length}
 use Rattle.laws.proofs.Cases.{picked}
 use Rattle.text.specs.Digits.{isDigit, digitRun}
-use Rattle.text.specs.Names as names
-use Rattle.text.specs.Names.{namesOf, formsOf, readName}
+use Rattle.names.specs.Names as names
+use Rattle.names.specs.Names.{namesOf, formsOf, readName}
 use Rattle.text.specs.Space.{isSpace, spaces}
-use Rattle.text.specs.declared.names.NameForm.{NameForm}
-use Rattle.text.specs.declared.names.NameRead.the-variants.{Found}
-use Rattle.text.specs.declared.names.Names.{Names}
-use Rattle.text.specs.declared.names.Names.the-variants.{Weekdays, Months, Halves}
-use Rattle.text.proofs.Forms.{of-name, is-read}
-use Rattle.text.proofs.Goes.{goes-length}
+use Rattle.names.specs.declared.names.NameForm.{NameForm}
+use Rattle.names.specs.declared.names.NameRead.the-variants.{Found}
+use Rattle.names.specs.declared.names.Names.{Names}
+use Rattle.names.specs.declared.names.Names.the-variants.{Weekdays, Months, Halves}
+use Rattle.names.proofs.Forms.{of-name, is-read}
+use Rattle.names.proofs.Goes.{goes-length}
 
 -- ---- white space and digits
 pub spaces-most : (s : List ℕ) → spaces s ≤ length s

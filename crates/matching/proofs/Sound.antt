@@ -20,14 +20,14 @@ use Rattle.matching.specs.Elements.{readConversion, readElement}
 use Rattle.matching.specs.declared.elements.Item.{Item}
 use Rattle.matching.specs.declared.elements.Item.the-variants.{Skip, Fact, NoMatch, OutOfRange}
 use Rattle.text.specs.Digits.{digitRun, decimal, readDigits}
-use Rattle.text.specs.Names.{namesOf, readName}
-use Rattle.text.specs.Naming.{firstValue, valueAt}
+use Rattle.names.specs.Names.{namesOf, readName}
+use Rattle.names.specs.Naming.{firstValue, valueAt}
 use Rattle.text.specs.Space.{isSpace, spaces}
-use Rattle.text.specs.declared.names.NameForm.{NameForm}
-use Rattle.text.specs.declared.names.NameForm.the-variants.{NoName}
-use Rattle.text.specs.declared.names.NameRead.{NameRead}
-use Rattle.text.specs.declared.names.NameRead.the-variants.{Found, Nothing}
-use Rattle.text.specs.declared.names.Names.{Names}
+use Rattle.names.specs.declared.names.NameForm.{NameForm}
+use Rattle.names.specs.declared.names.NameForm.the-variants.{NoName}
+use Rattle.names.specs.declared.names.NameRead.{NameRead}
+use Rattle.names.specs.declared.names.NameRead.the-variants.{Found, Nothing}
+use Rattle.names.specs.declared.names.Names.{Names}
 use Rattle.values.specs.Offsets.{offsetNumber}
 use Rattle.matching.specs.Zones.{isSign, signedBy, offsetAt, signedAt, readZone}
 use Rattle.matching.proofs.Lengths.{spaces-most, run-most, name-named}

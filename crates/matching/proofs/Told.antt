@@ -15,10 +15,10 @@ use Rattle.conversions.specs.declared.conversions.Form.{Form}
 use Rattle.conversions.specs.declared.conversions.Form.the-variants.{Zeros, Blanks, FromSunday, Short, Full, Lower, Zone, Seconds, Unknown}
 use Rattle.conversions.proofs.Rows.{conversion-passes}
 use Rattle.values.proofs.Ranges.{lowest, highest}
-use Rattle.text.specs.Names as names
-use Rattle.text.specs.Names.{namesOf}
-use Rattle.text.specs.Naming.{firstValue}
-use Rattle.text.specs.declared.names.Names.{Names}
+use Rattle.names.specs.Names as names
+use Rattle.names.specs.Names.{namesOf}
+use Rattle.names.specs.Naming.{firstValue}
+use Rattle.names.specs.declared.names.Names.{Names}
 
 -- a fact that a text can say
 pub record Told (k n : ℕ) : Type 0 where

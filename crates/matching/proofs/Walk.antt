@@ -23,7 +23,7 @@ use Rattle.matching.specs.declared.State.{State}
 use Rattle.matching.specs.declared.Stepped.{Stepped}
 use Rattle.matching.specs.declared.elements.Item.{Item}
 use Rattle.matching.specs.declared.elements.Item.the-variants.{Skip, Fact, NoMatch, OutOfRange}
-use Rattle.text.specs.declared.names.NameForm.{NameForm}
+use Rattle.names.specs.declared.names.NameForm.{NameForm}
 use Rattle.matching.proofs.Outcome.{the-type}
 use Rattle.matching.proofs.Sound.{Finds, Sound, sound}
 

@@ -16,15 +16,15 @@ use Rattle.matching.specs.Elements.{ordinary, readByte, ranged, readNumb
 use Rattle.matching.specs.declared.elements.Item.{Item}
 use Rattle.matching.specs.declared.elements.Item.the-variants.{Skip, Fact, NoMatch, OutOfRange}
 use Rattle.text.specs.Digits.{digitRun, readDigits}
-use Rattle.text.specs.Names.{readName}
-use Rattle.text.specs.Naming.{valueAt}
+use Rattle.names.specs.Names.{readName}
+use Rattle.names.specs.Naming.{valueAt}
 use Rattle.text.specs.Space.{isSpace, spaces}
 use Rattle.text.specs.declared.digits.Digits.{Digits}
-use Rattle.text.specs.declared.names.NameForm.{NameForm}
-use Rattle.text.specs.declared.names.NameForm.the-variants.{NoName}
-use Rattle.text.specs.declared.names.NameRead.{NameRead}
-use Rattle.text.specs.declared.names.NameRead.the-variants.{Found, Nothing}
-use Rattle.text.specs.declared.names.Names.{Names}
+use Rattle.names.specs.declared.names.NameForm.{NameForm}
+use Rattle.names.specs.declared.names.NameForm.the-variants.{NoName}
+use Rattle.names.specs.declared.names.NameRead.{NameRead}
+use Rattle.names.specs.declared.names.NameRead.the-variants.{Found, Nothing}
+use Rattle.names.specs.declared.names.Names.{Names}
 use Rattle.matching.proofs.Lengths.{spaces-most, run-most}
 
 -- ---- a byte of the format

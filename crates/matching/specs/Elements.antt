@@ -14,13 +14,13 @@ use Rattle.matching.specs.Zones.{readZone}
 use Rattle.matching.specs.declared.elements.Item.{Item}
 use Rattle.matching.specs.declared.elements.Item.the-variants.{Skip, Fact, NoMatch, OutOfRange}
 use Rattle.text.specs.Digits.{digitRun, decimal}
-use Rattle.text.specs.Names.{readName}
-use Rattle.text.specs.Naming.{valueAt}
+use Rattle.names.specs.Names.{readName}
+use Rattle.names.specs.Naming.{valueAt}
 use Rattle.text.specs.Space.{isSpace, spaces}
-use Rattle.text.specs.declared.names.NameForm.the-variants.{NoName}
-use Rattle.text.specs.declared.names.NameRead.{NameRead}
-use Rattle.text.specs.declared.names.NameRead.the-variants.{Found, Nothing}
-use Rattle.text.specs.declared.names.Names.{Names}
+use Rattle.names.specs.declared.names.NameForm.the-variants.{NoName}
+use Rattle.names.specs.declared.names.NameRead.{NameRead}
+use Rattle.names.specs.declared.names.NameRead.the-variants.{Found, Nothing}
+use Rattle.names.specs.declared.names.Names.{Names}
 
 -- an ordinary byte of the format must be the next byte of the text
 unfoldable pub ordinary : ℕ → List ℕ → ℕ → Item

@@ -16,8 +16,8 @@ use Rattle.matching.specs.declared.Stepped.{Stepped}
 use Rattle.matching.specs.declared.elements.Item.{Item}
 use Rattle.matching.specs.declared.elements.Item.the-variants.{Skip, Fact, NoMatch, OutOfRange}
 use Rattle.matching.specs.declared.steps.Step.{Step}
-use Rattle.text.specs.declared.names.NameForm.{NameForm}
-use Rattle.text.specs.declared.names.NameForm.the-variants.{NoName, Full, Middle, Short}
+use Rattle.names.specs.declared.names.NameForm.{NameForm}
+use Rattle.names.specs.declared.names.NameForm.the-variants.{NoName, Full, Middle, Short}
 
 -- nothing said yet
 unfoldable pub unsaid : Facts

@@ -12,7 +12,7 @@ use Rattle.matching.specs.declared.elements.Item.{Item}
 use Rattle.matching.specs.declared.elements.Item.the-variants.{Fact, NoMatch, OutOfRange}
 use Rattle.text.specs.Digits.{readDigits}
 use Rattle.text.specs.declared.digits.Digits.{Digits}
-use Rattle.text.specs.declared.names.NameForm.the-variants.{NoName}
+use Rattle.names.specs.declared.names.NameForm.the-variants.{NoName}
 use Rattle.values.specs.Offsets.{offsetNumber}
 
 unfoldable pub isSign : ℕ → Bool

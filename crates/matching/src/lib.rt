@@ -1,6 +1,6 @@
 // Matching a text to the elements of a format (RULES 6): what each element reads, and the facts of all of them (RULES 7).
 use agreement::Facts;
-use text::NameForm;
+use names::NameForm;
 
 mod elements;
 mod extents;

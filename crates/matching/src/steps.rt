@@ -6,7 +6,7 @@ use crate::Stepped;
 use crate::elements::Item;
 use crate::elements::read_element;
 use agreement::Facts;
-use text::NameForm;
+use names::NameForm;
 ghost use mathlib.Core.Bool.{not, _||_};
 ghost use mathlib.Core.Path.{_≡_};
 ghost use Prim.Native.Nat.{suc, _≤_};

@@ -1,8 +1,8 @@
 // Reading a zone offset.
 use crate::elements::Item;
 use conversions::Conversion;
+use names::NameForm;
 use text::Digits;
-use text::NameForm;
 use text::read_digits;
 ghost use mathlib.Core.Path.{_≡_};
 ghost use Prim.Native.Nat.{_+_, _≤_, _<_, _^_};

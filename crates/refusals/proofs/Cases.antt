@@ -19,11 +19,11 @@ use Rattle.matching.specs.Steps as steps
 use Rattle.reasons.specs.Quarrels as quarrels
 use Rattle.reasons.specs.Reasons as reasons
 use Rattle.strptime.specs.Answers as answers
-use Rattle.text.specs.Case.{fold, cased}
+use Rattle.names.specs.Case.{fold, cased}
 use Rattle.text.specs.Digits.{leading, filled, digits, plain, isDigit, digitRun, decimal}
-use Rattle.text.specs.Names as names
-use Rattle.text.specs.Names.{goesOn, firstForm, readName}
-use Rattle.text.specs.Naming as naming
+use Rattle.names.specs.Names as names
+use Rattle.names.specs.Names.{goesOn, firstForm, readName}
+use Rattle.names.specs.Naming as naming
 use Rattle.text.specs.Space.{isSpace, spaces}
 use Rattle.values.specs.Moments as moments
 use Rattle.values.specs.Values as values

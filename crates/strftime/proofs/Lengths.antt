@@ -17,7 +17,7 @@ use lib.Seq.{drop-cons}
 use Rattle.laws.specs.Lists.{every}
 use Rattle.laws.proofs.Cases.{either, clash}
 use Rattle.laws.proofs.Table.{both}
-use Rattle.text.specs.Naming.{nameFor}
+use Rattle.names.specs.Naming.{nameFor}
 use Rattle.text.proofs.Fill.{plain-most}
 use Rattle.conversions.specs.Conversions.{conversionOf, isNumber, computes as rows-compute}
 use Rattle.conversions.specs.Pieces.{unstyled, isRead}

@@ -9,12 +9,12 @@ use lib.ListN.{length, take, drop, set, replicate, length-take, length-drop, len
 use lib.Seq.{sets, take-all, length-sets}
 use Rattle.laws.specs.Stores.{Puts}
 use Rattle.laws.proofs.Stores.{sets-all, sets-part, then}
-use Rattle.text.specs.Case.{fold, capital, cased}
+use Rattle.names.specs.Case.{fold, capital, cased}
 use Rattle.text.specs.Digits.{plain, filled}
 use Rattle.text.specs.Fill.{fill}
-use Rattle.text.specs.declared.names.Case.{Case}
-use Rattle.text.specs.declared.names.Case.the-variants.{AsIs, Small, Capital}
-use Rattle.text.proofs.Case.{cased-length}
+use Rattle.names.specs.declared.names.Case.{Case}
+use Rattle.names.specs.declared.names.Case.the-variants.{AsIs, Small, Capital}
+use Rattle.names.proofs.Case.{cased-length}
 use Rattle.text.proofs.Fill.{fill-length, plain-places}
 use Rattle.text.proofs.ReadBack.{filled-length}
 use Rattle.conversions.specs.declared.following.Style.{Style}

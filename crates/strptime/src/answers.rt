@@ -27,7 +27,7 @@ use matching::Forms;
 use matching::Outcome;
 use matching::State;
 use matching::read_all;
-use text::NameForm;
+use names::NameForm;
 use values::Offset;
 use values::offset_of;
 ghost use mathlib.Core.Path.{_≡_};

@@ -1,12 +1,5 @@
 -- Laws that the proofs of several functions cite, and that callers may cite.
-pub mod Case
 pub mod Decimals
 pub mod Fill
-pub mod Forms
-pub mod Goes
-pub mod Middles
 pub mod ReadBack
-pub mod Rows
-pub mod Shorts
 pub mod Spaces
-pub mod Table

@@ -1,9 +1,4 @@
--- What the text layer means: digits, filling, white space, letter case, names.
-pub mod Case
+-- What the text layer means: digits, filling, white space.
 pub mod Digits
-pub mod Distinct
 pub mod Fill
-pub mod Names
-pub mod Naming
-pub mod Rows
 pub mod Space

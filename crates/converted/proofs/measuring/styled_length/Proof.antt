@@ -3,7 +3,7 @@ use Prim.Native.Nat.{_%_}
 use mathlib.Core.Path.{_≡_}
 use borrow.Author.Needs.{needs}
 use Rattle.conversions.specs.declared.conversions.Form.{Form}
-use Rattle.text.specs.declared.names.Case.the-variants.{AsIs, Small}
+use Rattle.names.specs.declared.names.Case.the-variants.{AsIs, Small}
 use Rattle.converted.specs.Converted.{formed, converted}
 use Rattle.converted.proofs.Lengths.{by-form, number-length, name-length}
 use Rattle.converted.proofs.measuring.styled_length.Statement.{statement}

@@ -8,7 +8,7 @@ use lib.ListN.{length}
 use Rattle.conversions.specs.Conversions.{isNumber}
 use Rattle.conversions.specs.Pieces.{unstyled}
 use Rattle.conversions.specs.declared.conversions.Form.{Form}
-use Rattle.text.specs.declared.names.Case.the-variants.{AsIs, Small}
+use Rattle.names.specs.declared.names.Case.the-variants.{AsIs, Small}
 use Rattle.converted.specs.Converted.{formed, converted}
 use Rattle.converted.proofs.Lengths.{by-form, plain-length, plain-name-length, number-plain, name-plain}
 use Rattle.strftime.proofs.Lengths.{room-of}

@@ -1,7 +1,7 @@
 -- `strftime::putting::put_full` meets its contract.
 use native.Mathlib.Omega.{arith}
-use Rattle.text.specs.Naming.{nameFor}
-use Rattle.text.proofs.Case.{cased-length}
+use Rattle.names.specs.Naming.{nameFor}
+use Rattle.names.proofs.Case.{cased-length}
 use Rattle.converted.proofs.Lengths.{named}
 use Rattle.strftime.proofs.Parts.{puts-full}
 use borrow.Author.Needs.{needs}

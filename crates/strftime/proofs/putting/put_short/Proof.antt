@@ -1,7 +1,7 @@
 -- `strftime::putting::put_short` meets its contract.
 use mathlib.Core.Path.{ap}
 use Prim.Native.Nat.{_+_}
-use Rattle.text.specs.Naming.{nameFor}
+use Rattle.names.specs.Naming.{nameFor}
 use Rattle.converted.proofs.Lengths.{named}
 use Rattle.strftime.proofs.Parts.{puts-short}
 use borrow.Author.Needs.{needs}
