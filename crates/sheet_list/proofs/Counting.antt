@@ -14,6 +14,7 @@ use lib.ListN.{length}
 use Rattle.laws.proofs.Cases.{picked, clash}
 use Rattle.sheets.specs.Sheets.{weekOf}
 use Rattle.sheet_list.specs.Ascending.{inserted}
+use Rattle.sheet_list.specs.Rules.{Rising}
 use Rattle.sheet_list.specs.Weeks.{Tally, tally, counted, weeksOf, hasWeek}
 
 -- a number is lower than another, equal to it, or higher
@@ -89,19 +90,15 @@ inserted-weeks x (y ∷ s) =
 
 -- ---- weeks stand in order, each once
 
-unfoldable pub Rising : ℕ → List Tally → Type 0
-Rising low [] = Unit
-Rising low (t ∷ ts) = (low ≤ t .week) × Rising (suc (t .week)) ts
-
 pub counted-rises : (low k : ℕ) (ts : List Tally) → low ≤ k → Rising low ts → Rising low (counted k ts)
 unfolding Rising
-counted-rises low k [] h r = unfold counted in (h, tt)
-counted-rises low k (t ∷ ts) h r = go (λ g. counted-rises (suc (t .week)) k ts g (r .1)) (cases k (t .week))
+counted-rises low k [] h r = unfold counted in (h, omega arith, tt)
+counted-rises low k (t ∷ ts) h r = go (λ g. counted-rises (suc (t .week)) k ts g (r .2)) (cases k (t .week))
   where
     go : (t .week < k → Rising (suc (t .week)) (counted k ts)) → Cases k (t .week) → Rising low (counted k (t ∷ ts))
-    go later (less g) = rw (counted-less k t ts g) (h, (g, r .1))
-    go later (same g) = rw (counted-same k t ts g, g) (r .0, r .1)
-    go later (more g) = rw (counted-more k t ts g) (r .0, later g)
+    go later (less g) = rw (counted-less k t ts g) (h, omega arith, (g, r .1, r .2))
+    go later (same g) = rw (counted-same k t ts g, g) (r .0, omega arith, r .2)
+    go later (more g) = rw (counted-more k t ts g) (r .0, r .1, later g)
 
 pub weeks-rise : (s : List ℕ) → Rising 0 (weeksOf s)
 unfolding weeksOf Rising
@@ -113,16 +110,16 @@ none-lower : (low k : ℕ) (ts : List Tally) → k < low → Rising low ts → h
 unfolding Rising hasWeek
 none-lower low k [] h r = refl
 none-lower low k (t ∷ ts) h r =
-    rw (ne-eqb k (t .week) (λ e. omega (arith, e, r .0))) (none-lower (suc (t .week)) k ts (omega (arith, r .0)) (r .1))
+    rw (ne-eqb k (t .week) (λ e. omega (arith, e, r .0))) (none-lower (suc (t .week)) k ts (omega (arith, r .0)) (r .2))
 
 pub counted-among : (low k : ℕ) (ts : List Tally) → Rising low ts → hasWeek k ts ≡ true → length (counted k ts) ≡ length ts
 unfolding Rising hasWeek
 counted-among low k [] r e = clash (cc)
-counted-among low k (t ∷ ts) r e = go (counted-among (suc (t .week)) k ts (r .1)) (cases k (t .week))
+counted-among low k (t ∷ ts) r e = go (counted-among (suc (t .week)) k ts (r .2)) (cases k (t .week))
   where
     go : (hasWeek k ts ≡ true → length (counted k ts) ≡ length ts) → Cases k (t .week) → length (counted k (t ∷ ts)) ≡ suc (length ts)
     go later (less g) =
-        let n = none-lower (suc (t .week)) k ts (omega arith) (r .1) in
+        let n = none-lower (suc (t .week)) k ts (omega arith) (r .2) in
         let z : (eqb k (t .week) || hasWeek k ts) ≡ false = rw (ne-eqb k (t .week) (λ e. omega (arith, e)), n) in
         clash (cc)
     go later (same g) = rw (counted-same k t ts g)

@@ -9,7 +9,7 @@ use native.Mathlib.Omega.{arith}
 use borrow.Author.Tests.{le-leb, lt-leb, leb-true, eq-eqb, ne-eqb, eqb-true, eqb-false}
 use lib.Dec.{eqb, leb, lit<, lit≤}
 use lib.ListN.{length, take, drop, length-map, length-append, length-take, length-drop}
-use lib.Seq.{length-take-le, take-at}
+use lib.Seq.{length-take-le, take-at, drop-at}
 use Rattle.laws.specs.Lists.{every}
 use Rattle.laws.proofs.Cases.{clash}
 use Rattle.sheets.specs.Sheets.{isPacking, weekOf}
@@ -18,7 +18,7 @@ use Rattle.sheet_list.specs.Adding.{Held, listOf, mostWords, tableLength
 use Rattle.sheet_list.specs.Ascending.{ascending, inserted}
 use Rattle.sheet_list.specs.Private.{week, countedIn, weekIn, Listed}
 use Rattle.sheet_list.specs.Weeks.{counted, weeksOf, tallyWord, tableOf, hasWeek}
-use Rattle.sheet_list.proofs.Counting.{Rising, Most, inserted-weeks, weeks-rise, weeks-most, counted-among, counted-most}
+use Rattle.sheet_list.proofs.Counting.{inserted-weeks, weeks-rise, weeks-most, counted-among, counted-most}
 use Rattle.sheet_list.proofs.Ranks.{inserted-length, inserted-every, inserted-ascends}
 use Rattle.sheet_list.proofs.Tables.{counted-words, in-words, table-ascends}
 
@@ -143,6 +143,20 @@ is-held h v =
     )
     (is-same (tableOf (listOf h)))
 
+-- ---- a list over the front of an array
+
+over-length : (s array : List ℕ) → length s ≤ length array → length (over s array) ≡ length array
+unfolding over
+over-length s array l = simp (length-append, length-drop) (omega arith)
+
+pub over-front : (s array : List ℕ) → take (length s) (over s array) ≡ s
+unfolding over
+over-front s array = take-at s (drop (length s) array) (length s) refl
+
+pub over-past : (s array : List ℕ) → drop (length s) (over s array) ≡ drop (length s) array
+unfolding over
+over-past s array = drop-at s (drop (length s) array) (length s) refl
+
 -- ---- what is known of the list and of its table
 
 few : (s : List ℕ) → length s ≤ mostWords → length s < week
@@ -208,14 +222,6 @@ module _ (h : Held) (v : Sound h) where
             = λ f. clash (let z : (eqb (h .weeks) tableLength && not (hasWeek (weekOf x) (weeksOf (listOf h)))) ≡ true
             = rw (eq-eqb (h .weeks) tableLength f, e) in let y = split .1 in cc) in
             omega (arith, counted-most (weekOf x) (weeksOf (listOf h)), weeks-held, v .inside, n)
-
-    over-length : (s array : List ℕ) → length s ≤ length array → length (over s array) ≡ length array
-    unfolding over
-    over-length s array l = simp (length-append, length-drop) (omega arith)
-
-    over-front : (s array : List ℕ) → take (length s) (over s array) ≡ s
-    unfolding over
-    over-front s array = take-at s (drop (length s) array) (length s) refl
 
     list-fits : length (inserted x (listOf h)) ≤ length (h .words)
     list-fits = omega (arith, inserted-length x (listOf h), list-length, room-left)

@@ -6,4 +6,5 @@ pub mod Listing
 pub mod Loop
 pub mod Steps
 pub mod Tables
+pub mod Rules
 pub mod Runs

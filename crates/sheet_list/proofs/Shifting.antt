@@ -7,7 +7,7 @@ use native.Mathlib.Omega.{arith}
 use lib.ListN.{length, getD, take, drop, set, length-take, length-drop, length-append, length-set, List·getD-append, take-append-drop}
 use lib.Seq.{length-take-le, split-at, take-suc, drop-cons, set-at, getD-take, take-take, take-nil, append-snoc, set-append-left}
 use Rattle.sheet_list.specs.Adding.{over}
-use Rattle.sheet_list.specs.Private.{putAt}
+use Rattle.sheet_list.specs.Private.{putAt, Shifted}
 
 drop-take : (a c : ℕ) (l : List ℕ) → drop a (take c l) ≡ take (c - a) (drop a l)
 drop-take zero c l = let e : c - 0 ≡ c = omega arith in rw e
@@ -16,20 +16,16 @@ drop-take (suc a) zero (x ∷ l) = let e : 0 - suc a ≡ 0 = omega arith in rw e
 drop-take (suc a) (suc c) [] = sym (take-nil (suc c - suc a))
 drop-take (suc a) (suc c) (x ∷ l) = let e : suc c - suc a ≡ c - a = omega arith in rw e (drop-take a c l)
 
--- the words from place i on are moved up; what stands at i is still the old one
-rest : List ℕ → ℕ → ℕ → List ℕ
+abbrev rest : List ℕ → ℕ → ℕ → List ℕ
 rest w c i = take (c - i) (drop i w) ++ drop (suc c) w
-
-pub Shifted : List ℕ → ℕ → ℕ → List ℕ → Type 0
-Shifted w c i now = now ≡ take i w ++ (getD w i 0 ∷ rest w c i)
 
 module _ (w : List ℕ) (c : ℕ) (h : c < length w) where
   pub start : Shifted w c c w
-  unfolding Shifted rest
+  unfolding Shifted
   start = let e : c - c ≡ 0 = omega arith in rw e (split-at w c 0 h)
 
   moved : (now : List ℕ) (j : ℕ) → suc j ≤ c → Shifted w c (suc j) now → Shifted w c j (set now (suc j) (getD now j 0))
-  unfolding Shifted rest
+  unfolding Shifted
   moved now j l e =
       let a : getD now j 0 ≡ getD w j 0
       = ap (λ (n : List ℕ). getD n j 0) e
@@ -46,13 +42,13 @@ module _ (w : List ℕ) (c : ℕ) (h : c < length w) where
   move now (suc j) p l e = let f : suc j - 1 ≡ j = omega arith in rw f (moved now j l e)
 
   pub shifted-length : (now : List ℕ) (i : ℕ) → i ≤ c → Shifted w c i now → length now ≡ length w
-  unfolding Shifted rest
+  unfolding Shifted
   shifted-length now i l e =
       ap length e
       ∙ simp (length-append, length-take, length-drop) (omega arith)
 
   pub done : (now : List ℕ) (at x : ℕ) → at ≤ c → Shifted w c at now → set now at x ≡ over (putAt at x (take c w)) w
-  unfolding Shifted rest over putAt
+  unfolding Shifted over putAt
   done now at x l e =
       let a : set now at x ≡ take at w ++ (x ∷ (take (c - at) (drop at w) ++ drop (suc c) w))
       = ap (λ (n : List ℕ). set n at x) e ∙ set-at (take at w) _ _ x at (length-take-le at w (omega arith)) in

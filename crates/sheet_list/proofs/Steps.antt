@@ -87,8 +87,8 @@ module _ (i : ℕ) (f : SheetFields) (h : Held) where
 -- ---- whatever becomes of a sheet: it is refused and all is left as it was, or its word is added
 
 module _ (P : Outcome → Type 0) (i : ℕ) (f : SheetFields) (h : Held) (refused : (n p : ℕ) → 0 < n → P (outcome n p i h))
-    (added : (x : ℕ) → isPacking x ≡ true → isHeld h ≡ true → isFull x h ≡ false → P (outcome 0 0 (suc i) (with x h))) where
-  word-cases : (x : ℕ) → isPacking x ≡ true → P (addingWord i x h)
+    (added : (x : ℕ) → packing f ≡ Word x → isHeld h ≡ true → isFull x h ≡ false → P (outcome 0 0 (suc i) (with x h))) where
+  word-cases : (x : ℕ) → packing f ≡ Word x → P (addingWord i x h)
   unfolding addingWord
   word-cases x p =
       either P (isHeld h)
@@ -102,7 +102,7 @@ module _ (P : Outcome → Type 0) (i : ℕ) (f : SheetFields) (h : Held) (refuse
       go : (p : Packed) → packing f ≡ p → P (addingPacked i p h)
       go NoDay e = refused 13 0 (omega arith)
       go (Bad k) e = refused 2 k (omega arith)
-      go (Word x) e = word-cases x (packing-word f e)
+      go (Word x) e = word-cases x e
 
 -- the arrays keep their lengths
 pub record Lengths (h g : Held) : Type 0 where
@@ -115,7 +115,7 @@ adding-lengths i f h =
     (λ n p l. record { words = refl; table = refl })
     (λ x p e r.
     let v = sound h e in
-    let w = with-sound h v x r p in
+    let w = with-sound h v x r (packing-word f p) in
     record { words = with-words h v x r; table = w .size ∙ sym (v .size) })
 
 -- a sheet that is added is counted, and both arrays hold what they should
@@ -138,7 +138,7 @@ adding-taken i f h =
     record {
       place = refl;
       index = refl;
-      holds = is-held (with x h) (with-sound h v x r p);
+      holds = is-held (with x h) (with-sound h v x r (packing-word f p));
       count = with-count x h v;
     })
 

@@ -13,8 +13,9 @@ use Rattle.laws.proofs.Cases.{clash}
 use Rattle.sheets.specs.Packing.{bits, packed}
 use Rattle.sheet_list.specs.Ascending.{ascendingFrom, below}
 use Rattle.sheet_list.specs.Private.{putAt, week, countedIn, weekIn, isWeekAt}
+use Rattle.sheet_list.specs.Rules.{Rising}
 use Rattle.sheet_list.specs.Weeks.{Tally, tally, counted, tallyWidths, tallyWord, hasWeek}
-use Rattle.sheet_list.proofs.Counting.{Cases, cases, counted-less, counted-same, counted-more, Rising, Most}
+use Rattle.sheet_list.proofs.Counting.{Cases, cases, counted-less, counted-same, counted-more, Most}
 use Rattle.sheet_list.proofs.Counting.Cases.{less, same, more}
 use Rattle.sheet_list.proofs.Ranks.{first-rest}
 
@@ -184,4 +185,4 @@ unfolding ascendingFrom Rising Most
 table-ascends n b low [] h l r m = refl
 table-ascends n b low (t ∷ ts) h l r m =
     rw (le-leb b (tallyWord t) (omega (arith, word-is t, r .0)))
-    (table-ascends n (tallyWord t) (suc (t .week)) ts h (omega (arith, word-is t, m .0)) (r .1) (m .1))
+    (table-ascends n (tallyWord t) (suc (t .week)) ts h (omega (arith, word-is t, m .0)) (r .2) (m .1))

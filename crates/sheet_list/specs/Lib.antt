@@ -2,4 +2,5 @@
 pub mod Adding
 pub mod Ascending
 pub mod Private
+pub mod Rules
 pub mod Weeks

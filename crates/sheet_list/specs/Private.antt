@@ -1,5 +1,5 @@
 -- What the code passes through on the way: no part of a promise of the crate.
-use Prim.Native.Nat.{ℕ, suc, _+_, _*_, _/_, _^_, _≤_, _<_}
+use Prim.Native.Nat.{ℕ, suc, _+_, _-_, _*_, _/_, _^_, _≤_, _<_}
 use mathlib.Core.Bool.{Bool, true, false, cond, _&&_, _||_}
 use mathlib.Core.List.{List, [], _∷_, _++_}
 use mathlib.Core.Path.{_≡_}
@@ -12,6 +12,14 @@ use Rattle.sheet_list.specs.Ascending.{ascending}
 -- a word put at a place of a list
 unfoldable pub putAt : ℕ → ℕ → List ℕ → List ℕ
 putAt at x s = take at s ++ (x ∷ drop at s)
+
+-- the words of a list from place i to place c are moved up by one; what stands at i is still the old one
+unfoldable pub Shifted : List ℕ → ℕ → ℕ → List ℕ → Type 0
+Shifted w c i now = now ≡ take i w ++ (getD w i 0 ∷ (take (c - i) (drop i w) ++ drop (suc c) w))
+
+-- moving on from one place to another, whatever the list was
+unfoldable pub Moves : ℕ → ℕ → ℕ → List ℕ → List ℕ → Type 0
+Moves c from to before after = (w : List ℕ) → c < length w → Shifted w c from before → Shifted w c to after
 
 -- how many words at the front are of a week
 unfoldable pub weekRun : ℕ → List ℕ → ℕ

@@ -1,0 +1,131 @@
+-- What is owed of lists of sheets and their tables holds.
+-- Assumes nothing.
+use Prim.Native.Nat.{ℕ, zero, suc, _+_}
+use mathlib.Core.Bool.{Bool, true, false, cond}
+use mathlib.Core.List.{List, [], _∷_}
+use mathlib.Core.Path.{_≡_, refl, sym, ap, _∙_}
+use native.Mathlib.Omega.{arith}
+use borrow.Author.Tests.{eq-eqb}
+use lib.Dec.{eqb, leb}
+use lib.ListN.{length, drop}
+use Rattle.laws.proofs.Cases.{picked, clash}
+use Rattle.calendar.specs.declared.Date.{Date}
+use Rattle.calendar.specs.Calendar.{isoYear, isoWeek}
+use Rattle.sheets.specs.Packing.{bits, packed}
+use Rattle.sheets.specs.Sheets.{weekOf, weekWidths, weekOfDate, packing}
+use Rattle.sheets.specs.declared.Packed.the-variants.{Word, NoDay, Bad}
+use Rattle.sheets.specs.declared.SheetFields.{SheetFields}
+use Rattle.values.specs.Values.{dayNumberOf}
+use Rattle.sheet_list.specs.Adding.{Held, listOf, isHeld, isFull, with, Outcome, adding}
+use Rattle.sheet_list.specs.Ascending.{inserted}
+use Rattle.sheet_list.specs.Rules.{howMany, ofWeek, sheetsFor, ListRules, Past, AddRules}
+use Rattle.sheet_list.specs.Weeks.{Tally, tally, counted, weeksOf, tallyWidths, tallyWord, tableOf}
+use Rattle.sheet_list.proofs.Counting.{Cases, cases, counted-less, counted-same, counted-more, weeks-rise}
+use Rattle.sheet_list.proofs.Counting.Cases.{less, same, more}
+use Rattle.sheet_list.proofs.Holding.{over-front, over-past}
+use Rattle.sheet_list.proofs.Ranks.{inserted-ascends}
+use Rattle.sheet_list.proofs.Steps.{sheet-undated, sheet-bad, sheet-word, word-unheld, word-full, word-added, sheet-cases}
+use Rattle.sheet_list.proofs.Steps.{adding-taken, adding-refused}
+
+-- ---- counting words
+
+one-more : (b : Bool) (n : ℕ) → cond b (suc n) n ≡ n + cond b 1 0
+one-more true n = omega arith
+one-more false n = omega arith
+
+with-more : (b : Bool) (n c : ℕ) → cond b (suc (n + c)) (n + c) ≡ cond b (suc n) n + c
+with-more true n c = omega arith
+with-more false n c = omega arith
+
+inserted-many : (p : ℕ → Bool) (x : ℕ) (s : List ℕ) → howMany p (inserted x s) ≡ howMany p s + cond (p x) 1 0
+unfolding howMany inserted
+inserted-many p x [] = one-more (p x) 0
+inserted-many p x (y ∷ s) =
+    picked (λ (r : List ℕ). howMany p r ≡ howMany p (y ∷ s) + cond (p x) 1 0) (leb x y) (one-more (p x) (howMany p (y ∷ s)))
+    (rw (inserted-many p x s) (with-more (p y) (howMany p s) (cond (p x) 1 0)))
+
+-- ---- counting sheets
+
+first-of : (b : Bool) (n m : ℕ) → cond b (suc n + m) m ≡ cond b (n + m) m + cond b 1 0
+first-of true n m = omega arith
+first-of false n m = omega arith
+
+new-of : (b : Bool) (m : ℕ) → cond b (1 + m) m ≡ m + cond b 1 0
+new-of true m = omega arith
+new-of false m = omega arith
+
+later-of : (b : Bool) (n m c : ℕ) → cond b (n + (m + c)) (m + c) ≡ cond b (n + m) m + c
+later-of true n m c = omega arith
+later-of false n m c = omega arith
+
+counted-for : (k j : ℕ) (ts : List Tally) → sheetsFor k (counted j ts) ≡ sheetsFor k ts + cond (eqb j k) 1 0
+unfolding sheetsFor
+counted-for k j [] = unfold counted in new-of (eqb j k) 0
+counted-for k j (t ∷ ts) = go (counted-for k j ts) (cases j (t .week))
+  where
+    go : sheetsFor k (counted j ts) ≡ sheetsFor k ts + cond (eqb j k) 1 0 → Cases j (t .week)
+        → sheetsFor k (counted j (t ∷ ts)) ≡ sheetsFor k (t ∷ ts) + cond (eqb j k) 1 0
+    go later (less g) = rw (counted-less j t ts g) (new-of (eqb j k) (sheetsFor k (t ∷ ts)))
+    go later (same g) = rw (counted-same j t ts g, ← g) (first-of (eqb j k) (t .sheets) (sheetsFor k ts))
+    go later (more g) =
+        rw (counted-more j t ts g, later) (later-of (eqb (t .week) k) (t .sheets) (sheetsFor k ts) (cond (eqb j k) 1 0))
+
+weeks-count : (k : ℕ) (s : List ℕ) → sheetsFor k (weeksOf s) ≡ ofWeek k s
+weeks-count k [] = unfold sheetsFor weeksOf howMany in refl
+weeks-count k (x ∷ s) =
+    unfold weeksOf howMany in
+    rw (counted-for k (weekOf x) (weeksOf s), weeks-count k s) (sym (one-more (eqb (weekOf x) k) (ofWeek k s)))
+
+table-bits : (t : Date) (n : ℕ)
+    → tallyWord (tally (weekOfDate t) n) ≡ packed (14 ∷ 6 ∷ 44 ∷ []) (isoYear (dayNumberOf t) ∷ isoWeek (dayNumberOf t) ∷ n ∷ [])
+unfolding tallyWord tallyWidths weekOfDate weekWidths packed bits
+table-bits t n = omega arith
+
+pub list-rules : ListRules
+list-rules =
+    record {
+      kept = λ x y s. inserted-many (λ z. eqb z y) x s;
+      ascends = λ x s a. inserted-ascends 0 x s (omega arith) a;
+      inOrder = weeks-rise;
+      counts = weeks-count;
+      bits = table-bits;
+    }
+
+-- ---- what becomes of a sheet
+
+list-then : (i x : ℕ) (f : SheetFields) (h : Held) → packing f ≡ Word x → adding i f h .number ≡ 0
+    → listOf (adding i f h .held) ≡ inserted x (listOf h)
+list-then i x f h e =
+    sheet-cases (λ o. o .number ≡ 0 → listOf (o .held) ≡ inserted x (listOf h)) i f h
+    (λ n p l z. absurd (omega (arith, z)))
+    (λ y g a b z.
+    let w : y ≡ x = cc in
+    unfold with in over-front (inserted y (listOf h)) (h .words) ∙ ap (λ (u : ℕ). inserted u (listOf h)) w)
+
+past-then : (i : ℕ) (f : SheetFields) (h : Held) → Past h (adding i f h .held)
+past-then i f h =
+    sheet-cases (λ o. Past h (o .held)) i f h
+    (λ n p l. record { words = refl; table = refl })
+    (λ x p a b. unfold with in
+    record {
+      words = over-past (inserted x (listOf h)) (h .words);
+      table = over-past (tableOf (inserted x (listOf h))) (h .table);
+    })
+
+number : Outcome → ℕ
+number o = o .number
+
+pub add-rules : AddRules
+add-rules =
+    record {
+      undated = λ i f h e. sym (ap (λ (o : Outcome). o .number) (sheet-undated i f h e));
+      bad = λ i p f h e.
+          (sym (ap (λ (o : Outcome). o .number) (sheet-bad i f h e)), sym (ap (λ (o : Outcome). o .place) (sheet-bad i f h e)));
+      unheld = λ i x f h e a. sym (ap (λ (o : Outcome). o .number) (word-unheld i x h a ∙ sheet-word i f h e));
+      full = λ i x f h e a b. sym (ap (λ (o : Outcome). o .number) (word-full i x h a b ∙ sheet-word i f h e));
+      added = λ i x f h e a b. sym (ap (λ (o : Outcome). o .number) (word-added i x h a b refl ∙ sheet-word i f h e));
+      untouched = λ i f h n. adding-refused i f h n .held;
+      holds = λ i f h z. adding-taken i f h z .holds;
+      list = list-then;
+      past = past-then;
+    }
