@@ -18,7 +18,7 @@
  * The functions are pure: they keep nothing, allocate nothing, read no locale, no time zone and no clock, and have no state of their own.
  * Any number of threads may call them at once, on arrays of their own. A call takes at most 40 KB of stack (by opened elements 2 KB, and 4
  * KB where a reason is asked for), and it always returns. What takes longest is a reading by the plain engine, which examines up to
- * 3,652,059 days one by one (see "Engines").
+ * 3,652,059 days one by one (see "Engines"), and a call that adds many thousand sheets to a list (see "Lists of sheets").
  *
  * The calendar is Gregorian from 0001-01-01 to 9999-12-31. The conversions of a format are
  *   %Y %C %y %m %b %h %B %d %e %j %u %w %a %A %U %W %G %g %V %H %k %I %l %p %P %M %S
@@ -58,6 +58,11 @@ extern "C" {
 #define LARUSQEM_MOMENT_WORDS 8
 #define LARUSQEM_READING_WORDS 20
 #define LARUSQEM_REASON_WORDS 33
+/* the words of a sheet, for the functions on words */
+#define LARUSQEM_SHEET_WORDS 11
+/* the most words of a list's array, and how many its table of weeks has: no more and no fewer */
+#define LARUSQEM_MOST_SHEETS 65536
+#define LARUSQEM_WEEKS 1024
 
 /* ---- Numbers that come back (RULES 3)
  *
@@ -66,7 +71,7 @@ extern "C" {
  *                                            reader: first unread offset of the text        zone offset, each said or
  *                                                                                           unsaid; forms of names
  *   1    format over 1,024 bytes             0
- *   2    moment not valid                    first bad field: 1 year, 2 month, 3 day,
+ *   2    moment or sheet not valid           first bad field: 1 year, 2 month, 3 day,
  *                                            4 hour, 5 minute, 6 second, 7 zone offset
  *   3    conversion unknown or unfinished,   offset of the first bad % in the format
  *        or its flag or width not taken,
@@ -83,10 +88,15 @@ extern "C" {
  *   11   more days to examine than           the budget
  *        the budget
  *   12   %s with the zone offset unsaid      offset of the first %s in the format
+ *   13   day of the sheet unsaid             0
+ *   14   list full: its array, or 1,024      0
+ *        weeks and not the sheet's
+ *   15   what is lent is no list             0
+ *        with its table
  *
  * The writer judges 1, 2, 3, 12, 4 in this order; the reader 1, 5, 3, then 6, 7, 8 from left to right, then 11, 9 or 10 for the day, then
  * 9 or 10 for the hour. Text left over is no refusal: a text was read whole only where the place is its length. 11 comes only where a
- * budget is given.
+ * budget is given. Adding to a list judges 13, 2, 15, 14 in this order; the place of its 0 is 0.
  */
 enum larusqem_number {
     LARUSQEM_DONE = 0,
@@ -101,7 +111,10 @@ enum larusqem_number {
     LARUSQEM_NONE_AGREES = 9,
     LARUSQEM_TWO_AGREE = 10,
     LARUSQEM_OVER_BUDGET = 11,
-    LARUSQEM_NO_OFFSET = 12
+    LARUSQEM_NO_OFFSET = 12,
+    LARUSQEM_NO_DAY = 13,
+    LARUSQEM_LIST_FULL = 14,
+    LARUSQEM_BAD_LIST = 15
 };
 
 /* what a number means, for a message: words without a capital or a full stop */
@@ -113,7 +126,7 @@ static inline const char *larusqem_sentence(uint32_t number)
     case LARUSQEM_FORMAT_TOO_LONG:
         return "the format has more than 1,024 bytes";
     case LARUSQEM_BAD_MOMENT:
-        return "the moment is not valid";
+        return "the moment or the sheet is not valid";
     case LARUSQEM_BAD_CONVERSION:
         return "a conversion of the format is unknown, unfinished or not for reading, or its flag or width is not taken";
     case LARUSQEM_BUFFER_TOO_SMALL:
@@ -134,6 +147,12 @@ static inline const char *larusqem_sentence(uint32_t number)
         return "more days would have to be examined than the budget allows";
     case LARUSQEM_NO_OFFSET:
         return "the seconds from 1970 are to be written, and the zone offset is not said";
+    case LARUSQEM_NO_DAY:
+        return "the day of the sheet is not said";
+    case LARUSQEM_LIST_FULL:
+        return "the list is full, or 1,024 weeks are held and the sheet's is not among them";
+    case LARUSQEM_BAD_LIST:
+        return "what is lent is no list of sheets with its table of weeks";
     default:
         return "no number of this library";
     }
@@ -330,6 +349,78 @@ struct larusqem_options {
     struct larusqem_reason *reason;
 };
 
+/* ---- Lists of sheets (RULES 11)
+ *
+ * A sheet is a dated page: a day, and hour, minute, second and zone offset, each said or unsaid. It is packed into a word of 64 bits: from
+ * the most significant on
+ *   year 14, month 4, day 5; hour said 1, hour 5; minute said 1, minute 6; second said 1, second 6; offset said 1, offset + 1439 12; zero 8
+ * where what is unsaid is 0. A word is the packing of a sheet exactly if it unpacks to a valid sheet that packs to it. The order of words
+ * is the order of dates, then of the rest as packed. 1934-03-05 alone is 0x1e38ca0000000000; no packing is 0.
+ *
+ * A list is such words in an array that the caller lends, ascending, equal ones allowed. Beside it the caller lends a table of 1,024 words.
+ * It has a word for each ISO week that has sheets, in order, always as worked out afresh from the list: from the most significant bit on
+ *   ISO year 14, week 6, sheets 44
+ * Each array has a count of the words that it holds. Words past a count are not judged, and past the new one not changed: an empty list is
+ * two counts of 0, whatever the arrays hold.
+ *
+ * Adding a sheet keeps every word held and puts in the sheet's own once more, and nothing else; the table is kept with it. It judges, in
+ * this order,
+ *   13   the day is unsaid
+ *   2    a field that is said is not valid; the place is the first such field
+ *   15   what is lent is no list with its table: the list's array has over 65,536 words, the table not 1,024, a count lies past the end of
+ *        its array, a word of the list is no packing, the list is not ascending, or the table is not as the list gives
+ *   14   the array is full, or 1,024 weeks are held and the sheet's is not among them
+ * and a refusal leaves both arrays and both counts untouched.
+ *
+ * Many sheets are added by one call as if one after another, up to the first that is refused, whose index is given; those before it stay
+ * added. Judging goes over the whole list, some 20 ns for a word; such a call judges it once, and with no sheets not at all. So 65,536
+ * sheets in any order are added in less than 2 s, where a call for each takes some 40.
+ */
+
+/*
+ * A sheet: its date, 0 0 0 where the day is unsaid (then it can be added to no list), and hour, minute, second and zone offset, each said
+ * where the member before it is not 0; what is unsaid is not looked at. The ranges are those of a moment. Who sets one member after the
+ * other sets all four that say; an initialiser that ends before them leaves them 0: {{1934, 3, 5}} is a sheet of that day alone.
+ */
+struct larusqem_sheet {
+    struct larusqem_date date;
+    uint32_t hour_said;
+    uint32_t hour;
+    uint32_t minute_said;
+    uint32_t minute;
+    uint32_t second_said;
+    uint32_t second;
+    uint32_t offset_said;
+    int32_t offset;
+};
+
+/*
+ * What is lent: the list's array, of at most LARUSQEM_MOST_SHEETS words, and the table's, of LARUSQEM_WEEKS, with their lengths, and how
+ * many words of each are held. {words, words_length, table, LARUSQEM_WEEKS, 0, 0} is an empty list. The arrays overlap nothing.
+ */
+struct larusqem_list {
+    uint64_t *words;
+    size_t words_length;
+    uint64_t *table;
+    size_t table_length;
+    uint32_t sheet_count;
+    uint32_t week_count;
+};
+
+/* how adding many sheets ended: by the refusal of the sheet with this index, or by 0 and 0; the index is then how many there were */
+struct larusqem_added {
+    uint32_t number;
+    uint32_t place;
+    uint32_t index;
+};
+
+/* an ISO week with sheets: 1934, 10 and how many */
+struct larusqem_week {
+    uint32_t year;
+    uint32_t week;
+    uint64_t sheets;
+};
+
 /* ---- The functions of the library, on words
  *
  * They are what is proved; the functions below hand them structs. They take a moment, and leave a reading or a reason, as words in the
@@ -353,6 +444,23 @@ void larusqem_explain_words(const uint8_t *format, size_t format_length, const u
                             uint32_t reason[LARUSQEM_REASON_WORDS]);
 void larusqem_explain_read_words(const uint32_t *elements, size_t elements_length, const uint8_t *text, size_t text_length,
                                  uint32_t reason[LARUSQEM_REASON_WORDS]);
+
+/*
+ * The same of lists. A sheet is words in the order of the struct's members; many are one after the other, and words that are left over
+ * after the last eleven are no sheet.
+ *   pack     leaves the sheet's word, 0 where it is refused, and returns number * 2^32 + place: 0, 13 or 2
+ *   unpack   leaves the sheet and returns 1, or leaves eleven zeros and returns 0 where the word is no packing
+ *   week     leaves ISO year, week and sheets of a word of the table, by the bits of any word
+ *   list     returns 0, or 15 where what is lent is no list with its table; it takes the two counts, sheets and weeks
+ *   add      adds sheets to what is lent; it takes and leaves the two counts, and leaves number, place and index
+ */
+uint64_t larusqem_pack_words(const uint32_t sheet[LARUSQEM_SHEET_WORDS], uint64_t word[1]);
+uint32_t larusqem_unpack_words(uint64_t word, uint32_t sheet[LARUSQEM_SHEET_WORDS]);
+void larusqem_week_words(uint64_t word, uint64_t week[3]);
+uint32_t larusqem_list_words(const uint64_t *words, size_t words_length, const uint64_t *table, size_t table_length,
+                             const uint32_t counts[2]);
+void larusqem_add_words(const uint32_t *sheets, size_t sheets_length, uint64_t *words, size_t words_length, uint64_t *table,
+                        size_t table_length, uint32_t counts[2], uint32_t added[3]);
 
 /* Each member is the word of its place, and nothing lies between or after them. All members are uint32_t, or int32_t, which may be reached
    as uint32_t too. So the library may reach each of them, and a pointer to the struct serves as one to its words. */
@@ -407,6 +515,22 @@ LARUSQEM_ASSERT(larusqem_extent_is_its_words, sizeof(struct larusqem_extent) == 
 LARUSQEM_WORD(larusqem_reason, 0, part);
 LARUSQEM_ASSERT(larusqem_reason_words_are_from_word_1, offsetof(struct larusqem_reason, words) == sizeof(uint32_t));
 LARUSQEM_ASSERT(larusqem_reason_is_its_words, sizeof(struct larusqem_reason) == LARUSQEM_REASON_WORDS * sizeof(uint32_t));
+
+LARUSQEM_ASSERT(larusqem_sheet_date_is_from_word_0, offsetof(struct larusqem_sheet, date) == 0);
+LARUSQEM_WORD(larusqem_sheet, 3, hour_said);
+LARUSQEM_WORD(larusqem_sheet, 4, hour);
+LARUSQEM_WORD(larusqem_sheet, 5, minute_said);
+LARUSQEM_WORD(larusqem_sheet, 6, minute);
+LARUSQEM_WORD(larusqem_sheet, 7, second_said);
+LARUSQEM_WORD(larusqem_sheet, 8, second);
+LARUSQEM_WORD(larusqem_sheet, 9, offset_said);
+LARUSQEM_WORD(larusqem_sheet, 10, offset);
+LARUSQEM_ASSERT(larusqem_sheet_is_its_words, sizeof(struct larusqem_sheet) == LARUSQEM_SHEET_WORDS * sizeof(uint32_t));
+
+LARUSQEM_WORD(larusqem_added, 0, number);
+LARUSQEM_WORD(larusqem_added, 1, place);
+LARUSQEM_WORD(larusqem_added, 2, index);
+LARUSQEM_ASSERT(larusqem_added_is_its_words, sizeof(struct larusqem_added) == 3 * sizeof(uint32_t));
 
 #undef LARUSQEM_WORD
 #undef LARUSQEM_ASSERT
@@ -550,6 +674,107 @@ static inline struct larusqem_reading larusqem_read(const uint32_t *elements, si
     struct larusqem_options skipping = {LARUSQEM_SKIPPING, 0, NULL};
 
     return larusqem_read_with(elements, elements_length, text, text_length, skipping);
+}
+
+/* ---- Sheets and lists (RULES 11; see "Lists of sheets" above) */
+
+/* the sheet of a reading: what it says; of one that is refused all members are 0, whatever it shows, so that its day is unsaid */
+static inline struct larusqem_sheet larusqem_sheet_of(struct larusqem_reading reading)
+{
+    struct larusqem_sheet sheet = {{0, 0, 0}, 0, 0, 0, 0, 0, 0, 0, 0};
+
+    if (reading.number != LARUSQEM_DONE) return sheet;
+    sheet.date.year = reading.year;
+    sheet.date.month = reading.month;
+    sheet.date.day = reading.day;
+    sheet.hour_said = reading.hour_said;
+    sheet.hour = reading.hour;
+    sheet.minute_said = reading.minute_said;
+    sheet.minute = reading.minute;
+    sheet.second_said = reading.second_said;
+    sheet.second = reading.second;
+    sheet.offset_said = reading.offset_said;
+    sheet.offset = reading.offset;
+    return sheet;
+}
+
+/* Packs a sheet into a word, which is 0 where it is refused. Answers 13, then 2, or 0 with the place 0. */
+static inline struct larusqem_answer larusqem_pack(struct larusqem_sheet sheet, uint64_t *word)
+{
+    return larusqem_answer_of(larusqem_pack_words((const uint32_t *)&sheet, word));
+}
+
+/* the sheet that a word is the packing of; all members 0 where it is no packing: the year tells, which is 0 in no other sheet here */
+static inline struct larusqem_sheet larusqem_unpack(uint64_t word)
+{
+    struct larusqem_sheet sheet;
+
+    larusqem_unpack_words(word, (uint32_t *)&sheet);
+    return sheet;
+}
+
+/* the week of a word of the table */
+static inline struct larusqem_week larusqem_week_of(uint64_t word)
+{
+    uint64_t fields[3];
+    struct larusqem_week week;
+
+    larusqem_week_words(word, fields);
+    week.year = (uint32_t)fields[0];
+    week.week = (uint32_t)fields[1];
+    week.sheets = fields[2];
+    return week;
+}
+
+/* Judges what is lent, as adding does: 0, or 15 where it is no list with its table. */
+static inline uint32_t larusqem_judge_list(const struct larusqem_list *list)
+{
+    uint64_t no_word = 0, no_week = 0;
+    uint32_t counts[2];
+
+    counts[0] = list->sheet_count;
+    counts[1] = list->week_count;
+    return larusqem_list_words(list->words_length ? list->words : &no_word, list->words_length, list->table_length ? list->table : &no_week,
+                               list->table_length, counts);
+}
+
+/*
+ * Adds sheets to a list and its table, one after another up to the first that is refused. Answers, judged for each sheet in this order: 13;
+ * 2 with the first bad field; 15; 14; and where none is refused 0. The index is that of the refused sheet, or else how many there were;
+ * all sheets before it are added, and no other.
+ */
+static inline struct larusqem_added larusqem_add_sheets(struct larusqem_list *list, const struct larusqem_sheet *sheets, size_t count)
+{
+    struct larusqem_sheet no_sheet = {{0, 0, 0}, 0, 0, 0, 0, 0, 0, 0, 0};
+    uint64_t no_word = 0, no_week = 0;
+    uint32_t counts[2];
+    struct larusqem_added added;
+
+    counts[0] = list->sheet_count;
+    counts[1] = list->week_count;
+    larusqem_add_words((const uint32_t *)(count ? sheets : &no_sheet), LARUSQEM_SHEET_WORDS * count,
+                       list->words_length ? list->words : &no_word, list->words_length, list->table_length ? list->table : &no_week,
+                       list->table_length, counts, (uint32_t *)&added);
+    list->sheet_count = counts[0];
+    list->week_count = counts[1];
+    return added;
+}
+
+/* The same of one sheet. Judging goes over the whole list, so many are better added by one call. */
+static inline struct larusqem_answer larusqem_add_sheet(struct larusqem_list *list, struct larusqem_sheet sheet)
+{
+    struct larusqem_added added = larusqem_add_sheets(list, &sheet, 1);
+    struct larusqem_answer answer;
+
+    answer.number = added.number;
+    answer.place = added.place;
+    return answer;
+}
+
+/* The same of the sheet of a reading: larusqem_add_reading(&list, larusqem_strptime(..)). One that is refused says no day, and is 13. */
+static inline struct larusqem_answer larusqem_add_reading(struct larusqem_list *list, struct larusqem_reading reading)
+{
+    return larusqem_add_sheet(list, larusqem_sheet_of(reading));
 }
 
 /* ---- The calendar (RULES 2). The functions of a date answer 0 where the three are no date of the calendar. */
