@@ -49,13 +49,13 @@ static struct larusqem_answer write_opened(const char *format, struct larusqem_m
 
 static void sentences(void)
 {
-    for (uint32_t a = 0; a <= LARUSQEM_NO_OFFSET + 1; a++) {
+    for (uint32_t a = 0; a <= LARUSQEM_BAD_LIST + 1; a++) {
         CHECK(larusqem_sentence(a)[0] != '\0' && strchr(larusqem_sentence(a), '%') == NULL);
         for (uint32_t b = 0; b < a; b++)
             CHECK(strcmp(larusqem_sentence(a), larusqem_sentence(b)) != 0);
     }
     CHECK(strcmp(larusqem_sentence(LARUSQEM_DONE), "done") == 0);
-    CHECK(strcmp(larusqem_sentence(UINT32_MAX), larusqem_sentence(LARUSQEM_NO_OFFSET + 1)) == 0);
+    CHECK(strcmp(larusqem_sentence(UINT32_MAX), larusqem_sentence(LARUSQEM_BAD_LIST + 1)) == 0);
 }
 
 static void writing(void)
@@ -563,12 +563,285 @@ static void reasons(void)
     CHECK(r.number == LARUSQEM_BAD_CONVERSION && r.place == 0 && shown(&reason)[0] == '\0');
 }
 
+/* a sheet beside its word, by the bits of each field */
+struct packing {
+    struct larusqem_sheet sheet;
+    uint64_t word;
+};
+
+static uint64_t day_word(uint32_t year, uint32_t month, uint32_t day)
+{
+    return (uint64_t)year << 50 | (uint64_t)month << 46 | (uint64_t)day << 41;
+}
+
+static const uint64_t hour_said = (uint64_t)1 << 40, minute_said = (uint64_t)1 << 34, second_said = 1u << 27, offset_said = 1u << 20;
+
+static struct larusqem_sheet day_sheet(uint32_t year, uint32_t month, uint32_t day)
+{
+    struct larusqem_sheet sheet = {{year, month, day}, 0, 0, 0, 0, 0, 0, 0, 0};
+
+    return sheet;
+}
+
+static int same_sheet(struct larusqem_sheet a, struct larusqem_sheet b) { return memcmp(&a, &b, sizeof a) == 0; }
+
+static void packing(void)
+{
+    const uint64_t night = day_word(1934, 3, 5);
+    const struct packing good[] = {
+        {{{1934, 3, 5}, 0, 0, 0, 0, 0, 0, 0, 0}, night},
+        {{{1, 1, 1}, 1, 0, 0, 0, 0, 0, 0, 0}, day_word(1, 1, 1) + hour_said},
+        {{{1934, 3, 5}, 1, 7, 0, 0, 0, 0, 0, 0}, night + hour_said + ((uint64_t)7 << 35)},
+        {{{1934, 3, 5}, 0, 0, 1, 8, 0, 0, 0, 0}, night + minute_said + ((uint64_t)8 << 28)},
+        {{{1934, 3, 5}, 0, 0, 0, 0, 1, 9, 0, 0}, night + second_said + (9u << 21)},
+        {{{1934, 3, 5}, 0, 0, 0, 0, 0, 0, 1, -1439}, night + offset_said},
+        {{{1934, 3, 5}, 0, 0, 0, 0, 0, 0, 1, 0}, night + offset_said + (1439u << 8)},
+        {{{1934, 3, 5}, 1, 7, 1, 8, 1, 9, 1, 90},
+         night + hour_said + ((uint64_t)7 << 35) + minute_said + ((uint64_t)8 << 28) + second_said + (9u << 21) + offset_said +
+             (1529u << 8)},
+        {{{9999, 12, 31}, 1, 23, 1, 59, 1, 60, 1, 1439},
+         day_word(9999, 12, 31) + hour_said + ((uint64_t)23 << 35) + minute_said + ((uint64_t)59 << 28) + second_said + (60u << 21) +
+             offset_said + (2878u << 8)}};
+    static const struct larusqem_sheet bad[7] = {
+        {{0, 13, 32}, 1, 24, 1, 60, 1, 61, 1, 1440},    {{1900, 13, 32}, 1, 24, 1, 60, 1, 61, 1, 1440},
+        {{1900, 2, 29}, 1, 24, 1, 60, 1, 61, 1, 1440},  {{1900, 2, 28}, 1, 24, 1, 60, 1, 61, 1, 1440},
+        {{1900, 2, 28}, 1, 23, 1, 60, 1, 61, 1, -1440}, {{1900, 2, 28}, 1, 23, 1, 59, 1, 61, 1, -1440},
+        {{1900, 2, 28}, 1, 23, 1, 59, 1, 60, 1, -1440}};
+    /* no day, a bad one, fields that are not said and not 0, numbers out of range, each of the zero bits */
+    const uint64_t none[] = {0,
+                             hour_said,
+                             day_word(0, 3, 5),
+                             day_word(1934, 2, 29),
+                             day_word(10000, 3, 5),
+                             night + ((uint64_t)7 << 35),
+                             night + hour_said + ((uint64_t)24 << 35),
+                             night + ((uint64_t)1 << 28),
+                             night + minute_said + ((uint64_t)60 << 28),
+                             night + (1u << 21),
+                             night + second_said + (61u << 21),
+                             night + (1439u << 8),
+                             night + offset_said + (2879u << 8),
+                             night + 1,
+                             night + 128,
+                             UINT64_MAX};
+    const struct larusqem_sheet no_sheet = day_sheet(0, 0, 0);
+    struct larusqem_sheet sheet;
+    struct larusqem_week week;
+    uint32_t words[LARUSQEM_SHEET_WORDS], unsaid[LARUSQEM_SHEET_WORDS] = {1934, 3, 5, 0, 99, 0, 99, 0, 99, 0, 9999};
+    uint64_t word, week_words[3];
+    size_t i;
+
+    CHECK(night == 0x1e38ca0000000000);
+    for (i = 0; i < sizeof good / sizeof *good; i++) {
+        word = 77;
+        CHECK(answers(larusqem_pack(good[i].sheet, &word), LARUSQEM_DONE, 0) && word == good[i].word);
+        CHECK(same_sheet(larusqem_unpack(good[i].word), good[i].sheet));
+        /* the struct is its words */
+        memset(words, 255, sizeof words);
+        CHECK(larusqem_unpack_words(good[i].word, words) == 1 && memcmp(words, &good[i].sheet, sizeof words) == 0);
+        CHECK(words[0] == good[i].sheet.date.year && words[4] == good[i].sheet.hour && words[9] == good[i].sheet.offset_said);
+        CHECK((int32_t)words[10] == good[i].sheet.offset);
+        word = 77;
+        CHECK(larusqem_pack_words(words, &word) == 0 && word == good[i].word);
+    }
+    for (i = 0; i < sizeof none / sizeof *none; i++) {
+        memset(words, 255, sizeof words);
+        CHECK(larusqem_unpack_words(none[i], words) == 0 && memcmp(words, &no_sheet, sizeof words) == 0);
+        CHECK(same_sheet(larusqem_unpack(none[i]), no_sheet));
+    }
+    for (i = 0; i < 7; i++) {
+        word = 77;
+        CHECK(answers(larusqem_pack(bad[i], &word), LARUSQEM_BAD_MOMENT, (uint32_t)i + 1) && word == 0);
+    }
+    word = 77;
+    CHECK(answers(larusqem_pack(no_sheet, &word), LARUSQEM_NO_DAY, 0) && word == 0);
+    sheet = bad[0];
+    sheet.date = no_sheet.date;
+    CHECK(answers(larusqem_pack(sheet, &word), LARUSQEM_NO_DAY, 0));
+    CHECK(answers(larusqem_pack(day_sheet(0, 3, 5), &word), LARUSQEM_BAD_MOMENT, 1));
+    /* what is unsaid is not looked at, and any number but 0 says */
+    CHECK(larusqem_pack_words(unsaid, &word) == 0 && word == night);
+    unsaid[3] = UINT32_MAX;
+    unsaid[4] = 7;
+    CHECK(larusqem_pack_words(unsaid, &word) == 0 && word == good[2].word);
+
+    week = larusqem_week_of(((uint64_t)2009 << 50) + ((uint64_t)53 << 44) + 3);
+    CHECK(week.year == 2009 && week.week == 53 && week.sheets == 3);
+    week = larusqem_week_of(UINT64_MAX);
+    CHECK(week.year == 16383 && week.week == 63 && week.sheets == ((uint64_t)1 << 44) - 1);
+    larusqem_week_words(((uint64_t)1934 << 50) + ((uint64_t)10 << 44) + 1, week_words);
+    CHECK(week_words[0] == 1934 && week_words[1] == 10 && week_words[2] == 1);
+}
+
+static void sheets_of_readings(void)
+{
+    const char *const text = "5 Mar 1934 07:08:09 +0130";
+    struct larusqem_sheet sheet = {{1934, 3, 5}, 1, 7, 1, 8, 1, 9, 1, 90};
+
+    CHECK(same_sheet(larusqem_sheet_of(larusqem_strptime("%d %b %Y %T %z", 14, text, strlen(text))), sheet));
+    CHECK(same_sheet(larusqem_sheet_of(larusqem_strptime("%d %b %Y", 8, text, strlen(text))), day_sheet(1934, 3, 5)));
+    sheet.date = day_sheet(0, 0, 0).date;
+    CHECK(same_sheet(larusqem_sheet_of(larusqem_strptime("%T %z", 5, text + 11, 14)), sheet));
+    /* a refused reading shows two days or two hours, or nothing; none of them is the sheet's */
+    CHECK(same_sheet(larusqem_sheet_of(larusqem_strptime("%d %b", 5, "5 Mar", 5)), day_sheet(0, 0, 0)));
+    CHECK(same_sheet(larusqem_sheet_of(larusqem_strptime("%d %b %Y %I", 11, "5 Mar 1934 7", 12)), day_sheet(0, 0, 0)));
+    CHECK(same_sheet(larusqem_sheet_of(larusqem_strptime("%d %b", 5, "5 Mai", 5)), day_sheet(0, 0, 0)));
+}
+
+static uint64_t list_words[LARUSQEM_MOST_SHEETS + 1], list_table[LARUSQEM_WEEKS + 1];
+static uint64_t words_before[LARUSQEM_MOST_SHEETS + 1], table_before[LARUSQEM_WEEKS + 1];
+
+/* an empty list in an array of so many words, each entry of both arrays another */
+static struct larusqem_list empty_list(size_t room)
+{
+    struct larusqem_list list = {list_words, room, list_table, LARUSQEM_WEEKS, 0, 0};
+    size_t i;
+
+    for (i = 0; i <= LARUSQEM_MOST_SHEETS; i++)
+        list_words[i] = 1000 + i;
+    for (i = 0; i <= LARUSQEM_WEEKS; i++)
+        list_table[i] = 2000 + i;
+    return list;
+}
+
+/* adding many sheets ends so; where none of them is added, both arrays and both counts are as they were */
+static void adds(struct larusqem_list *list, const struct larusqem_sheet *sheets, size_t count, uint32_t number, uint32_t place,
+                 uint32_t index, int line)
+{
+    uint32_t sheet_count = list->sheet_count, week_count = list->week_count;
+    struct larusqem_added added;
+
+    memcpy(words_before, list_words, sizeof list_words);
+    memcpy(table_before, list_table, sizeof list_table);
+    added = larusqem_add_sheets(list, sheets, count);
+    check(added.number == number && added.place == place && added.index == index, "number, place and index", line);
+    check(list->sheet_count == sheet_count + index, "how many sheets are added", line);
+    if (index != 0)
+        return;
+    check(list->week_count == week_count && memcmp(words_before, list_words, sizeof list_words) == 0 &&
+              memcmp(table_before, list_table, sizeof list_table) == 0,
+          "untouched", line);
+}
+
+/* a list that is no list with its table: 15, by judging it and by adding a sheet; after 13 and 2, and before 14 */
+static void no_list(struct larusqem_list list, int line)
+{
+    struct larusqem_sheet night = day_sheet(1934, 3, 5), no_day = day_sheet(0, 0, 0), bad = day_sheet(1934, 2, 29);
+
+    check(larusqem_judge_list(&list) == LARUSQEM_BAD_LIST, "judged by 15", line);
+    adds(&list, &night, 1, LARUSQEM_BAD_LIST, 0, 0, line);
+    adds(&list, &no_day, 1, LARUSQEM_NO_DAY, 0, 0, line);
+    adds(&list, &bad, 1, LARUSQEM_BAD_MOMENT, 3, 0, line);
+    adds(&list, &night, 0, LARUSQEM_DONE, 0, 0, line);
+}
+
+static void lists(void)
+{
+    const struct larusqem_sheet some[5] = {
+        {{2010, 1, 1}, 0, 0, 0, 0, 0, 0, 0, 0}, {{1934, 3, 5}, 1, 7, 0, 0, 0, 0, 0, 0}, {{1934, 3, 11}, 0, 0, 0, 0, 0, 0, 0, 0},
+        {{1934, 3, 5}, 0, 0, 0, 0, 0, 0, 0, 0}, {{1934, 3, 5}, 1, 7, 0, 0, 0, 0, 0, 0}};
+    const uint64_t night = day_word(1934, 3, 5), morning = night + hour_said + ((uint64_t)7 << 35);
+    const uint64_t week_10 = ((uint64_t)1934 << 50) + ((uint64_t)10 << 44), week_53 = ((uint64_t)2009 << 50) + ((uint64_t)53 << 44);
+    struct larusqem_sheet sheets[4] = {some[0], some[1], day_sheet(1934, 3, 0), day_sheet(0, 0, 0)};
+    struct larusqem_list list = empty_list(6), damaged;
+    struct larusqem_reading r;
+    uint32_t counts[2] = {0, 0}, added[3], words[LARUSQEM_SHEET_WORDS * 2];
+    size_t i;
+
+    /* 2010-01-01 is in week 53 of 2009, and 1934-03-11 a Sunday of week 10 */
+    CHECK(larusqem_judge_list(&list) == LARUSQEM_DONE);
+    adds(&list, some, 5, LARUSQEM_DONE, 0, 5, __LINE__);
+    CHECK(list_words[0] == night && list_words[1] == morning && list_words[2] == morning && list_words[3] == day_word(1934, 3, 11));
+    CHECK(list_words[4] == day_word(2010, 1, 1) && list_words[5] == 1005);
+    CHECK(list.week_count == 2 && list_table[0] == week_10 + 4 && list_table[1] == week_53 + 1 && list_table[2] == 2002);
+    CHECK(larusqem_judge_list(&list) == LARUSQEM_DONE);
+
+    /* one by one, and from a reading; then the array is full */
+    r = larusqem_strptime("%F", 2, "1934-03-12", 10);
+    CHECK(answers(larusqem_add_reading(&list, larusqem_strptime("%d %b", 5, "5 Mar", 5)), LARUSQEM_NO_DAY, 0) && list.sheet_count == 5);
+    CHECK(answers(larusqem_add_sheet(&list, day_sheet(1934, 13, 1)), LARUSQEM_BAD_MOMENT, 2) && list.sheet_count == 5);
+    CHECK(answers(larusqem_add_reading(&list, r), LARUSQEM_DONE, 0) && list.sheet_count == 6 && list.week_count == 3);
+    CHECK(list_words[4] == day_word(1934, 3, 12) && list_words[5] == day_word(2010, 1, 1) && list_words[6] == 1006);
+    CHECK(list_table[1] == week_10 + ((uint64_t)1 << 44) + 1 && list_table[2] == week_53 + 1 && list_table[3] == 2003);
+    adds(&list, some, 1, LARUSQEM_LIST_FULL, 0, 0, __LINE__);
+    adds(&list, &sheets[3], 1, LARUSQEM_NO_DAY, 0, 0, __LINE__);
+    adds(&list, &sheets[2], 1, LARUSQEM_BAD_MOMENT, 3, 0, __LINE__);
+
+    /* each thing that makes it no list with its table, also where it is full */
+    damaged = list;
+    damaged.words_length = LARUSQEM_MOST_SHEETS + 1;
+    no_list(damaged, __LINE__);
+    damaged.words_length = LARUSQEM_MOST_SHEETS;
+    CHECK(larusqem_judge_list(&damaged) == LARUSQEM_DONE);
+    damaged = list;
+    damaged.words_length = 5;
+    no_list(damaged, __LINE__);
+    damaged = list;
+    damaged.sheet_count = 7;
+    no_list(damaged, __LINE__);
+    damaged.sheet_count = 5;
+    no_list(damaged, __LINE__);
+    damaged = list;
+    for (i = LARUSQEM_WEEKS - 1; i <= LARUSQEM_WEEKS + 1; i += 2) {
+        damaged.table_length = i;
+        no_list(damaged, __LINE__);
+    }
+    damaged = list;
+    damaged.week_count = 2;
+    no_list(damaged, __LINE__);
+    damaged.week_count = 4;
+    no_list(damaged, __LINE__);
+    damaged.week_count = LARUSQEM_WEEKS + 1;
+    no_list(damaged, __LINE__);
+    list_words[5] += 1;
+    no_list(list, __LINE__);
+    list_words[5] -= 1;
+    list_words[1] = night;
+    list_words[0] = morning;
+    no_list(list, __LINE__);
+    list_words[0] = night;
+    CHECK(larusqem_judge_list(&list) == LARUSQEM_DONE);
+    list_table[2] += 1;
+    no_list(list, __LINE__);
+
+    /* many, up to the first refusal: those before it stay added */
+    list = empty_list(4);
+    adds(&list, sheets, 4, LARUSQEM_BAD_MOMENT, 3, 2, __LINE__);
+    CHECK(list_words[0] == morning && list_words[1] == day_word(2010, 1, 1) && list_words[2] == 1002 && list.week_count == 2);
+    adds(&list, sheets + 3, 1, LARUSQEM_NO_DAY, 0, 0, __LINE__);
+    adds(&list, some, 5, LARUSQEM_LIST_FULL, 0, 2, __LINE__);
+    CHECK(list.sheet_count == 4 && list_words[1] == morning && list_words[3] == day_word(2010, 1, 1) && list_words[4] == 1004);
+
+    /* 1,024 weeks, and one more; a sheet of a week that is among them is added */
+    list = empty_list(LARUSQEM_MOST_SHEETS);
+    for (i = 0; i < LARUSQEM_WEEKS; i++)
+        CHECK(larusqem_add_sheet(&list, day_sheet(1000 + (uint32_t)i, 6, 15)).number == LARUSQEM_DONE);
+    CHECK(list.sheet_count == LARUSQEM_WEEKS && list.week_count == LARUSQEM_WEEKS && list_table[LARUSQEM_WEEKS] == 2000 + LARUSQEM_WEEKS);
+    sheets[0] = day_sheet(1934, 6, 15);
+    sheets[1] = day_sheet(1934, 3, 5);
+    adds(&list, sheets, 2, LARUSQEM_LIST_FULL, 0, 1, __LINE__);
+    adds(&list, sheets + 1, 1, LARUSQEM_LIST_FULL, 0, 0, __LINE__);
+    CHECK(larusqem_judge_list(&list) == LARUSQEM_DONE);
+
+    /* on words: what is left over after the last eleven is no sheet, and the struct of an answer is its words */
+    list = empty_list(6);
+    memset(words, 255, sizeof words);
+    memcpy(words, some, sizeof *some);
+    larusqem_add_words(words, LARUSQEM_SHEET_WORDS * 2 - 1, list_words, 6, list_table, LARUSQEM_WEEKS, counts, added);
+    CHECK(added[0] == 0 && added[1] == 0 && added[2] == 1 && counts[0] == 1 && counts[1] == 1 && list_words[0] == day_word(2010, 1, 1));
+    CHECK(larusqem_list_words(list_words, 6, list_table, LARUSQEM_WEEKS, counts) == 0);
+    larusqem_add_words(words, LARUSQEM_SHEET_WORDS * 2, list_words, 6, list_table, LARUSQEM_WEEKS, counts, added);
+    CHECK(added[0] == LARUSQEM_BAD_MOMENT && added[1] == 1 && added[2] == 1 && counts[0] == 2);
+}
+
 /* NULL with length 0, for every pointer */
 static void nulls(void)
 {
     struct larusqem_reason reason;
     struct larusqem_options options = {LARUSQEM_SKIPPING, 0, &reason};
     struct larusqem_reading r;
+    struct larusqem_list list;
+    struct larusqem_added added;
 
     CHECK(answers(larusqem_strftime(NULL, 0, moment, NULL, 0), LARUSQEM_DONE, 0));
     CHECK(answers(larusqem_strftime("%F", 2, moment, NULL, 0), LARUSQEM_BUFFER_TOO_SMALL, 10));
@@ -591,6 +864,17 @@ static void nulls(void)
     memset(&reason, 255, sizeof reason);
     r = larusqem_read_with(NULL, 0, NULL, 0, options);
     CHECK(r.number == LARUSQEM_DONE && r.place == 0 && shown(&reason)[0] == '\0');
+
+    list = empty_list(0);
+    list.words = NULL;
+    CHECK(larusqem_judge_list(&list) == LARUSQEM_DONE);
+    CHECK(answers(larusqem_add_sheet(&list, day_sheet(1934, 3, 5)), LARUSQEM_LIST_FULL, 0));
+    added = larusqem_add_sheets(&list, NULL, 0);
+    CHECK(added.number == LARUSQEM_DONE && added.place == 0 && added.index == 0);
+    list.table = NULL;
+    list.table_length = 0;
+    CHECK(larusqem_judge_list(&list) == LARUSQEM_BAD_LIST);
+    CHECK(answers(larusqem_add_sheet(&list, day_sheet(1934, 3, 5)), LARUSQEM_BAD_LIST, 0));
 }
 
 static int is_date(struct larusqem_date date, uint32_t year, uint32_t month, uint32_t day)
@@ -631,6 +915,9 @@ int main(void)
     forms();
     offsets();
     reasons();
+    packing();
+    sheets_of_readings();
+    lists();
     nulls();
     calendar();
     printf("%u checks, %u failed\n", checks, failures);
