@@ -5,7 +5,7 @@ use crate::quarrel::{Part, Quarrel};
 use alloc::string::FromUtf8Error;
 use core::fmt;
 
-/// A field of a moment.
+/// A field of a moment or of a sheet.
 #[derive(Clone, Copy, PartialEq, Eq, Hash, Debug)]
 #[non_exhaustive]
 pub enum Field {
@@ -26,7 +26,7 @@ pub enum Field {
 }
 
 impl Field {
-    const ALL: [Field; 7] = [Field::Year, Field::Month, Field::Day, Field::Hour, Field::Minute, Field::Second, Field::Offset];
+    pub(crate) const ALL: [Field; 7] = [Field::Year, Field::Month, Field::Day, Field::Hour, Field::Minute, Field::Second, Field::Offset];
 }
 
 impl fmt::Display for Field {
@@ -43,7 +43,7 @@ impl fmt::Display for Field {
     }
 }
 
-/// A field is outside its range: there is no such date, moment or zone offset.
+/// A field is outside its range: there is no such date, moment, sheet or zone offset.
 #[derive(Clone, Copy, PartialEq, Eq, Hash, Debug)]
 pub struct FieldError {
     field: Field,
@@ -423,14 +423,137 @@ impl From<FormatError> for ReadError {
     }
 }
 
+/// Why a reading makes no sheet.
+#[derive(Clone, Copy, PartialEq, Eq, Hash, Debug)]
+#[non_exhaustive]
+pub enum SheetError {
+    /// 13: no day is said.
+    NoDay,
+    /// 2: a field is outside its range, which is so of no reading that is as the library gave it.
+    Field(FieldError),
+}
+
+impl SheetError {
+    /// The refusal's number.
+    pub fn number(&self) -> u32 {
+        match self {
+            SheetError::NoDay => 13,
+            SheetError::Field(error) => error.number(),
+        }
+    }
+
+    /// The refusal's place.
+    pub fn place(&self) -> usize {
+        match self {
+            SheetError::NoDay => 0,
+            SheetError::Field(error) => error.place(),
+        }
+    }
+}
+
+impl fmt::Display for SheetError {
+    fn fmt(&self, f: &mut fmt::Formatter) -> fmt::Result {
+        match self {
+            SheetError::NoDay => write!(f, "the day of the sheet is not said"),
+            SheetError::Field(_) => write!(f, "no such sheet"),
+        }
+    }
+}
+
+impl From<FieldError> for SheetError {
+    fn from(error: FieldError) -> SheetError {
+        SheetError::Field(error)
+    }
+}
+
+/// 14: why a sheet is not added to a list. The sheets before it are, and nothing else has changed.
+#[derive(Clone, Copy, PartialEq, Eq, Hash, Debug)]
+#[non_exhaustive]
+pub enum AddError {
+    /// The list's array is full.
+    Full {
+        /// Which of the sheets, counted from 0.
+        index: usize,
+    },
+    /// 1,024 weeks are held, and the sheet's is not among them.
+    NewWeek {
+        /// Which of the sheets, counted from 0.
+        index: usize,
+    },
+}
+
+impl AddError {
+    /// The refusal's number.
+    pub fn number(&self) -> u32 {
+        14
+    }
+
+    /// The refusal's place.
+    pub fn place(&self) -> usize {
+        0
+    }
+
+    /// Which of the sheets is refused, counted from 0: as many are added.
+    pub fn index(&self) -> usize {
+        match *self {
+            AddError::Full { index } | AddError::NewWeek { index } => index,
+        }
+    }
+}
+
+impl fmt::Display for AddError {
+    fn fmt(&self, f: &mut fmt::Formatter) -> fmt::Result {
+        match self {
+            AddError::Full { index } => write!(f, "the list has no room for the sheet with index {index}"),
+            AddError::NewWeek { index } => write!(f, "the list has 1024 weeks, and that of the sheet with index {index} is not among them"),
+        }
+    }
+}
+
+/// 15: what is lent is no list of sheets with its table of weeks.
+#[derive(Clone, Copy, PartialEq, Eq, Hash, Debug)]
+#[non_exhaustive]
+pub struct ListError;
+
+impl ListError {
+    /// The refusal's number.
+    pub fn number(&self) -> u32 {
+        15
+    }
+
+    /// The refusal's place.
+    pub fn place(&self) -> usize {
+        0
+    }
+}
+
+impl fmt::Display for ListError {
+    fn fmt(&self, f: &mut fmt::Formatter) -> fmt::Result {
+        write!(f, "what is lent is no list of sheets with its table of weeks")
+    }
+}
+
 #[cfg(feature = "std")]
 mod sources {
-    use super::{FieldError, FormatError, ParseError, ReadError, StringError, WriteError};
+    use super::{AddError, FieldError, FormatError, ListError, ParseError, ReadError, SheetError, StringError, WriteError};
     use std::error::Error;
 
     impl Error for FieldError {}
 
     impl Error for FormatError {}
+
+    impl Error for AddError {}
+
+    impl Error for ListError {}
+
+    impl Error for SheetError {
+        fn source(&self) -> Option<&(dyn Error + 'static)> {
+            match self {
+                SheetError::Field(error) => Some(error),
+                SheetError::NoDay => None,
+            }
+        }
+    }
 
     impl Error for ParseError {
         fn source(&self) -> Option<&(dyn Error + 'static)> {

@@ -12,6 +12,9 @@ pub type ReadingWords = [u32; 20];
 /// The part in which two days differ; for each kind of fact, from 0 on, where its words begin and end.
 pub type ReasonWords = [u32; 33];
 
+/// Year, month and day of a sheet; said and number of hour, minute and second; said and minutes of the zone offset in two's complement.
+pub type SheetWords = [u32; 11];
+
 /// What a format is opened for: flags, widths and `%s` are taken for writing, and refused for reading.
 #[derive(Clone, Copy)]
 pub enum Use {
@@ -20,7 +23,7 @@ pub enum Use {
 }
 
 mod c {
-    use super::{MomentWords, ReadingWords, ReasonWords};
+    use super::{MomentWords, ReadingWords, ReasonWords, SheetWords};
 
     extern "C" {
         pub fn larusqem_strftime_words(
@@ -75,6 +78,26 @@ mod c {
             text: *const u8,
             text_length: usize,
             reason: *mut ReasonWords,
+        );
+        pub fn larusqem_pack_words(sheet: *const SheetWords, word: *mut u64) -> u64;
+        pub fn larusqem_unpack_words(word: u64, sheet: *mut SheetWords) -> u32;
+        pub fn larusqem_week_words(word: u64, week: *mut [u64; 3]);
+        pub fn larusqem_list_words(
+            words: *const u64,
+            words_length: usize,
+            table: *const u64,
+            table_length: usize,
+            counts: *const [u32; 2],
+        ) -> u32;
+        pub fn larusqem_add_words(
+            sheets: *const u32,
+            sheets_length: usize,
+            words: *mut u64,
+            words_length: usize,
+            table: *mut u64,
+            table_length: usize,
+            counts: *mut [u32; 2],
+            added: *mut [u32; 3],
         );
         #[cfg(test)]
         pub fn larusqem_days() -> u32;
@@ -135,6 +158,42 @@ pub fn explain_read(elements: &[u32], text: &[u8]) -> ReasonWords {
     let mut reason = [0; 33];
     unsafe { c::larusqem_explain_read_words(elements.as_ptr(), elements.len(), text.as_ptr(), text.len(), &mut reason) };
     reason
+}
+
+/// A number and a place, and the sheet's word, 0 where it is refused.
+pub fn pack(sheet: &SheetWords) -> (u32, usize, u64) {
+    let mut word = 0;
+    let (number, place) = split(unsafe { c::larusqem_pack_words(sheet, &mut word) });
+    (number, place, word)
+}
+
+/// The sheet that a word is the packing of.
+pub fn unpack(word: u64) -> Option<SheetWords> {
+    let mut sheet = [0; 11];
+    let is_packing = unsafe { c::larusqem_unpack_words(word, &mut sheet) } == 1;
+    is_packing.then_some(sheet)
+}
+
+/// ISO year, week and sheets of a word of a table.
+pub fn week(word: u64) -> [u64; 3] {
+    let mut week = [0; 3];
+    unsafe { c::larusqem_week_words(word, &mut week) };
+    week
+}
+
+/// Whether arrays hold a list and its table in so many of their words.
+pub fn is_list(words: &[u64], table: &[u64], counts: &[u32; 2]) -> bool {
+    unsafe { c::larusqem_list_words(words.as_ptr(), words.len(), table.as_ptr(), table.len(), counts) == 0 }
+}
+
+/// Adds sheets to a list and its table: number, place and index.
+pub fn add(sheets: &[SheetWords], words: &mut [u64], table: &mut [u64], counts: &mut [u32; 2]) -> [u32; 3] {
+    let mut added = [0; 3];
+    let (first, length) = (sheets.as_ptr().cast(), 11 * sheets.len());
+    unsafe {
+        c::larusqem_add_words(first, length, words.as_mut_ptr(), words.len(), table.as_mut_ptr(), table.len(), counts, &mut added);
+    }
+    added
 }
 
 #[cfg(test)]

@@ -111,10 +111,29 @@
 //! assert_eq!(why("%I:%M", "07:08"), "more than one hour agrees, the earliest 7 and 19; AM or PM is missing");
 //! ```
 //!
+//! # Lists of sheets
+//!
+//! A [`Sheet`] is a dated page, made of a [`Reading`] or of its fields, and packed into a word of 64 bits. The order of words is the order
+//! of dates, then of the rest as packed. A [`SheetList`] keeps sheets in this order, with the ISO [`Week`]s that they are of, in arrays of
+//! its own or in ones that are lent to it.
+//!
+//! ```
+//! use larusqem::{Format, Sheet, SheetList};
+//!
+//! let format = Format::new("%d %b %Y %H:%M").unwrap();
+//! let mut list = SheetList::new();
+//! for text in ["6 Mar 1934 07:15", "31 Dec 1934 23:59", "5 Mar 1934 07:08"] {
+//!     list.add(Sheet::from_reading(&format.read(text).unwrap()).unwrap()).unwrap();
+//! }
+//! assert_eq!(list.sheets().next().unwrap().to_string(), "1934-03-05 07:08:--");
+//! let weeks: Vec<_> = list.weeks().map(|week| week.to_string()).collect();
+//! assert_eq!(weeks, ["1934-W10 2", "1935-W01 1"]);
+//! ```
+//!
 //! # What is proved
 //!
-//! The C functions of the repository's library. This crate gives them types, and is tested. A [`Date`] or a [`Moment`] that exists is
-//! valid, by the proved functions; so is an [`Offset`], by a range that is tested against them.
+//! The C functions of the repository's library. This crate gives them types, and is tested. A [`Date`], a [`Moment`], a [`Sheet`] or a
+//! [`SheetList`] that exists is valid, by the proved functions; so is an [`Offset`], by a range that is tested against them.
 //!
 //! Every call is pure: no locale, time zone, clock or global state, and any number of threads may share a [`Format`] or [`WriteFormat`].
 //!
@@ -133,20 +152,24 @@ mod error;
 #[allow(unsafe_code)]
 mod ffi;
 mod format;
+mod list;
 mod moment;
 mod offset;
 mod quarrel;
 mod reading;
 mod shape;
+mod sheet;
 
 pub use date::{Date, Weekday};
 pub use engine::Engine;
-pub use error::{Field, FieldError, FormatError, ParseError, ReadError, StringError, WriteError};
+pub use error::{AddError, Field, FieldError, FormatError, ListError, ParseError, ReadError, SheetError, StringError, WriteError};
 pub use format::{Format, WriteFormat};
+pub use list::{SheetList, MOST_SHEETS, MOST_WEEKS};
 pub use moment::Moment;
 pub use offset::Offset;
 pub use quarrel::{Kind, Part, Quarrel, Words};
 pub use reading::{NameForm, Reading};
+pub use sheet::{Sheet, Week};
 
 /// The bytes of the longest writing: `%99d`, 256 times. No format writes more, and a buffer of as many bytes is never too small.
 pub const LONGEST_WRITING: usize = 25_344;
