@@ -1,9 +1,10 @@
 #!/usr/bin/env python3
 """Runs the examples of README: python3 tests/readme.py FOLDER PREFIX
 
-A block ```text FILE or ```c FILE is examples/FILE. A block ```sh that a block ```text follows is run by bash in a copy of examples/, with
-the programs in FOLDER and the library that is installed under PREFIX, and must write what that block says. A row of a text, a format and a
-date is read so. The recipe for a long list is run on one made here, and its report looked at line by line.
+A block ```text FILE or ```c FILE is examples/FILE. A block ```rust is one of bindings/rust/README.md, whose examples are run by cargo. A
+block ```sh that a block ```text follows is run by bash in a copy of examples/, with the programs in FOLDER and the library that is
+installed under PREFIX, and must write what that block says. A row of a text, a format and a date is read so. The recipe for a long list is
+run on one made here, and its report looked at line by line.
 """
 import datetime
 import os
@@ -49,6 +50,9 @@ def main(programs, prefix):
             if len(words) == 2 and words[0] in ("text", "c"):
                 with open(os.path.join(EXAMPLES, words[1]), encoding="utf-8") as file:
                     right, written = text == file.read(), "another file"
+            elif kind == "rust":
+                with open(os.path.join(ROOT, "bindings", "rust", "README.md"), encoding="utf-8") as file:
+                    right, written = (kind, text) in blocks(file.read()), "no block of bindings/rust/README.md"
             elif kind == "sh" and next_kind == "text":
                 shell = ["bash", "-euo", "pipefail", "-c", text]
                 run = subprocess.run(shell, cwd=folder, env=env, capture_output=True, text=True, check=False)
