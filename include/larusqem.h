@@ -353,7 +353,8 @@ struct larusqem_options {
  *
  * A sheet is a dated page: a day, and hour, minute, second and zone offset, each said or unsaid. It is packed into a word of 64 bits: from
  * the most significant on
- *   year 14, month 4, day 5; hour said 1, hour 5; minute said 1, minute 6; second said 1, second 6; offset said 1, offset + 1439 12; zero 8
+ *   year 14, month 4, day 5; hour said 1, hour 5; minute said 1, minute 6; second said 1, second 6;
+ *   offset said 1, offset plus 1439 in 12; 8 zero bits
  * where what is unsaid is 0. A word is the packing of a sheet exactly if it unpacks to a valid sheet that packs to it. The order of words
  * is the order of dates, then of the rest as packed. 1934-03-05 alone is 0x1e38ca0000000000; no packing is 0.
  *

@@ -9,9 +9,9 @@ use alloc::format;
 use alloc::string::{String, ToString};
 use core::fmt;
 
-/// A sheet: a page with its date and, each said or unsaid, hour, minute, second and zone offset (RULES 11.1). Every value is valid. It is
-/// held as its word of 64 bits, which has from the most significant on: year 14, month 4, day 5; hour said 1, hour 5; minute said 1, minute
-/// 6; second said 1, second 6; offset said 1, offset plus 1439 12; zero 8. What is unsaid is zero.
+/// A sheet: a dated page, with a day and, each said or unsaid, hour, minute, second and zone offset (RULES 11.1). Every value is valid. It
+/// is held as its word of 64 bits, from the most significant on: year 14, month 4, day 5; hour said 1, hour 5; minute said 1, minute 6;
+/// second said 1, second 6; offset said 1, offset plus 1439 in 12; 8 zero bits. What is unsaid is zero.
 ///
 /// Sheets compare as their words do: by date, then by the rest as packed, where what is unsaid goes before anything that is said.
 ///

@@ -1,5 +1,5 @@
 //! Sheets, their words and lists of them. Words are typed by hand, field by field from the most significant bit: year 14, month 4, day 5;
-//! hour said 1, hour 5; minute said 1, minute 6; second said 1, second 6; offset said 1, offset plus 1439 12; zero 8.
+//! hour said 1, hour 5; minute said 1, minute 6; second said 1, second 6; offset said 1, offset plus 1439 in 12; 8 zero bits.
 #![allow(clippy::unusual_byte_groupings)]
 use larusqem::{strptime, AddError, Date, Field, Moment, Offset, Sheet, SheetError, SheetList, Week, MOST_SHEETS, MOST_WEEKS};
 
