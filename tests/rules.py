@@ -1,5 +1,5 @@
 #!/usr/bin/env python3
-"""Runs the lists, readings, forms, zone offsets, counts, reasons, sentences and writings that docs/RULES.md shows:
+"""Runs the lists, readings, forms, zone offsets, counts, reasons, sentences, writings and sheets that docs/RULES.md shows:
 python3 tests/rules.py FOLDER PREFIX
 
 The list and the report of the section on each program must be what the program in FOLDER makes of it. Each row of its tables of texts,
@@ -7,7 +7,8 @@ formats and answers is run as a list of one text; the number, the place and, wit
 table of moments, formats and answers is run by the library that is installed under PREFIX; all of the buffer must be as the row says. Each
 row of its table of days examined is run there too, by both engines, and with the smallest budget that is enough and the largest that is
 not; each row of its tables of the forms of names and of zone offsets, by both engines; and each row of its table of reasons. For each
-sentence of quarrels there is a list of one text that must get it.
+sentence of quarrels there is a list of one text that must get it. Each row of its table of sheets and words is packed and unpacked, and
+the sheets of its list are added in every order: both arrays must be as its tables say.
 """
 import ctypes
 import itertools
@@ -21,6 +22,7 @@ COUNTS = r"(?m)^\| `([^`|]*)` \| `([^`|]*)` \| (\d+) \| (\d+) \|"
 ROW = r"(?m)^\| (`[^|]*`|any text[^|`]*?)(?: \*)? \| (`[^|]*`|empty) \| (\d+), place (\d+)([^|\n]*)"
 NAMED = r"(?m)^\| `([^`|]*)` \| `([^`|]*)` \| [^|]* \| (none|full|middle|short) \| (none|full|middle|short) \|"
 OFFSET = r"(?m)^\| `([^`|]*)` \| `([^`|]*)` \| [^|]* \| (unsaid|-?\d+) \|$"
+SHEET = r"(?:(\d+)-(\d+)-(\d+)|no day,)(?: (\d\d|--):(\d\d|--):(\d\d|--))?(?: ([+-]\d{4}))?"
 EXAMPLE = r"(?ms)^### 9\.\d `(\w+)`$.*?^```\n(.*?)^```\n\ngets[^`]*```\n(.*?)^```$"
 FORMS = ["none", "full", "middle", "short"]
 PARTS = ["", "year", "month", "day"]
@@ -163,6 +165,54 @@ def reasons(library, rules):
         yield (form, text), (answer.strip(), re.split("[:;]", reason)[0].strip()), given
 
 
+def sheet_of(text):
+    """The words of a sheet as the tables show it; the number of what is unsaid is not looked at."""
+    *date, hour, minute, second, offset = re.fullmatch(SHEET, text).groups()
+    said = [[0, 99] if number in (None, "--") else [1, int(number)] for number in (hour, minute, second)]
+    return [int(number or 0) for number in date] + sum(said, []) + (zone(offset) if offset else UNSAID)
+
+
+def unpacked(library, word):
+    """The words of the sheet that a word is the packing of, or why there are none."""
+    words = (ctypes.c_uint32 * 11)(*[99] * 11)
+    return list(words) if library.larusqem_unpack_words(ctypes.c_uint64(word), words) == 1 else "no packing"
+
+
+def packed(library, sheet):
+    """A sheet's word, or the number and the place of its refusal, in the words of the table."""
+    word = (ctypes.c_uint64 * 1)(99)
+    result = library.larusqem_pack_words((ctypes.c_uint32 * 11)(*sheet), word)
+    return f"none: {result >> 32}, place {result & 0xFFFFFFFF}" if result else f"`{word[0]:016x}`"
+
+
+def sheets(library, rules):
+    """A sheet with the word that it shall have and that it has, and a word with the sheet that it shall be of and that it is of."""
+    for row in rows(rules, "| sheet | word, in hexadecimal"):
+        text, expected = (cell.strip() for cell in row.strip("|").split("|"))
+        sheet = sheet_of(text)
+        yield text, expected, packed(library, sheet)
+        if expected[0] == "`":
+            said = [n if i < 3 or sheet[i - (i + 1) % 2] else 0 for i, n in enumerate(sheet)]
+            yield expected, said, unpacked(library, int(expected[1:-1], 16))
+
+
+def additions(library, rules):
+    """The sheets of the list in some order, with the arrays and the answer that adding them shall give and that it gives."""
+    listed = [row.strip("|").split("|") for row in rows(rules, "| list | sheet")]
+    tallied = [row.strip("|").split("|") for row in rows(rules, "| table | week | sheets")]
+    words, table = ([int(row[0].strip(" `"), 16) for row in read] for read in (listed, tallied))
+    week = [f"{word >> 50:04}-W{word >> 44 & 63:02} | {word & 2**44 - 1}" for word in table]
+    yield "weeks", [" | ".join(cell.strip() for cell in row[1:]) for row in tallied], week
+    expected = [*words, 77], [*table, *[77] * (1024 - len(table))], [len(words), len(table)], [0, 0, len(words)]
+    for order in set(itertools.permutations(row[1].strip() for row in listed)):
+        given = [word for text in order for word in sheet_of(text)]
+        arrays = [(ctypes.c_uint64 * (len(words) + 1))(*[77] * (len(words) + 1)), (ctypes.c_uint64 * 1024)(*[77] * 1024)]
+        lent = [part for array in arrays for part in (array, ctypes.c_size_t(len(array)))]
+        counts, added = (ctypes.c_uint32 * 2)(), (ctypes.c_uint32 * 3)(9, 9, 9)
+        library.larusqem_add_words((ctypes.c_uint32 * len(given))(*given), ctypes.c_size_t(len(given)), *lent, counts, added)
+        yield order, expected, (*map(list, arrays), list(counts), list(added))
+
+
 def sentences(program, rules):
     """A format and a text for each sentence, with the sentence and, where the program does not say it, what it says. In a sentence .. is
     any words; one that is only the end of another follows a semicolon."""
@@ -178,7 +228,8 @@ def main(folder, prefix):
         rules = file.read()
     library = ctypes.CDLL(os.path.join(os.path.abspath(prefix), "lib", "liblarusqem.so"))
     library.larusqem_strftime_words.restype = ctypes.c_uint64
-    library.larusqem_explain_words.restype = None
+    library.larusqem_pack_words.restype = ctypes.c_uint64
+    library.larusqem_explain_words.restype = library.larusqem_add_words.restype = None
     date_lines, quarrels = (os.path.join(folder, name) for name in ("date_lines", "quarrels"))
     cases = {
         "lists": [(text, report, reported(os.path.join(folder, name), text)) for name, text, report in re.findall(EXAMPLE, rules)],
@@ -189,6 +240,8 @@ def main(folder, prefix):
         "reasons": list(reasons(library, rules)),
         "sentences": list(sentences(quarrels, rules)),
         "writings": [(asked, expected, written(library, *asked)) for asked, expected in writings(rules)],
+        "sheets": list(sheets(library, rules)),
+        "orders of sheets": list(additions(library, rules)),
     }
     wrong = [case for tried in cases.values() for case in tried if case[1] != case[2]]
     for asked, expected, got in wrong:
