@@ -679,7 +679,8 @@ static inline struct larusqem_reading larusqem_read(const uint32_t *elements, si
 
 /* ---- Sheets and lists (RULES 11; see "Lists of sheets" above) */
 
-/* the sheet of a reading: what it says; of one that is refused all members are 0, whatever it shows, so that its day is unsaid */
+/* the sheet of a reading: what it says, whether or not text is left over; of one that is refused all members are 0, whatever it shows, so
+   that its day is unsaid */
 static inline struct larusqem_sheet larusqem_sheet_of(struct larusqem_reading reading)
 {
     struct larusqem_sheet sheet = {{0, 0, 0}, 0, 0, 0, 0, 0, 0, 0, 0};
