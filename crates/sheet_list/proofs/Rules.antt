@@ -71,10 +71,12 @@ counted-for k j (t ∷ ts) = go (counted-for k j ts) (cases j (t .week))
         rw (counted-more j t ts g, later) (later-of (eqb (t .week) k) (t .sheets) (sheetsFor k ts) (cond (eqb j k) 1 0))
 
 weeks-count : (k : ℕ) (s : List ℕ) → sheetsFor k (weeksOf s) ≡ ofWeek k s
-weeks-count k [] = unfold sheetsFor weeksOf howMany in refl
+unfolding sheetsFor weeksOf howMany
+weeks-count k [] = refl
 weeks-count k (x ∷ s) =
-    unfold weeksOf howMany in
-    rw (counted-for k (weekOf x) (weeksOf s), weeks-count k s) (sym (one-more (eqb (weekOf x) k) (ofWeek k s)))
+    counted-for k (weekOf x) (weeksOf s)
+    ∙ ap (λ (n : ℕ). n + cond (eqb (weekOf x) k) 1 0) (weeks-count k s)
+    ∙ sym (one-more (eqb (weekOf x) k) (ofWeek k s))
 
 table-bits : (t : Date) (n : ℕ)
     → tallyWord (tally (weekOfDate t) n) ≡ packed (14 ∷ 6 ∷ 44 ∷ []) (isoYear (dayNumberOf t) ∷ isoWeek (dayNumberOf t) ∷ n ∷ [])
@@ -93,27 +95,33 @@ list-rules =
 
 -- ---- what becomes of a sheet
 
+with-list : (x : ℕ) (h : Held) → listOf (with x h) ≡ inserted x (listOf h)
+unfolding with
+with-list x h = over-front (inserted x (listOf h)) (h .words)
+
+with-past : (x : ℕ) (h : Held) → Past h (with x h)
+unfolding with
+with-past x h =
+    record {
+      words = over-past (inserted x (listOf h)) (h .words);
+      table = over-past (tableOf (inserted x (listOf h))) (h .table);
+    }
+
 list-then : (i x : ℕ) (f : SheetFields) (h : Held) → packing f ≡ Word x → adding i f h .number ≡ 0
     → listOf (adding i f h .held) ≡ inserted x (listOf h)
 list-then i x f h e =
     sheet-cases (λ o. o .number ≡ 0 → listOf (o .held) ≡ inserted x (listOf h)) i f h
     (λ n p l z. absurd (omega (arith, z)))
-    (λ y g a b z.
-    let w : y ≡ x = cc in
-    unfold with in over-front (inserted y (listOf h)) (h .words) ∙ ap (λ (u : ℕ). inserted u (listOf h)) w)
+    (λ y g a b z. with-list y h ∙ ap (λ (u : ℕ). inserted u (listOf h)) (same-word y g))
+  where
+    same-word : (y : ℕ) → packing f ≡ Word y → y ≡ x
+    same-word y g = cc
 
 past-then : (i : ℕ) (f : SheetFields) (h : Held) → Past h (adding i f h .held)
 past-then i f h =
     sheet-cases (λ o. Past h (o .held)) i f h
     (λ n p l. record { words = refl; table = refl })
-    (λ x p a b. unfold with in
-    record {
-      words = over-past (inserted x (listOf h)) (h .words);
-      table = over-past (tableOf (inserted x (listOf h))) (h .table);
-    })
-
-number : Outcome → ℕ
-number o = o .number
+    (λ x p a b. with-past x h)
 
 pub add-rules : AddRules
 add-rules =

@@ -1,94 +1,45 @@
 -- `sheet_list::ascending::put_at` meets its contract. Assumes nothing.
-use mathlib.Core.Path.{_≡_, _∙_}
-use Rattle.sheet_list.proofs.Shifting.{Shifted, start, move, shifted-length, done}
-use mathlib.Core.Path.{ap}
-use lib.ListN.{length, length-set}
+use lib.ListN.{length}
+use Rattle.sheet_list.proofs.Shifting.{shifted-length, done}
+use Rattle.sheet_list.specs.Private.{Moves}
+use lib.ListN.{length-set}
+use mathlib.Core.Path.{_∙_}
 use native.Mathlib.Omega.{arith}
-use Prim.Native.Nat.{_-_, _≤_}
+use borrow.Author.Needs.{needs}
 use Rattle.sheet_list.proofs.ascending.put_at.Statement.{statement}
 use Rattle.sheet_list.proofs.ascending.put_at.Tie as tie
 
-abbrev Inv-loop : tie.InvT-loop
-Inv-loop words₀ at count word i₀ words i = (at ≤ i) × (i ≤ count) × Shifted words₀ count i words
+move-last-requires : tie.Need-move-last-requires
+move-last-requires c κs = search needs
 
-abbrev μ-loop : tie.MeasureT-loop
-μ-loop words₀ at count word i₀ words i = i - at
+move-up-requires : tie.Need-move-up-requires
+move-up-requires c κs = search needs
 
-loop-holds : tie.Need-loop-holds Inv-loop μ-loop
-loop-holds c = (c .pre .0, omega arith, start (c .args .words .now) (c .args .count) (c .pre .1))
+mul-words : tie.Need-mul-words
+mul-words c = search needs
 
-sub-words : tie.Need-sub-words Inv-loop μ-loop
-sub-words c = omega arith
+slice-write-words : tie.Need-slice-write-words
+slice-write-words c = search needs
 
-mul-words : tie.Need-mul-words Inv-loop μ-loop
-mul-words c = omega arith
-
-slice-read-words : tie.Need-slice-read-words Inv-loop μ-loop
-slice-read-words c =
-    let s = c .before .before .before in
-    let l = c .before .before .loop in
-    omega (arith, s .pre, shifted-length (s .args .words .now) (s .args .count) (s .pre .1) (l .words) (l .i) (l .inv .1) (l .inv .2))
-
-mul-words-2 : tie.Need-mul-words-2 Inv-loop μ-loop
-mul-words-2 c = omega arith
-
-slice-write-words : tie.Need-slice-write-words Inv-loop μ-loop
-slice-write-words c =
-    let s = c .before .before .before in
-    let l = c .before .before .loop in
-    omega (arith, s .pre, shifted-length (s .args .words .now) (s .args .count) (s .pre .1) (l .words) (l .i) (l .inv .1) (l .inv .2))
-
-sub-i : tie.Need-sub-i Inv-loop μ-loop
-sub-i c = omega arith
-
-loop-less : tie.Need-loop-less Inv-loop μ-loop
-loop-less c = omega arith
-
-loop-again : tie.Need-loop-again Inv-loop μ-loop
-loop-again c =
-    let s = c .before .before .before in
-    let l = c .before .before .loop in
-    (omega arith, omega arith, move (s .args .words .now) (s .args .count) (s .pre .1) (l .words) (l .i) (omega arith) (l .inv .1) (l .inv .2))
-
-mul-words-3 : tie.Need-mul-words-3 Inv-loop μ-loop
-mul-words-3 c = omega arith
-
-slice-write-words-2 : tie.Need-slice-write-words-2 Inv-loop μ-loop
-slice-write-words-2 c =
-    let s = c .before .before in
-    let l = c .before .loop in
-    omega (arith, s .pre, shifted-length (s .args .words .now) (s .args .count) (s .pre .1) (l .words) (l .i) (l .inv .1) (l .inv .2))
-
-same-length : tie.Need-same-length Inv-loop μ-loop
+same-length : tie.Need-same-length
 same-length c =
-    let s = c .before .before in
-    let l = c .before .loop in
-    length-set (l .words) (s .args .at) (s .args .word)
-    ∙ shifted-length (s .args .words .now) (s .args .count) (s .pre .1) (l .words) (l .i) (l .inv .1) (l .inv .2)
+    let s = c .before .before .before .before .before .before .before .before .before in
+    let w = s .args .words .now in
+    let m = c .before .before .before .before .before .before .move-last in
+    let u = c .before .before .move-up in
+    length-set (u .last .0) (s .args .at) (s .args .word)
+    ∙ u .ensures .0
+    ∙ shifted-length w (s .args .count) (s .pre .1) (m .last .0) (m .result) (m .ensures .0 .1) (m .ensures .1)
 
-returns : tie.Need-returns Inv-loop μ-loop
+returns : tie.Need-returns
+unfolding Moves
 returns c =
-    let s = c .before .before in
-    let l = c .before .loop in
-    let e : l .i ≡ s .args .at = omega arith in
-    done (s .args .words .now) (s .args .count) (s .pre .1) (l .words) (s .args .at) (s .args .word) (s .pre .0) (rw e at (l .inv .2))
+    let s = c .before .before .before .before .before .before .before .before .before in
+    let w = s .args .words .now in
+    let m = c .before .before .before .before .before .before .move-last in
+    done w (s .args .count) (s .pre .1) _ (s .args .at) (s .args .word) (s .pre .0) (c .before .before .move-up .ensures .1 w (s .pre .1) (m .ensures .1))
 
 pub put-at-spec : {M : Type 1} → statement M
 put-at-spec =
     tie.close
-    (tie.spec
-    Inv-loop
-    μ-loop
-    loop-holds
-    sub-words
-    mul-words
-    slice-read-words
-    mul-words-2
-    slice-write-words
-    sub-i
-    loop-less
-    loop-again
-    mul-words-3
-    slice-write-words-2
-    same-length
-    returns)
+    (tie.spec move-last-requires move-up-requires mul-words slice-write-words same-length returns)
