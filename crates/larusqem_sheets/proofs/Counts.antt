@@ -2,10 +2,10 @@
 -- Assumes nothing.
 use Prim.Native.Nat.{ℕ, _^_, _<_}
 use mathlib.Core.List.{List, [], _∷_}
-use mathlib.Core.Path.{_≡_, ap, _∙_}
+use mathlib.Core.Path.{_≡_, ap}
 use native.Mathlib.Omega.{arith}
-use lib.ListN.{length, getD}
-use Rattle.sheet_list.specs.Adding.{Held, held, Outcome, outcomeOf, addingWords, sheetWords, sheetAt}
+use lib.ListN.{getD}
+use Rattle.sheet_list.specs.Adding.{Held, held, Outcome, outcomeOf, addingWords, sheetAt}
 use Rattle.sheet_list.specs.declared.adding.Added.{Added}
 use Rattle.sheet_list.proofs.Steps.{Bounded, all-bounded}
 use Rattle.larusqem_sheets.specs.Sheets.{heldBy, countsOf, answerOf}

@@ -3,7 +3,6 @@
 use Prim.Native.Nat.{ℕ, _+_, _*_, _^_}
 use mathlib.Core.Bool.{cond}
 use mathlib.Core.List.{List, [], _∷_}
-use lib.Dec.{eqb}
 use lib.ListN.{getD, replicate}
 use Rattle.sheets.specs.Packing.{unpacked}
 use Rattle.sheets.specs.Sheets.{fieldsFrom}

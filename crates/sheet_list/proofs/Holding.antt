@@ -1,19 +1,17 @@
 -- What both arrays hold: each test of it, and that adding a sheet keeps it.
 -- Assumes nothing.
-use Prim.Native.Nat.{ℕ, zero, suc, _+_, _-_, _*_, _^_, _≤_, _<_}
-use mathlib.Core.Bool.{Bool, true, false, cond, not, _&&_, _||_, and-eq-true-iff}
-use mathlib.Core.List.{List, [], _∷_, _++_, map}
+use Prim.Native.Nat.{ℕ, _≤_, _<_}
+use mathlib.Core.Bool.{Bool, true, false, not, _&&_, _||_, and-eq-true-iff}
+use mathlib.Core.List.{List, [], _∷_, map}
 use mathlib.Core.Path.{_≡_, refl, sym, ap, _∙_}
-use native.Mathlib.Decide.{ℕ-discrete}
 use native.Mathlib.Omega.{arith}
 use borrow.Author.Tests.{le-leb, lt-leb, leb-true, eq-eqb, ne-eqb, eqb-true, eqb-false}
-use lib.Dec.{eqb, leb, lit<, lit≤}
-use lib.ListN.{length, take, drop, length-map, length-append, length-take, length-drop}
+use lib.Dec.{eqb, leb}
+use lib.ListN.{length, take, drop, length-map, length-append, length-drop}
 use lib.Seq.{length-take-le, take-at, drop-at}
 use Rattle.laws.specs.Lists.{every}
 use Rattle.laws.proofs.Cases.{clash}
 use Rattle.sheets.specs.Sheets.{isPacking, weekOf}
-use Rattle.sheets.proofs.Order.{packing-week}
 use Rattle.sheet_list.specs.Adding.{Held, listOf, mostWords, tableLength, same, isHeld, isFull, over, with}
 use Rattle.sheet_list.specs.Ascending.{ascending, inserted}
 use Rattle.sheet_list.specs.Private.{week, countedIn, weekIn, Listed}

@@ -1,13 +1,13 @@
 -- The loop over many sheets: what is left to add from here gives what adding all from the start would.
 -- Assumes nothing.
-use Prim.Native.Nat.{ℕ, zero, suc, _+_, _-_, _/_, _≤_, _<_}
+use Prim.Native.Nat.{ℕ, suc, _-_, _/_, _≤_, _<_}
 use mathlib.Core.Bool.{true}
 use mathlib.Core.List.{List}
 use mathlib.Core.Path.{_≡_, refl, sym, ap, _∙_}
 use native.Mathlib.Omega.{arith}
 use lib.ListN.{length}
 use Rattle.sheets.specs.declared.SheetFields.{SheetFields}
-use Rattle.sheet_list.specs.Adding.{Held, held, Outcome, outcome, outcomeOf, isHeld, adding, addingAll, sheetWords, sheetAt, addingWords}
+use Rattle.sheet_list.specs.Adding.{Held, held, Outcome, outcomeOf, isHeld, adding, addingAll, sheetWords, sheetAt, addingWords}
 use Rattle.sheet_list.specs.declared.adding.Added.{Added}
 use Rattle.sheet_list.proofs.Steps.{adding-lengths, adding-taken, all-stops, all-goes, all-ends}
 

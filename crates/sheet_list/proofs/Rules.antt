@@ -1,22 +1,20 @@
 -- What is owed of lists of sheets and their tables holds.
 -- Assumes nothing.
-use Prim.Native.Nat.{ℕ, zero, suc, _+_}
+use Prim.Native.Nat.{ℕ, suc, _+_}
 use mathlib.Core.Bool.{Bool, true, false, cond}
 use mathlib.Core.List.{List, [], _∷_}
 use mathlib.Core.Path.{_≡_, refl, sym, ap, _∙_}
 use native.Mathlib.Omega.{arith}
-use borrow.Author.Tests.{eq-eqb}
 use lib.Dec.{eqb, leb}
-use lib.ListN.{length, drop}
-use Rattle.laws.proofs.Cases.{picked, clash}
+use Rattle.laws.proofs.Cases.{picked}
 use Rattle.calendar.specs.declared.Date.{Date}
 use Rattle.calendar.specs.Calendar.{isoYear, isoWeek}
 use Rattle.sheets.specs.Packing.{bits, packed}
 use Rattle.sheets.specs.Sheets.{weekOf, weekWidths, weekOfDate, packing}
-use Rattle.sheets.specs.declared.Packed.the-variants.{Word, NoDay, Bad}
+use Rattle.sheets.specs.declared.Packed.the-variants.{Word}
 use Rattle.sheets.specs.declared.SheetFields.{SheetFields}
 use Rattle.values.specs.Values.{dayNumberOf}
-use Rattle.sheet_list.specs.Adding.{Held, listOf, isHeld, isFull, with, Outcome, adding}
+use Rattle.sheet_list.specs.Adding.{Held, listOf, with, Outcome, adding}
 use Rattle.sheet_list.specs.Ascending.{inserted}
 use Rattle.sheet_list.specs.Rules.{howMany, ofWeek, sheetsFor, ListRules, Past, AddRules}
 use Rattle.sheet_list.specs.Weeks.{Tally, tally, counted, weeksOf, tallyWidths, tallyWord, tableOf}

@@ -1,8 +1,8 @@
 -- Words moved up by one, from the last on, to make room for another.
 -- Assumes nothing.
-use Prim.Native.Nat.{ℕ, zero, suc, _+_, _-_, _≤_, _<_}
+use Prim.Native.Nat.{ℕ, zero, suc, _-_, _≤_, _<_}
 use mathlib.Core.List.{List, [], _∷_, _++_, append-assoc}
-use mathlib.Core.Path.{_≡_, refl, sym, ap, ap₂, _∙_}
+use mathlib.Core.Path.{_≡_, sym, ap, _∙_}
 use native.Mathlib.Omega.{arith}
 use lib.ListN.{length, getD, take, drop, set, length-take, length-drop, length-append, length-set, List·getD-append, take-append-drop}
 use lib.Seq.{length-take-le, split-at, take-suc, drop-cons, set-at, getD-take, take-take, take-nil, append-snoc, set-append-left}

@@ -1,17 +1,16 @@
 -- Adding, one way out at a time, over plain variables.
 -- Assumes nothing.
 use Prim.Native.Nat.{ℕ, zero, suc, _+_, _-_, max, _≤_, _<_}
-use mathlib.Core.Bool.{Bool, true, false, cond, not, _&&_, _||_}
-use mathlib.Core.List.{List, [], _∷_, _++_}
+use mathlib.Core.Bool.{true, false, not}
+use mathlib.Core.List.{List}
 use mathlib.Core.Path.{_≡_, refl, sym, ap, _∙_}
 use native.Mathlib.Decide.{ℕ-discrete}
 use native.Mathlib.Numerals.{add-one}
 use native.Mathlib.Omega.{arith}
 use borrow.Author.Tests.{eq-eqb, ne-eqb}
-use lib.Dec.{eqb}
 use lib.ListN.{length, take}
 use Rattle.laws.proofs.Cases.{either}
-use Rattle.sheets.specs.Sheets.{isPacking, weekOf, packing}
+use Rattle.sheets.specs.Sheets.{weekOf, packing}
 use Rattle.sheets.proofs.Sheets.{packing-word}
 use Rattle.sheets.specs.declared.Packed.{Packed}
 use Rattle.sheets.specs.declared.Packed.the-variants.{Word, NoDay, Bad}
@@ -20,7 +19,7 @@ use Rattle.sheet_list.specs.Adding.{Held, held, listOf, mostWords, table
 use Rattle.sheet_list.specs.Adding.{addingWord, addingPacked, adding, addingAll}
 use Rattle.sheet_list.specs.Ascending.{inserted}
 use Rattle.sheet_list.specs.Private.{countedIn, weekIn}
-use Rattle.sheet_list.specs.Weeks.{weeksOf, tableOf, hasWeek}
+use Rattle.sheet_list.specs.Weeks.{tableOf}
 use Rattle.sheet_list.proofs.Holding.{Sound, sound, is-held, list-length, table-with, week-among, with-sound, with-words}
 use Rattle.sheet_list.proofs.Ranks.{inserted-length}
 

@@ -3,10 +3,9 @@
 use Prim.Native.Nat.{ℕ, suc, _+_, _≤_, _<_}
 use mathlib.Core.Bool.{Bool, true, false, cond}
 use mathlib.Core.List.{List, [], _∷_}
-use mathlib.Core.Logic.{_⊎_}
 use mathlib.Core.Path.{_≡_}
 use lib.Dec.{eqb}
-use lib.ListN.{length, drop}
+use lib.ListN.{drop}
 use Rattle.sheets.specs.Packing.{packed}
 use Rattle.sheets.specs.Sheets.{weekOf, weekOfDate, packing}
 use Rattle.sheets.specs.declared.Packed.the-variants.{Word, NoDay, Bad}
@@ -14,9 +13,9 @@ use Rattle.sheets.specs.declared.SheetFields.{SheetFields}
 use Rattle.calendar.specs.Calendar.{isoYear, isoWeek}
 use Rattle.calendar.specs.declared.Date.{Date}
 use Rattle.values.specs.Values.{dayNumberOf}
-use Rattle.sheet_list.specs.Adding.{Held, listOf, isHeld, isFull, Outcome, adding, addingAll}
+use Rattle.sheet_list.specs.Adding.{Held, listOf, isHeld, isFull, adding}
 use Rattle.sheet_list.specs.Ascending.{ascending, inserted}
-use Rattle.sheet_list.specs.Weeks.{Tally, tally, weeksOf, tallyWord, tableOf}
+use Rattle.sheet_list.specs.Weeks.{Tally, tally, weeksOf, tallyWord}
 
 -- how many words of a list pass a test
 unfoldable pub howMany : (ℕ → Bool) → List ℕ → ℕ

@@ -14,7 +14,7 @@ ghost use mathlib.Core.Path.{_≡_};
 ghost use Prim.Native.Nat.{_+_, _*_, _≤_, _<_, _^_};
 ghost use lib.ListN.{length};
 ghost use Rattle.sheets.specs.Sheets.{isPacking};
-ghost use Rattle.sheet_list.specs.Adding.{held, outcomeOf, isHeld, isFull, with, outcome, addingWord, adding, sheetAt, addingWords};
+ghost use Rattle.sheet_list.specs.Adding.{held, outcomeOf, isHeld, isFull, with, addingWord, adding, sheetAt, addingWords};
 
 // What adding gives: number and place, how many sheets were added before it ended, and how many words and weeks are then held.
 pub struct Added {

@@ -2,7 +2,7 @@
 -- Assumes nothing.
 use Prim.Native.Nat.{ℕ}
 use mathlib.Core.Bool.{Bool, true, false, cond}
-use mathlib.Core.Path.{_≡_, refl, sym, ap, _∙_}
+use mathlib.Core.Path.{_≡_, refl, ap}
 use Rattle.laws.proofs.Cases.{clash}
 use Rattle.sheets.specs.Rules.{SheetRules}
 use Rattle.sheets.specs.Sheets.{wordOf, sheetOf, isValid, isPacking, unpacking}

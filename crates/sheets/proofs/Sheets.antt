@@ -1,14 +1,13 @@
 -- Valid sheets and their words are each other's inverse (RULES 11.1).
 -- Assumes nothing.
-use Prim.Native.Nat.{ℕ, zero, suc, _+_, _-_, _*_, _/_, _%_, _^_, _≤_, _<_}
-use mathlib.Core.Bool.{Bool, true, false, cond, _&&_, and-eq-true-iff}
-use mathlib.Core.List.{List, [], _∷_}
+use Prim.Native.Nat.{ℕ, suc, _+_, _-_, _*_, _^_, _≤_, _<_}
+use mathlib.Core.Bool.{Bool, true, false, cond, and-eq-true-iff}
 use mathlib.Core.Path.{_≡_, refl, sym, ap, _∙_}
 use native.Mathlib.Decide.{decLt}
 use native.Mathlib.Omega.{arith}
 use borrow.Author.Tests.{eqb-true, eq-eqb, leb-true, le-leb, le-ltb, lt-ltb}
-use lib.Dec.{eqb, leb}
-use lib.IntN.{ℤ, pos, negsuc, natAbs, subℕ, _+ℤ_, _-ℤ_}
+use lib.Dec.{eqb}
+use lib.IntN.{ℤ, pos, negsuc, natAbs, subℕ, _-ℤ_}
 use Rattle.laws.proofs.Cases.{clash}
 use Rattle.calendar.specs.Calendar.{date}
 use Rattle.calendar.proofs.Dates.{Valid}
@@ -23,7 +22,7 @@ use Rattle.values.specs.declared.MomentFields.the-variants.{Valid as ValidField
 use Rattle.values.specs.declared.offsets.Offset.{Offset}
 use Rattle.values.specs.declared.offsets.Offset.the-variants.{Unsaid as NoOffset, Minutes}
 use Rattle.values.proofs.Ranges.{ValidMoment, no-fault-moment}
-use Rattle.sheets.specs.Packing.{bits, packed, unpacked, Fit}
+use Rattle.sheets.specs.Packing.{bits, packed, Fit}
 use Rattle.words.specs.Words.{flag, numberOr0, offsetFlag}
 use Rattle.sheets.specs.Sheets.{sheetWidths, offsetField, fields, wordOf, saidFrom, fieldOffset}
 use Rattle.sheets.specs.Sheets.{sheetFrom, sheetOf, faultOf, isValid, isPacking, packingOf, dated, packing}

@@ -1,30 +1,26 @@
 -- A word is the packing of a sheet exactly if each field passes its test.
 -- Assumes nothing.
 use Prim.Native.Nat.{ℕ, zero, suc, _+_, _-_, _*_, _/_, _%_, _^_, _≤_, _<_}
-use mathlib.Core.Bool.{Bool, true, false, cond, _&&_, _||_, and-eq-true-iff}
-use mathlib.Core.List.{List, [], _∷_}
+use mathlib.Core.Bool.{Bool, true, false, _&&_, _||_, and-eq-true-iff}
 use mathlib.Core.Logic.{_⊎_, inl, inr, ⊎-elim}
 use mathlib.Core.Path.{_≡_, refl, sym, ap, _∙_}
-use native.Mathlib.Decide.{ℕ-discrete, decLe, decLt}
+use native.Mathlib.Decide.{ℕ-discrete}
 use native.Mathlib.Omega.{arith}
-use borrow.Author.Tests.{eqb-true, eq-eqb, ne-eqb, leb-true, le-leb, ltb-true, lt-ltb, le-ltb, lt-leb}
+use borrow.Author.Tests.{eq-eqb, ne-eqb, leb-true, le-leb, ltb-true, lt-ltb}
 use lib.Dec.{eqb, leb, ltb}
 use lib.ListN.{getD}
-use Rattle.laws.proofs.Cases.{clash}
-use Rattle.calendar.specs.Calendar.{dateFault}
-use Rattle.calendar.proofs.Dates.{Valid, valid-no-fault}
+use Rattle.calendar.proofs.Dates.{valid-no-fault}
 use Rattle.strptime.specs.declared.Said.{Said}
 use Rattle.strptime.specs.declared.Said.the-variants.{Unsaid, Is}
 use Rattle.values.specs.Moments.{momentFault}
-use Rattle.values.specs.Offsets.{isOffset, offsetNumber, offsetOf}
+use Rattle.values.specs.Offsets.{isOffset, offsetOf}
 use Rattle.values.specs.declared.offsets.Offset.{Offset}
 use Rattle.values.specs.declared.offsets.Offset.the-variants.{Unsaid as NoOffset, Minutes}
 use Rattle.words.specs.Words.{flag, numberOr0, offsetFlag}
-use Rattle.sheets.specs.Packing.{bits, packed, unpacked}
+use Rattle.sheets.specs.Packing.{bits, unpacked}
 use Rattle.sheets.specs.Private.{isField, isDate}
-use Rattle.sheets.specs.Sheets.{sheetWidths, offsetField, fields, wordOf, saidFrom, fieldOffset, sheetFrom, sheetOf, faultOf, isValid, isPacking}
-use Rattle.sheets.specs.declared.Sheet.{Sheet}
-use Rattle.sheets.proofs.Sheets.{Small, small, word-is, unshifted, packing-valid, packing-again}
+use Rattle.sheets.specs.Sheets.{sheetWidths, offsetField, wordOf, saidFrom, fieldOffset, sheetFrom, sheetOf, faultOf, isValid, isPacking}
+use Rattle.sheets.proofs.Sheets.{small, word-is, unshifted, packing-valid, packing-again}
 
 -- ---- one field
 

@@ -20,13 +20,22 @@ add-all-requires : tie.Need-add-all-requires
 add-all-requires c κs = search needs
 
 cast-t12 : tie.Need-cast-t12
-cast-t12 c = record { fits = count-small _ _ _ (c .before .before .before .before .before .before .before .before .before .before .before .before .before .before .before .args .counts .now) (c .before .before .before .before .before .before .before .before .before .wide .ensures) (c .before .before .before .before .before .before .wide2 .ensures) (c .before .before .before .before .before .add-all .ensures) }
+cast-t12 c =
+    let a = c .before .before .before .before .before in
+    let s = a .before .before .before .before .before .before .before .before .before .before in
+    record { fits = count-small _ _ _ (s .args .counts .now) (a .before .before .before .before .wide .ensures) (a .before .wide2 .ensures) (a .add-all .ensures) }
 
 cast-t18 : tie.Need-cast-t18
-cast-t18 c = record { fits = weeks-small _ _ _ (c .before .before .before .before .before .before .before .before .before .before .before .before .before .before .before .before .args .counts .now) (c .before .before .before .before .before .before .before .before .before .before .wide .ensures) (c .before .before .before .before .before .before .before .wide2 .ensures) (c .before .before .before .before .before .before .add-all .ensures) }
+cast-t18 c =
+    let a = c .before .before .before .before .before .before in
+    let s = a .before .before .before .before .before .before .before .before .before .before in
+    record { fits = weeks-small _ _ _ (s .args .counts .now) (a .before .before .before .before .wide .ensures) (a .before .wide2 .ensures) (a .add-all .ensures) }
 
 cast-t12-2 : tie.Need-cast-t12-2
-cast-t12-2 c = record { fits = index-small _ _ _ (c .before .before .before .before .before .before .before .before .before .before .before .before .before .before .before .before .before .before .args .counts .now) (c .before .before .before .before .before .before .before .before .before .before .before .before .wide .ensures) (c .before .before .before .before .before .before .before .before .before .wide2 .ensures) (c .before .before .before .before .before .before .before .before .add-all .ensures) }
+cast-t12-2 c =
+    let a = c .before .before .before .before .before .before .before .before in
+    let s = a .before .before .before .before .before .before .before .before .before .before in
+    record { fits = index-small _ _ _ (s .args .counts .now) (a .before .before .before .before .wide .ensures) (a .before .wide2 .ensures) (a .add-all .ensures) }
 
 same-length : tie.Need-same-length
 same-length c = search needs
@@ -35,7 +44,10 @@ same-length-2 : tie.Need-same-length-2
 same-length-2 c = search needs
 
 returns : tie.Need-returns
-returns c = told _ _ _ (c .before .before .before .before .before .before .before .before .before .before .before .before .before .before .before .before .before .before .before .args .counts .now) (c .before .before .before .before .before .before .before .before .before .before .before .before .before .wide .ensures) (c .before .before .before .before .before .before .before .before .before .before .wide2 .ensures) (c .before .before .before .before .before .before .before .before .before .add-all .ensures)
+returns c =
+    let a = c .before .before .before .before .before .before .before .before .before in
+    let s = a .before .before .before .before .before .before .before .before .before .before in
+    told _ _ _ (s .args .counts .now) (a .before .before .before .before .wide .ensures) (a .before .wide2 .ensures) (a .add-all .ensures)
 
 pub larusqem-add-words-spec : {M : Type 1} → statement M
 larusqem-add-words-spec =

@@ -1,7 +1,5 @@
 -- `larusqem_sheets::larusqem_list_words` meets its contract. Assumes nothing.
 use Rattle.larusqem_sheets.specs.Sheets.{judged}
-use mathlib.Core.Bool.{Bool, cond}
-use mathlib.Core.Path.{sym, ap, _∙_}
 use borrow.Author.Needs.{needs}
 use Rattle.larusqem_sheets.proofs.larusqem_list_words.Statement.{statement}
 use Rattle.larusqem_sheets.proofs.larusqem_list_words.Tie as tie
@@ -24,12 +22,14 @@ is-held-requires c κs = search needs
 returns : tie.Need-returns
 unfolding judged
 returns c =
-    rw (← c .before .before .before .before .wide .ensures .0, ← c .before .before .wide2 .ensures .0, ← c .before .is-held .ensures, c .if1 .taken)
+    let h = c .before in
+    rw (← h .before .before .before .wide .ensures .0, ← h .before .wide2 .ensures .0, ← h .is-held .ensures, c .if1 .taken)
 
 returns-2 : tie.Need-returns-2
 unfolding judged
 returns-2 c =
-    rw (← c .before .before .before .before .wide .ensures .0, ← c .before .before .wide2 .ensures .0, ← c .before .is-held .ensures, c .if1 .left)
+    let h = c .before in
+    rw (← h .before .before .before .wide .ensures .0, ← h .before .wide2 .ensures .0, ← h .is-held .ensures, c .if1 .left)
 
 pub larusqem-list-words-spec : {M : Type 1} → statement M
 larusqem-list-words-spec =

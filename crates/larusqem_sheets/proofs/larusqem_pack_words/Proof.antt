@@ -1,7 +1,6 @@
 -- `larusqem_sheets::larusqem_pack_words` meets its contract. Assumes nothing.
 use Rattle.larusqem_sheets.specs.Sheets.{packedNumber, packedWord}
 use Rattle.sheets.specs.Sheets.{packing}
-use native.Mathlib.Omega.{arith}
 use mathlib.Core.Path.{refl, sym, ap, _∙_}
 use borrow.Author.Needs.{needs}
 use Rattle.larusqem_sheets.proofs.larusqem_pack_words.Statement.{statement}
@@ -37,20 +36,20 @@ add-result c = search needs
 returns : tie.Need-returns
 unfolding packedNumber packedWord
 returns c =
-    let e = ap packing (sym (c .before .before .before .before .before .fields-of .ensures)) ∙ sym (c .before .before .before .before .pack .ensures) ∙ c .before .before .packed .given .1 in
-    rw e (refl, refl)
+    let p = c .before .before .before .before in
+    rw (ap packing (sym (p .before .fields-of .ensures)) ∙ sym (p .pack .ensures) ∙ c .before .before .packed .given .1) (refl, refl)
 
 returns-2 : tie.Need-returns-2
 unfolding packedNumber packedWord
 returns-2 c =
-    let e = ap packing (sym (c .before .before .before .before .fields-of .ensures)) ∙ sym (c .before .before .before .pack .ensures) ∙ c .before .enum-told .given .1 in
-    rw e (refl, refl)
+    let p = c .before .before .before in
+    rw (ap packing (sym (p .before .fields-of .ensures)) ∙ sym (p .pack .ensures) ∙ c .before .enum-told .given .1) (refl, refl)
 
 returns-3 : tie.Need-returns-3
 unfolding packedNumber packedWord
 returns-3 c =
-    let e = ap packing (sym (c .before .before .before .before .before .fields-of .ensures)) ∙ sym (c .before .before .before .before .pack .ensures) ∙ c .before .before .field .given .1 in
-    rw e (refl, refl)
+    let p = c .before .before .before .before in
+    rw (ap packing (sym (p .before .fields-of .ensures)) ∙ sym (p .pack .ensures) ∙ c .before .before .field .given .1) (refl, refl)
 
 pub larusqem-pack-words-spec : {M : Type 1} → statement M
 larusqem-pack-words-spec =

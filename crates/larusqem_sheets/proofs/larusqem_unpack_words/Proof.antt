@@ -20,11 +20,13 @@ enum-told c = search needs
 returns : tie.Need-returns
 unfolding unpackedNumber unpackedWords
 returns c =
-    rw (sym (c .before .before .before .before .before .unpack .ensures) ∙ c .before .before .before .held .given .1) (refl, c .tell .ensures)
+    let u = c .before .before .before .before .before .unpack in
+    rw (sym (u .ensures) ∙ c .before .before .before .held .given .1) (refl, c .tell .ensures)
 
 returns-2 : tie.Need-returns-2
 unfolding unpackedNumber unpackedWords
-returns-2 c = rw (sym (c .before .before .before .unpack .ensures) ∙ c .before .enum-told .given .1) (refl, refl)
+returns-2 c =
+    rw (sym (c .before .before .before .unpack .ensures) ∙ c .before .enum-told .given .1) (refl, refl)
 
 pub larusqem-unpack-words-spec : {M : Type 1} → statement M
 larusqem-unpack-words-spec =

@@ -40,7 +40,19 @@ offset-word-requires c κs = search needs
 returns : tie.Need-returns
 unfolding wordsOf
 returns c =
-    rw (c .before .before .before .before .before .before .before .before .flag .ensures, c .before .before .before .before .before .before .before .number-or-0 .ensures, c .before .before .before .before .before .before .flag2 .ensures, c .before .before .before .before .before .number-or-02 .ensures, c .before .before .before .before .flag3 .ensures, c .before .before .before .number-or-03 .ensures, c .before .before .offset-flag .ensures, c .before .offset-word .ensures)
+    let o = c .before .before in
+    let s = o .before .before .before in
+    let n = s .before .before in
+    rw (
+      n .before .flag .ensures,
+      n .number-or-0 .ensures,
+      s .before .flag2 .ensures,
+      s .number-or-02 .ensures,
+      o .before .before .flag3 .ensures,
+      o .before .number-or-03 .ensures,
+      o .offset-flag .ensures,
+      c .before .offset-word .ensures,
+    )
 
 pub tell-spec : {M : Type 1} → statement M
 tell-spec =

@@ -1,7 +1,6 @@
 -- `sheets::is_field` meets its contract. Assumes nothing.
 use Rattle.sheets.specs.Private.{isField}
 use borrow.Author.Tests.{eq-eqb, ne-eqb, lt-leb, le-leb}
-use native.Mathlib.Omega.{arith}
 use Rattle.sheets.proofs.is_field.Statement.{statement}
 use Rattle.sheets.proofs.is_field.Tie as tie
 

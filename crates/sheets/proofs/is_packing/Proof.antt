@@ -1,5 +1,5 @@
 -- `sheets::is_packing` meets its contract. Assumes nothing.
-use Rattle.sheets.proofs.Testing.{Tests, not-packing, by-last}
+use Rattle.sheets.proofs.Testing.{not-packing, by-last}
 use Rattle.sheets.specs.Private.{isDate}
 use Rattle.laws.proofs.Cases.{clash}
 use mathlib.Core.Path.{sym, ap, _∙_}

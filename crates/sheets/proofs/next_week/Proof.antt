@@ -1,10 +1,8 @@
 -- `sheets::next_week` meets its contract. Assumes nothing.
-use Prim.Native.Nat.{_+_, _-_}
 use Rattle.sheets.proofs.Order.{day-year}
-use Rattle.sheets.specs.Sheets.{dateWord, wordFrom, nextWeek}
+use Rattle.sheets.specs.Sheets.{wordFrom, nextWeek}
 use Rattle.calendar.proofs.Weeks.{number-small}
-use Rattle.calendar.specs.Dates.{fromDayNumber}
-use mathlib.Core.Path.{sym, ap, _∙_}
+use mathlib.Core.Path.{sym, _∙_}
 use native.Mathlib.Omega.{arith}
 use borrow.Author.Needs.{needs}
 use Rattle.sheets.proofs.next_week.Statement.{statement}

@@ -1,8 +1,6 @@
 -- `sheets::pack` meets its contract. Assumes nothing.
 use Rattle.sheets.proofs.Sheets.{judged-bad, judged-valid}
-use Rattle.sheets.specs.declared.Packed.the-variants.{Word, Bad}
-use Rattle.sheets.specs.Sheets.{isValid, wordOf, packing, dated, packingOf}
-use mathlib.Core.Path.{sym, ap, _∙_}
+use Rattle.sheets.specs.Sheets.{isValid, packing, dated, packingOf}
 use borrow.Author.Needs.{needs}
 use Rattle.sheets.proofs.pack.Statement.{statement}
 use Rattle.sheets.proofs.pack.Tie as tie

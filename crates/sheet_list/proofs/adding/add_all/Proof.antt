@@ -1,14 +1,9 @@
 -- `sheet_list::adding::add_all` meets its contract. Assumes nothing.
 use Rattle.sheet_list.proofs.Loop.{Adding, adding-start, adding-stops, adding-goes, adding-ends, words-then, table-then, index-then}
-use Rattle.sheet_list.proofs.Steps.{adding-lengths, adding-taken, all-stops, all-goes, all-ends}
-use Rattle.sheet_list.specs.Adding.{held, Outcome, outcome, outcomeOf, isHeld, adding, addingAll, sheetAt, addingWords}
-use lib.ListN.{length}
+use Rattle.sheet_list.specs.Adding.{held}
 use borrow.Author.Tests.{ltb-true}
 use native.Mathlib.Omega.{arith}
-use native.Mathlib.Numerals.{add-one}
-use mathlib.Core.Path.{_≡_, refl, sym, ap, _∙_}
-use mathlib.Core.Bool.{true}
-use Prim.Native.Nat.{_-_, _≤_, _<_}
+use Prim.Native.Nat.{_-_}
 use Rattle.sheet_list.proofs.adding.add_all.Statement.{statement}
 use Rattle.sheet_list.proofs.adding.add_all.Tie as tie
 
@@ -28,19 +23,39 @@ add-sheet-requires : tie.Need-add-sheet-requires Inv-loop μ-loop
 add-sheet-requires c κs = ((λ z. c .before .before .before .before .before .loop .inv .holds (ltb-true 0 _ z)), omega arith)
 
 same-length : tie.Need-same-length Inv-loop μ-loop
-same-length c = words-then _ _ (c .before .before .before .before .before .before .before .before .before .before .before .before .loop .inv) (c .before .before .before .before .before .before .before .before .before .before .if1 .taken) (c .before .before .before .before .before .before .before .before .before .sheet-at .ensures) (c .before .before .before .before .before .before .add-sheet .ensures)
+same-length c =
+    let a = c .before .before .before .before .before .before in
+    let t = a .before .before .before in
+    let l = t .before .before .before .loop in
+    words-then _ _ (l .inv) (t .before .if1 .taken) (t .sheet-at .ensures) (a .add-sheet .ensures)
 
 same-length-2 : tie.Need-same-length-2 Inv-loop μ-loop
-same-length-2 c = table-then _ _ (c .before .before .before .before .before .before .before .before .before .before .before .before .loop .inv) (c .before .before .before .before .before .before .before .before .before .before .if1 .taken) (c .before .before .before .before .before .before .before .before .before .sheet-at .ensures) (c .before .before .before .before .before .before .add-sheet .ensures)
+same-length-2 c =
+    let a = c .before .before .before .before .before .before in
+    let t = a .before .before .before in
+    let l = t .before .before .before .loop in
+    table-then _ _ (l .inv) (t .before .if1 .taken) (t .sheet-at .ensures) (a .add-sheet .ensures)
 
 returns : tie.Need-returns Inv-loop μ-loop
-returns c = adding-stops _ _ (c .before .before .before .before .before .before .before .before .before .before .before .before .loop .inv) (c .before .before .before .before .before .before .before .before .before .before .if1 .taken) (c .before .before .before .before .before .before .before .before .before .sheet-at .ensures) (c .before .before .before .before .before .before .add-sheet .ensures) (c .if2 .taken)
+returns c =
+    let a = c .before .before .before .before .before .before in
+    let t = a .before .before .before in
+    let l = t .before .before .before .loop in
+    adding-stops _ _ (l .inv) (t .before .if1 .taken) (t .sheet-at .ensures) (a .add-sheet .ensures) (c .if2 .taken)
 
 loop-less : tie.Need-loop-less Inv-loop μ-loop
-loop-less c = omega (arith, index-then _ _ (c .before .before .before .before .before .before .before .before .before .before .before .before .loop .inv) (c .before .before .before .before .before .before .before .before .before .before .if1 .taken) (c .before .before .before .before .before .before .before .before .before .sheet-at .ensures) (c .before .before .before .before .before .before .add-sheet .ensures) (c .if2 .left))
+loop-less c =
+    let a = c .before .before .before .before .before .before in
+    let t = a .before .before .before in
+    let l = t .before .before .before .loop in
+    omega (arith, index-then _ _ (l .inv) (t .before .if1 .taken) (t .sheet-at .ensures) (a .add-sheet .ensures) (c .if2 .left))
 
 loop-again : tie.Need-loop-again Inv-loop μ-loop
-loop-again c = adding-goes _ _ (c .before .before .before .before .before .before .before .before .before .before .before .before .loop .inv) (c .before .before .before .before .before .before .before .before .before .before .if1 .taken) (c .before .before .before .before .before .before .before .before .before .sheet-at .ensures) (c .before .before .before .before .before .before .add-sheet .ensures) (c .if2 .left)
+loop-again c =
+    let a = c .before .before .before .before .before .before in
+    let t = a .before .before .before in
+    let l = t .before .before .before .loop in
+    adding-goes _ _ (l .inv) (t .before .if1 .taken) (t .sheet-at .ensures) (a .add-sheet .ensures) (c .if2 .left)
 
 same-length-3 : tie.Need-same-length-3 Inv-loop μ-loop
 same-length-3 c = c .before .before .loop .inv .words

@@ -1,7 +1,7 @@
 -- `sheet_list::adding::add_sheet` meets its contract. Assumes nothing.
 use Rattle.sheet_list.proofs.Steps.{sheet-undated, sheet-bad, sheet-word}
 use Rattle.sheets.proofs.Sheets.{packing-word}
-use mathlib.Core.Path.{sym, ap, _∙_}
+use mathlib.Core.Path.{sym, _∙_}
 use borrow.Author.Needs.{needs}
 use Rattle.sheet_list.proofs.adding.add_sheet.Statement.{statement}
 use Rattle.sheet_list.proofs.adding.add_sheet.Tie as tie
@@ -24,7 +24,8 @@ enum-known-word c = search needs
 add-word-requires : tie.Need-add-word-requires
 add-word-requires c κs =
     let s = c .before .before .before .before .before .before .before .before in
-    (s .pre .0, (packing-word (s .args .fields) (sym (c .before .before .before .before .before .pack .ensures) ∙ c .before .before .before .word .given .1), s .pre .1))
+    let e = sym (c .before .before .before .before .before .pack .ensures) ∙ c .before .before .before .word .given .1 in
+    (s .pre .0, (packing-word (s .args .fields) e, s .pre .1))
 
 returns : tie.Need-returns
 returns c = sheet-undated _ _ _ (sym (c .before .before .pack .ensures) ∙ c .enum-told .given .1)
@@ -40,7 +41,9 @@ same-length-2 c = search needs
 
 returns-3 : tie.Need-returns-3
 returns-3 c =
-    c .before .before .before .before .add-word .ensures ∙ sheet-word _ _ _ (sym (c .before .before .before .before .before .before .before .before .before .before .pack .ensures) ∙ c .before .before .before .before .before .before .before .before .word .given .1)
+    let w = c .before .before .before .before .before .before .before .before in
+    c .before .before .before .before .add-word .ensures
+    ∙ sheet-word _ _ _ (sym (w .before .before .pack .ensures) ∙ w .word .given .1)
 
 pub add-sheet-spec : {M : Type 1} → statement M
 add-sheet-spec =

@@ -1,7 +1,7 @@
 -- `sheet_list::adding::add_word` meets its contract. Assumes nothing.
 use Rattle.sheet_list.proofs.Steps.{word-unheld, word-full, word-added}
 use Rattle.sheet_list.proofs.Holding.{sound}
-use mathlib.Core.Path.{sym, ap, _∙_}
+use mathlib.Core.Path.{sym, _∙_}
 use borrow.Author.Tests.{not-true, not-false}
 use native.Mathlib.Omega.{arith}
 use borrow.Author.Needs.{needs}
@@ -22,8 +22,8 @@ returns c = word-unheld _ _ _ (sym (c .before .is-sound .ensures) ∙ not-true _
 
 is-full-requires : tie.Need-is-full-requires
 is-full-requires c κs =
-    let s = c .before .before .before .before .before .before .before .before in
-    (sym (c .before .before .before .is-sound .ensures) ∙ not-false _ (c .before .before .if1 .left), s .pre .1 .0)
+    let e = c .before .before in
+    (sym (e .before .is-sound .ensures) ∙ not-false _ (e .if1 .left), c .before .before .before .before .before .before .before .before .pre .1 .0)
 
 same-length-3 : tie.Need-same-length-3
 same-length-3 c = search needs
@@ -33,22 +33,23 @@ same-length-4 c = search needs
 
 returns-2 : tie.Need-returns-2
 returns-2 c =
-    word-full _ _ _ (sym (c .before .before .before .before .before .is-sound .ensures) ∙ not-false _ (c .before .before .before .before .if1 .left)) (sym (c .before .is-full .ensures) ∙ c .if2 .taken)
+    let e = c .before .before .before .before in
+    word-full _ _ _ (sym (e .before .is-sound .ensures) ∙ not-false _ (e .if1 .left)) (sym (c .before .is-full .ensures) ∙ c .if2 .taken)
 
 put-word-requires : tie.Need-put-word-requires
 put-word-requires c κs =
-    let s = c .before .before .before .before .before .before .before .before .before .before .before .before in (
-      sym (c .before .before .before .before .before .before .before .is-sound .ensures) ∙ not-false _ (c .before .before .before .before .before .before .if1 .left),
-      (s .pre .1 .0, sym (c .before .before .before .is-full .ensures) ∙ c .before .before .if2 .left),
-    )
+    let f = c .before .before in
+    let e = f .before .before .before .before in
+    let s = e .before .before .before .before .before .before in
+    (sym (e .before .is-sound .ensures) ∙ not-false _ (e .if1 .left), (s .pre .1 .0, sym (f .before .is-full .ensures) ∙ f .if2 .left))
 
 add-t24 : tie.Need-add-t24
 add-t24 c = search needs
 
 add-t25 : tie.Need-add-t25
 add-t25 c =
-    let s = c .before .before .before .before .before .before .before .before .before .before .before .before .before .before .before .before .before in
-    let v = sound _ (sym (c .before .before .before .before .before .before .before .before .before .before .before .before .is-sound .ensures) ∙ not-false _ (c .before .before .before .before .before .before .before .before .before .before .before .if1 .left)) in
+    let e = c .before .before .before .before .before .before .before .before .before .before .before in
+    let v = sound _ (sym (e .before .is-sound .ensures) ∙ not-false _ (e .if1 .left)) in
     record { fits = omega (arith, v .within, v .short) }
 
 same-length-5 : tie.Need-same-length-5
@@ -59,7 +60,11 @@ same-length-6 c = search needs
 
 returns-3 : tie.Need-returns-3
 returns-3 c =
-    word-added _ _ _ (sym (c .before .before .before .before .before .before .before .before .before .before .before .before .is-sound .ensures) ∙ not-false _ (c .before .before .before .before .before .before .before .before .before .before .before .if1 .left)) (sym (c .before .before .before .before .before .before .before .before .is-full .ensures) ∙ c .before .before .before .before .before .before .before .if2 .left)
+    let f = c .before .before .before .before .before .before .before in
+    let e = f .before .before .before .before in
+    word-added _ _ _
+    (sym (e .before .is-sound .ensures) ∙ not-false _ (e .if1 .left))
+    (sym (f .before .is-full .ensures) ∙ f .if2 .left)
     (c .before .before .before .before .put-word .ensures)
 
 pub add-word-spec : {M : Type 1} → statement M

@@ -2,7 +2,6 @@
 use Rattle.sheet_list.proofs.Steps.{full-array, weeks-left, by-weeks}
 use Rattle.sheet_list.proofs.Holding.{sound, table-rises}
 use Rattle.sheet_list.specs.Private.{weekIn}
-use Rattle.sheet_list.specs.Adding.{held}
 use Rattle.sheets.proofs.Order.{packing-week}
 use lib.ListN.{take}
 use lib.Seq.{length-take-le}

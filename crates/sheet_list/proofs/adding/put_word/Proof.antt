@@ -4,7 +4,7 @@ use Rattle.sheet_list.proofs.Holding.{sound, room-left, table-rises, ta
 use Rattle.sheet_list.specs.Private.{countedIn}
 use Rattle.sheets.proofs.Order.{packing-week}
 use lib.ListN.{length, take}
-use mathlib.Core.Path.{sym, ap, _∙_}
+use mathlib.Core.Path.{ap, _∙_}
 use native.Mathlib.Omega.{arith}
 use borrow.Author.Needs.{needs}
 use Rattle.sheet_list.proofs.adding.put_word.Statement.{statement}

@@ -1,10 +1,8 @@
 -- `sheet_list::ascending::insert` meets its contract. Assumes nothing.
 use Rattle.sheet_list.proofs.Ranks.{below-most, inserted-is}
-use Rattle.sheet_list.specs.Private.{putAt}
-use Rattle.sheet_list.specs.Adding.{over}
 use lib.Seq.{length-take-le}
 use lib.ListN.{take}
-use mathlib.Core.Path.{sym, ap, _∙_}
+use mathlib.Core.Path.{sym}
 use native.Mathlib.Omega.{arith}
 use borrow.Author.Needs.{needs}
 use Rattle.sheet_list.proofs.ascending.insert.Statement.{statement}

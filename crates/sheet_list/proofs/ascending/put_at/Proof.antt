@@ -1,10 +1,8 @@
 -- `sheet_list::ascending::put_at` meets its contract. Assumes nothing.
-use lib.ListN.{length}
 use Rattle.sheet_list.proofs.Shifting.{shifted-length, done}
 use Rattle.sheet_list.specs.Private.{Moves}
 use lib.ListN.{length-set}
 use mathlib.Core.Path.{_∙_}
-use native.Mathlib.Omega.{arith}
 use borrow.Author.Needs.{needs}
 use Rattle.sheet_list.proofs.ascending.put_at.Statement.{statement}
 use Rattle.sheet_list.proofs.ascending.put_at.Tie as tie

@@ -3,7 +3,6 @@ use Rattle.sheet_list.proofs.Ranks.{below-most, not-lower, lower}
 use Rattle.sheet_list.specs.Ascending.{below}
 use lib.ListN.{length}
 use native.Mathlib.Omega.{arith}
-use mathlib.Core.Path.{_≡_}
 use Prim.Native.Nat.{_-_, _≤_}
 use Rattle.sheet_list.proofs.ascending.rank.Statement.{statement}
 use Rattle.sheet_list.proofs.ascending.rank.Tie as tie

@@ -2,9 +2,8 @@
 use Rattle.sheet_list.proofs.Tables.{counted-held, at-held, at-new}
 use Rattle.sheet_list.proofs.Shifting.{over-set, put-length}
 use Rattle.sheet_list.proofs.Ranks.{below-most}
-use Rattle.sheet_list.specs.Adding.{over}
 use lib.Seq.{length-take-le, getD-take}
-use lib.ListN.{length, take, getD, length-set}
+use lib.ListN.{length, take, length-set}
 use mathlib.Core.Path.{sym, ap, _∙_}
 use Prim.Native.Nat.{_+_, _*_, _<_}
 use native.Mathlib.Omega.{arith}

@@ -7,7 +7,7 @@ use Rattle.laws.proofs.Lists.{each}
 use lib.ListN.{length, getD}
 use borrow.Author.Needs.{needs}
 use native.Mathlib.Omega.{arith}
-use mathlib.Core.Path.{_≡_, refl, sym, ap, _∙_}
+use mathlib.Core.Path.{refl, sym, _∙_}
 use Prim.Native.Nat.{_-_, _≤_}
 use Rattle.sheet_list.proofs.weeks.is_table.Statement.{statement}
 use Rattle.sheet_list.proofs.weeks.is_table.Tie as tie

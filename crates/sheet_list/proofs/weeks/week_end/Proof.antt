@@ -4,7 +4,7 @@ use Rattle.sheets.specs.Sheets.{weekOf, nextWeek}
 use lib.ListN.{length, getD}
 use borrow.Author.Needs.{needs}
 use native.Mathlib.Omega.{arith}
-use mathlib.Core.Path.{_≡_, refl, sym, ap, _∙_}
+use mathlib.Core.Path.{refl}
 use Prim.Native.Nat.{_-_, _≤_, _<_}
 use Rattle.sheet_list.proofs.weeks.week_end.Statement.{statement}
 use Rattle.sheet_list.proofs.weeks.week_end.Tie as tie
