@@ -60,7 +60,8 @@ module _ (a b : ℕ) (h : a < b) where
   either-way [] = unfold counted in counted-less a (tally b 1) [] h ∙ sym (counted-more b (tally a 1) [] h)
   either-way (t ∷ ts) = go (either-way ts) (cases a (t .week))
     where
-      go : counted a (counted b ts) ≡ counted b (counted a ts) → Cases a (t .week) → counted a (counted b (t ∷ ts)) ≡ counted b (counted a (t ∷ ts))
+      go : counted a (counted b ts) ≡ counted b (counted a ts) → Cases a (t .week)
+          → counted a (counted b (t ∷ ts)) ≡ counted b (counted a (t ∷ ts))
       go again (less g) = front t ts g ∙ sym (ap (counted b) (counted-less a t ts g) ∙ counted-more b (tally a 1) (t ∷ ts) h)
       go again (same g) =
           ap (counted a) (counted-more b t ts (omega (arith, g)))

@@ -43,7 +43,12 @@ module _ (h : Held) where
       pub other-length : (length (h .table) ≡ tableLength → ⊥) → false ≡ isHeld h
       unfolding isHeld
       other-length n =
-          rw (le-leb (length (h .words)) mostWords short, le-leb (h .count) (length (h .words)) within, ne-eqb (length (h .table)) tableLength n)
+          rw (
+            le-leb (length (h .words)) mostWords short,
+            le-leb (h .count) (length (h .words)) within,
+            ne-eqb (length (h .table))
+                tableLength n,
+          )
 
       module _ (size : length (h .table) ≡ tableLength) where
         pub past-table : length (h .table) < h .weeks → false ≡ isHeld h

@@ -125,7 +125,8 @@ module _ (s t : List ℕ) (w : Weekly 0 s) where
     walk-short l e = rw (drop-of-length-le t {i = j} l, split) at e
 
     module _ (l : j < length t) where
-      pub walk-differs : (getD t j 0 ≡ tallyWord (tally (weekOf (getD s i 0)) (weekRun (weekOf (getD s i 0)) (drop i s))) → ⊥) → Walk s t i j
+      pub walk-differs : (getD t j 0 ≡ tallyWord (tally (weekOf (getD s i 0)) (weekRun (weekOf (getD s i 0)) (drop i s))) → ⊥)
+          → Walk s t i j
           → false ≡ same t (tableOf s)
       unfolding same
       walk-differs n e = rw (drop-cons t j 0 l, split, ne-eqb _ _ n) at e

@@ -161,7 +161,8 @@ module _ (sheet : ℕ → SheetFields) (i m : ℕ) (h : Held) (l : i < m) where
   pub all-stops : (adding i (sheet i) h .number ≡ 0 → ⊥) → addingAll sheet i (m - i) h ≡ adding i (sheet i) h
   all-stops n = rw left (unfold addingAll in rw (ne-eqb (adding i (sheet i) h .number) 0 n))
 
-  pub all-goes : adding i (sheet i) h .number ≡ 0 → addingAll sheet i (m - i) h ≡ addingAll sheet (suc i) (m - suc i) (adding i (sheet i) h .held)
+  pub all-goes : adding i (sheet i) h .number ≡ 0
+      → addingAll sheet i (m - i) h ≡ addingAll sheet (suc i) (m - suc i) (adding i (sheet i) h .held)
   all-goes e = rw left (unfold addingAll in rw (eq-eqb (adding i (sheet i) h .number) 0 e))
 
 pub all-ends : (sheet : ℕ → SheetFields) (i m : ℕ) (h : Held) → m ≤ i → addingAll sheet i (m - i) h ≡ outcome 0 0 i h

@@ -150,7 +150,8 @@ fields-fit s v = (
 )
 
 -- its word, field by field behind each other, as it is worked out
-module _ (s : Sheet) {h n x o : ℕ} (p : h ≡ flag (s .hour) * 32 + numberOr0 (s .hour)) (q : n ≡ flag (s .minute) * 64 + numberOr0 (s .minute))
+module _ (s : Sheet) {h n x o : ℕ} (p : h ≡ flag (s .hour) * 32 + numberOr0 (s .hour))
+    (q : n ≡ flag (s .minute) * 64 + numberOr0 (s .minute))
     (r : x ≡ flag (s .second) * 64 + numberOr0 (s .second)) (t : o ≡ offsetFlag (s .offset) * 4096 + offsetField (s .offset)) where
   pub word-is : (((((s .date .year * 512 + s .date .month * 32 + s .date .day) * 64 + h) * 128 + n) * 128 + x) * 8192 + o) * 256 ≡ wordOf s
   unfolding wordOf packed sheetWidths fields bits

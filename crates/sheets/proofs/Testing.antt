@@ -19,7 +19,8 @@ use Rattle.values.specs.declared.offsets.Offset.the-variants.{Unsaid as NoOffse
 use Rattle.words.specs.Words.{flag, numberOr0, offsetFlag}
 use Rattle.sheets.specs.Packing.{bits, unpacked}
 use Rattle.sheets.specs.Private.{isField, isDate}
-use Rattle.sheets.specs.Sheets.{sheetWidths, offsetField, wordOf, saidFrom, fieldOffset, sheetFrom, sheetOf, faultOf, isValid, isPacking}
+use Rattle.sheets.specs.Sheets.{sheetWidths, offsetField, wordOf, saidFrom, fieldOffset, sheetFrom, sheetOf, faultOf, isValid}
+use Rattle.sheets.specs.Sheets.{isPacking}
 use Rattle.sheets.proofs.Sheets.{small, word-is, unshifted, packing-valid, packing-again}
 
 -- ---- one field
@@ -113,7 +114,8 @@ packing-tests x e =
       hour = rw (hour-is x d h n m o hl nl ml ol w) (ranged _ _ 32 24 (unsaid-zero (s .hour)) (omega (arith, v .hour)));
       minute = rw (minute-is x d h n m o hl nl ml ol w) (ranged _ _ 64 60 (unsaid-zero (s .minute)) (omega (arith, v .minute)));
       second = rw (second-is x d h n m o hl nl ml ol w) (ranged _ _ 64 61 (unsaid-zero (s .second)) (omega (arith, v .second)));
-      offset = rw (offset-is x d h n m o hl nl ml ol w) (ranged _ _ 4096 2879 (no-offset-zero (s .offset)) (omega (arith, v .offset-field)));
+      offset = rw (offset-is x d h n m o hl nl ml ol w)
+          (ranged _ _ 4096 2879 (no-offset-zero (s .offset)) (omega (arith, v .offset-field)));
       low = low-is x d h n m o hl nl ml ol w;
     }
 

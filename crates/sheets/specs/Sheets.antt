@@ -141,7 +141,8 @@ weekOfDate t = packed weekWidths (isoYear (dayNumberOf t) ∷ isoWeek (dayNumber
 unfoldable pub weekOf : ℕ → ℕ
 weekOf x = weekOfDate (sheetOf x .date)
 
--- the lowest word of a later week: that of the Monday after, where nothing else is said, or the highest number where the calendar ends first
+-- the lowest word of a later week: that of the Monday after, where nothing else is said, or the highest number where the calendar ends
+-- first
 unfoldable pub dateWord : Date → ℕ
 dateWord t = packed (14 ∷ 4 ∷ 5 ∷ 41 ∷ []) (t .year ∷ t .month ∷ t .day ∷ 0 ∷ [])
 
@@ -155,5 +156,6 @@ nextWeek x = let k = dayNumberOf (sheetOf x .date) in wordFrom (fromDayNumber (k
 -- everything here, for proofs that compute
 unfoldable pub computes : Unit {0}
 unfolding sheetWidths offsetField fields wordOf saidFrom fieldOffset sheetFrom sheetOf
-    faultOf isValid isPacking unpacking packingOf dated packing dayFields readingFields dateFrom fieldsFrom weekWidths weekOfDate weekOf dateWord wordFrom nextWeek
+    faultOf isValid isPacking unpacking packingOf dated packing dayFields readingFields dateFrom fieldsFrom weekWidths weekOfDate weekOf
+    dateWord wordFrom nextWeek
 computes = tt

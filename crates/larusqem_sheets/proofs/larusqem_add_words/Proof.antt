@@ -23,19 +23,28 @@ cast-t12 : tie.Need-cast-t12
 cast-t12 c =
     let a = c .before .before .before .before .before in
     let s = a .before .before .before .before .before .before .before .before .before .before in
-    record { fits = count-small _ _ _ (s .args .counts .now) (a .before .before .before .before .wide .ensures) (a .before .wide2 .ensures) (a .add-all .ensures) }
+    record {
+      fits = count-small _ _ _ (s .args .counts .now) (a .before .before .before .before .wide .ensures) (a .before .wide2 .ensures)
+          (a .add-all .ensures);
+    }
 
 cast-t18 : tie.Need-cast-t18
 cast-t18 c =
     let a = c .before .before .before .before .before .before in
     let s = a .before .before .before .before .before .before .before .before .before .before in
-    record { fits = weeks-small _ _ _ (s .args .counts .now) (a .before .before .before .before .wide .ensures) (a .before .wide2 .ensures) (a .add-all .ensures) }
+    record {
+      fits = weeks-small _ _ _ (s .args .counts .now) (a .before .before .before .before .wide .ensures) (a .before .wide2 .ensures)
+          (a .add-all .ensures);
+    }
 
 cast-t12-2 : tie.Need-cast-t12-2
 cast-t12-2 c =
     let a = c .before .before .before .before .before .before .before .before in
     let s = a .before .before .before .before .before .before .before .before .before .before in
-    record { fits = index-small _ _ _ (s .args .counts .now) (a .before .before .before .before .wide .ensures) (a .before .wide2 .ensures) (a .add-all .ensures) }
+    record {
+      fits = index-small _ _ _ (s .args .counts .now) (a .before .before .before .before .wide .ensures) (a .before .wide2 .ensures)
+          (a .add-all .ensures);
+    }
 
 same-length : tie.Need-same-length
 same-length c = search needs

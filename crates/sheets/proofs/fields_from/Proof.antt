@@ -22,7 +22,13 @@ offset-from-requires c κs = search needs
 returns : tie.Need-returns
 unfolding fieldsFrom
 returns c =
-    rw (c .before .before .before .before .date-from .ensures, c .before .before .before .said-from .ensures, c .before .before .said-from2 .ensures, c .before .said-from3 .ensures, c .offset-from .ensures)
+    rw (
+      c .before .before .before .before .date-from .ensures,
+      c .before .before .before .said-from .ensures,
+      c .before .before .said-from2 .ensures,
+      c .before .said-from3 .ensures,
+      c .offset-from .ensures,
+    )
 
 pub fields-from-spec : {M : Type 1} → statement M
 fields-from-spec =

@@ -56,9 +56,13 @@ returns-6 : tie.Need-returns-6
 returns-6 c =
     by-last _ (omega arith) (λ l.
     record {
-      date = ap isDate (sym (c .before .before .before .before .before .before .before .before .before .before .date-of .ensures)) ∙ sym (c .before .before .before .before .before .before .before .before .before .is-date .ensures) ∙ not-false _ (c .before .before .before .before .before .before .before .before .if1 .left);
-      hour = sym (c .before .before .before .before .before .before .before .is-field .ensures) ∙ not-false _ (c .before .before .before .before .before .before .if2 .left);
-      minute = sym (c .before .before .before .before .before .is-field2 .ensures) ∙ not-false _ (c .before .before .before .before .if3 .left);
+      date = ap isDate (sym (c .before .before .before .before .before .before .before .before .before .before .date-of .ensures)) ∙ sym
+          (c .before .before .before .before .before .before .before .before .before .is-date .ensures) ∙ not-false _
+          (c .before .before .before .before .before .before .before .before .if1 .left);
+      hour = sym (c .before .before .before .before .before .before .before .is-field .ensures) ∙ not-false _
+          (c .before .before .before .before .before .before .if2 .left);
+      minute = sym (c .before .before .before .before .before .is-field2 .ensures) ∙ not-false _
+          (c .before .before .before .before .if3 .left);
       second = sym (c .before .before .before .is-field3 .ensures) ∙ not-false _ (c .before .before .if4 .left);
       offset = sym (c .before .is-field4 .ensures) ∙ not-false _ (c .if5 .left);
       low = l;

@@ -44,7 +44,13 @@ unfolding nextWeek wordFrom
 returns c =
     let f = c .before .before .before .before in
     let d = f .before .before .before .date-of .ensures in
-    rw (← d, ← f .before .weekday .ensures, ← f .before .before .day-number .ensures, ← f .from-day-number .ensures, c .before .before .monday .given .1) (c .date-word .ensures)
+    rw (
+      ← d,
+      ← f .before .weekday .ensures,
+      ← f .before .before .day-number .ensures,
+      ← f .from-day-number .ensures,
+      c .before .before .monday .given .1,
+    ) (c .date-word .ensures)
 
 returns-2 : tie.Need-returns-2
 unfolding nextWeek wordFrom

@@ -35,7 +35,9 @@ word-of-requires c κs =
     let f = c .before .before .before .before in
     let s = f .before .before .before .before .before .before .before .args .fields in
     let g = f .before .before .before .before .before .date .given .0 in
-    let j = judged-valid (g .0) (g .1 .0) (g .1 .1 .0) (s .hour) (s .minute) (s .second) (s .offset) (f .before .before .before .number-or-0 .ensures) (f .before .before .number-or-02 .ensures) (f .before .number-or-03 .ensures) (f .from-fields .ensures) (c .before .before .moment .given .1) in
+    let j = judged-valid (g .0) (g .1 .0) (g .1 .1 .0) (s .hour) (s .minute) (s .second) (s .offset)
+    (f .before .before .before .number-or-0 .ensures) (f .before .before .number-or-02 .ensures) (f .before .number-or-03 .ensures)
+    (f .from-fields .ensures) (c .before .before .moment .given .1) in
     rw (← j .1) (j .0)
 
 returns : tie.Need-returns
@@ -48,7 +50,9 @@ returns-2 c =
     let f = c .before .before .before in
     let s = f .before .before .before .before .before .before .before .args .fields in
     let g = f .before .before .before .before .before .date .given .0 in
-    let j = judged-bad (g .0) (g .1 .0) (g .1 .1 .0) (s .hour) (s .minute) (s .second) (s .offset) (f .before .before .before .number-or-0 .ensures) (f .before .before .number-or-02 .ensures) (f .before .number-or-03 .ensures) (f .from-fields .ensures) (c .before .field .given .1) in
+    let j = judged-bad (g .0) (g .1 .0) (g .1 .1 .0) (s .hour) (s .minute) (s .second) (s .offset)
+    (f .before .before .before .number-or-0 .ensures) (f .before .before .number-or-02 .ensures) (f .before .number-or-03 .ensures)
+    (f .from-fields .ensures) (c .before .field .given .1) in
     rw (f .before .before .before .before .before .date .given .1, j .0, j .1)
 
 returns-3 : tie.Need-returns-3
@@ -57,7 +61,9 @@ returns-3 c =
     let f = c .before .before .before .before .before in
     let s = f .before .before .before .before .before .before .before .args .fields in
     let g = f .before .before .before .before .before .date .given .0 in
-    let j = judged-valid (g .0) (g .1 .0) (g .1 .1 .0) (s .hour) (s .minute) (s .second) (s .offset) (f .before .before .before .number-or-0 .ensures) (f .before .before .number-or-02 .ensures) (f .before .number-or-03 .ensures) (f .from-fields .ensures) (c .before .before .before .moment .given .1) in
+    let j = judged-valid (g .0) (g .1 .0) (g .1 .1 .0) (s .hour) (s .minute) (s .second) (s .offset)
+    (f .before .before .before .number-or-0 .ensures) (f .before .before .number-or-02 .ensures) (f .before .number-or-03 .ensures)
+    (f .from-fields .ensures) (c .before .before .before .moment .given .1) in
     rw (f .before .before .before .before .before .date .given .1, j .0, j .1, c .word-of .ensures)
 
 pub pack-spec : {M : Type 1} → statement M

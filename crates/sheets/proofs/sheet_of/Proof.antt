@@ -47,7 +47,13 @@ field-offset-requires c κs = search needs
 returns : tie.Need-returns
 unfolding sheetOf sheetFrom sheetWidths unpacked bits
 returns c =
-    rw (c .before .before .before .before .date-of .ensures, c .before .before .before .said-from .ensures, c .before .before .said-from2 .ensures, c .before .said-from3 .ensures, c .field-offset .ensures)
+    rw (
+      c .before .before .before .before .date-of .ensures,
+      c .before .before .before .said-from .ensures,
+      c .before .before .said-from2 .ensures,
+      c .before .said-from3 .ensures,
+      c .field-offset .ensures,
+    )
 
 pub sheet-of-spec : {M : Type 1} → statement M
 sheet-of-spec =

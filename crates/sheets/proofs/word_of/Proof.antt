@@ -47,12 +47,14 @@ said-field-requires-2 c κs = search needs
 
 add-to-minute : tie.Need-add-to-minute
 add-to-minute c =
-    let v = small (c .before .before .before .before .before .before .args .sheet) (c .before .before .before .before .before .before .pre) in
+    let v = small (c .before .before .before .before .before .before .args .sheet) (c .before .before .before .before .before .before .pre)
+    in
     record { fits = omega (arith, v .date .year-high, v .date .month-high, c .before .said-field .ensures, c .said-field2 .ensures) }
 
 mul-to-second : tie.Need-mul-to-second
 mul-to-second c =
-    let v = small (c .before .before .before .before .before .before .args .sheet) (c .before .before .before .before .before .before .pre) in
+    let v = small (c .before .before .before .before .before .before .args .sheet) (c .before .before .before .before .before .before .pre)
+    in
     record { fits = omega (arith, v .date .year-high, v .date .month-high, c .before .said-field .ensures, c .said-field2 .ensures) }
 
 said-field-requires-3 : tie.Need-said-field-requires-3
@@ -60,30 +62,73 @@ said-field-requires-3 c κs = search needs
 
 add-to-second : tie.Need-add-to-second
 add-to-second c =
-    let v = small (c .before .before .before .before .before .before .before .args .sheet) (c .before .before .before .before .before .before .before .pre) in
-    record { fits = omega (arith, v .date .year-high, v .date .month-high, c .before .before .said-field .ensures, c .before .said-field2 .ensures, c .said-field3 .ensures) }
+    let v = small (c .before .before .before .before .before .before .before .args .sheet)
+    (c .before .before .before .before .before .before .before .pre) in
+    record {
+      fits = omega (
+        arith,
+        v .date .year-high,
+        v .date .month-high,
+        c .before .before .said-field .ensures,
+        c .before .said-field2 .ensures,
+        c .said-field3 .ensures,
+      );
+    }
 
 mul-to-offset : tie.Need-mul-to-offset
 mul-to-offset c =
-    let v = small (c .before .before .before .before .before .before .before .args .sheet) (c .before .before .before .before .before .before .before .pre) in
-    record { fits = omega (arith, v .date .year-high, v .date .month-high, c .before .before .said-field .ensures, c .before .said-field2 .ensures, c .said-field3 .ensures) }
+    let v = small (c .before .before .before .before .before .before .before .args .sheet)
+    (c .before .before .before .before .before .before .before .pre) in
+    record {
+      fits = omega (
+        arith,
+        v .date .year-high,
+        v .date .month-high,
+        c .before .before .said-field .ensures,
+        c .before .said-field2 .ensures,
+        c .said-field3 .ensures,
+      );
+    }
 
 offset-field-requires : tie.Need-offset-field-requires
 offset-field-requires c κs = search needs
 
 add-to-offset : tie.Need-add-to-offset
 add-to-offset c =
-    let v = small (c .before .before .before .before .before .before .before .before .args .sheet) (c .before .before .before .before .before .before .before .before .pre) in
-    record { fits = omega (arith, v .date .year-high, v .date .month-high, c .before .before .before .said-field .ensures, c .before .before .said-field2 .ensures, c .before .said-field3 .ensures, c .offset-field .ensures .0) }
+    let v = small (c .before .before .before .before .before .before .before .before .args .sheet)
+    (c .before .before .before .before .before .before .before .before .pre) in
+    record {
+      fits = omega (
+        arith,
+        v .date .year-high,
+        v .date .month-high,
+        c .before .before .before .said-field .ensures,
+        c .before .before .said-field2 .ensures,
+        c .before .said-field3 .ensures,
+        c .offset-field .ensures .0,
+      );
+    }
 
 mul-result : tie.Need-mul-result
 mul-result c =
-    let v = small (c .before .before .before .before .before .before .before .before .args .sheet) (c .before .before .before .before .before .before .before .before .pre) in
-    record { fits = omega (arith, v .date .year-high, v .date .month-high, c .before .before .before .said-field .ensures, c .before .before .said-field2 .ensures, c .before .said-field3 .ensures, c .offset-field .ensures .0) }
+    let v = small (c .before .before .before .before .before .before .before .before .args .sheet)
+    (c .before .before .before .before .before .before .before .before .pre) in
+    record {
+      fits = omega (
+        arith,
+        v .date .year-high,
+        v .date .month-high,
+        c .before .before .before .said-field .ensures,
+        c .before .before .said-field2 .ensures,
+        c .before .said-field3 .ensures,
+        c .offset-field .ensures .0,
+      );
+    }
 
 returns : tie.Need-returns
 returns c =
-    word-is (c .before .before .before .before .before .before .before .before .args .sheet) (c .before .before .before .said-field .ensures) (c .before .before .said-field2 .ensures) (c .before .said-field3 .ensures)
+    word-is (c .before .before .before .before .before .before .before .before .args .sheet)
+    (c .before .before .before .said-field .ensures) (c .before .before .said-field2 .ensures) (c .before .said-field3 .ensures)
     (c .offset-field .ensures .0)
 
 pub word-of-spec : {M : Type 1} → statement M

@@ -8,7 +8,8 @@ use Rattle.sheet_list.proofs.adding.add_all.Statement.{statement}
 use Rattle.sheet_list.proofs.adding.add_all.Tie as tie
 
 abbrev Inv-loop : tie.InvT-loop
-Inv-loop sheets words₀ count table₀ weeks most added₀ words table added = Adding sheets (held words₀ count table₀ weeks) most added words table
+Inv-loop sheets words₀ count table₀ weeks most added₀ words table added =
+    Adding sheets (held words₀ count table₀ weeks) most added words table
 
 abbrev μ-loop : tie.MeasureT-loop
 μ-loop sheets words₀ count table₀ weeks most added₀ words table added = most - added .index

@@ -22,8 +22,10 @@ returns c = word-unheld _ _ _ (sym (c .before .is-sound .ensures) ∙ not-true _
 
 is-full-requires : tie.Need-is-full-requires
 is-full-requires c κs =
-    let e = c .before .before in
-    (sym (e .before .is-sound .ensures) ∙ not-false _ (e .if1 .left), c .before .before .before .before .before .before .before .before .pre .1 .0)
+    let e = c .before .before in (
+      sym (e .before .is-sound .ensures) ∙ not-false _ (e .if1 .left),
+      c .before .before .before .before .before .before .before .before .pre .1 .0,
+    )
 
 same-length-3 : tie.Need-same-length-3
 same-length-3 c = search needs

@@ -36,7 +36,8 @@ returns-3 : tie.Need-returns-3
 returns-3 c =
     let s = c .before .before .before .before .before .before .before in
     ap not (c .has-week .ensures ∙ ap (λ k. weekIn k (take (s .args .weeks) (s .args .table .now))) (c .before .week-of .ensures))
-    ∙ sym (by-weeks (s .args .word) _ (c .before .before .before .before .if1 .left) (sound _ (s .pre .0)) (c .before .before .before .if2 .left))
+    ∙ sym (by-weeks (s .args .word) _ (c .before .before .before .before .if1 .left) (sound _ (s .pre .0))
+    (c .before .before .before .if2 .left))
 
 pub is-full-spec : {M : Type 1} → statement M
 is-full-spec =

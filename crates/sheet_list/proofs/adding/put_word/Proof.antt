@@ -41,7 +41,8 @@ same-length-2 c = search needs
 returns : tie.Need-returns
 returns c =
     let s = c .before .before .before .before .before .before .before .before .before .before .before in
-    put-is (s .args .word) _ (sound _ (s .pre .0)) (c .before .before .before .week-of .ensures) (c .before .before .before .before .before .before .before .insert .ensures)
+    put-is (s .args .word) _ (sound _ (s .pre .0)) (c .before .before .before .week-of .ensures)
+    (c .before .before .before .before .before .before .before .insert .ensures)
     (c .before .before .count-week .ensures .0) (c .before .before .count-week .ensures .1)
 
 pub put-word-spec : {M : Type 1} → statement M

@@ -9,7 +9,8 @@ returns : tie.Need-returns
 returns c = ((omega arith, omega arith), start (c .before .args .words .now) (c .before .args .count) (c .before .pre .1))
 
 returns-2 : tie.Need-returns-2
-returns-2 c = ((omega arith, omega arith), start (c .before .before .args .words .now) (c .before .before .args .count) (c .before .before .pre .1))
+returns-2 c =
+    ((omega arith, omega arith), start (c .before .before .args .words .now) (c .before .before .args .count) (c .before .before .pre .1))
 
 sub-words : tie.Need-sub-words
 sub-words c = search needs
@@ -35,8 +36,11 @@ same-length c = search needs
 returns-3 : tie.Need-returns-3
 returns-3 c =
     let s = c .before .before .before in
-    let w = s .args .words .now in
-    ((omega arith, omega arith), move w (s .args .count) (s .pre .1) w (s .args .count) (omega arith) (omega arith) (start w (s .args .count) (s .pre .1)))
+    let w = s .args .words .now in (
+      (omega arith, omega arith),
+      move w (s .args .count) (s .pre .1) w (s .args .count) (omega arith) (omega arith)
+          (start w (s .args .count) (s .pre .1)),
+    )
 
 pub move-last-spec : {M : Type 1} → statement M
 move-last-spec =

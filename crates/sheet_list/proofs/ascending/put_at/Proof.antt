@@ -35,7 +35,8 @@ returns c =
     let s = c .before .before .before .before .before .before .before .before .before in
     let w = s .args .words .now in
     let m = c .before .before .before .before .before .before .move-last in
-    done w (s .args .count) (s .pre .1) _ (s .args .at) (s .args .word) (s .pre .0) (c .before .before .move-up .ensures .1 w (s .pre .1) (m .ensures .1))
+    done w (s .args .count) (s .pre .1) _ (s .args .at) (s .args .word) (s .pre .0)
+    (c .before .before .move-up .ensures .1 w (s .pre .1) (m .ensures .1))
 
 pub put-at-spec : {M : Type 1} → statement M
 put-at-spec =

@@ -38,7 +38,8 @@ is-list-requires : tie.Need-is-list-requires
 is-list-requires c κs = search needs
 
 returns-5 : tie.Need-returns-5
-returns-5 c = no-list _ (omega arith) (omega arith) (omega arith) (omega arith) (sym (c .before .is-list .ensures) ∙ not-true _ (c .if5 .taken))
+returns-5 c =
+    no-list _ (omega arith) (omega arith) (omega arith) (omega arith) (sym (c .before .is-list .ensures) ∙ not-true _ (c .if5 .taken))
 
 slice-aggregate-is-table : tie.Need-slice-aggregate-is-table
 slice-aggregate-is-table c =
@@ -54,12 +55,14 @@ is-table-requires : tie.Need-is-table-requires
 is-table-requires c κs =
     let s = c .before .before .before .before .before .before .before .before .before .before .before in
     let n = length-take-le (s .args .count) (s .args .words .now) (omega arith) in
-    listed (take (s .args .count) (s .args .words .now)) (omega (arith, n)) (sym (c .before .before .before .is-list .ensures) ∙ not-false _ (c .before .before .if5 .left))
+    listed (take (s .args .count) (s .args .words .now)) (omega (arith, n))
+    (sym (c .before .before .before .is-list .ensures) ∙ not-false _ (c .before .before .if5 .left))
 
 returns-6 : tie.Need-returns-6
 returns-6 c =
     c .is-table .ensures
-    ∙ sym (by-table _ (omega arith) (omega arith) (omega arith) (omega arith) (sym (c .before .before .before .before .is-list .ensures) ∙ not-false _ (c .before .before .before .if5 .left)))
+    ∙ sym (by-table _ (omega arith) (omega arith) (omega arith) (omega arith)
+    (sym (c .before .before .before .before .is-list .ensures) ∙ not-false _ (c .before .before .before .if5 .left)))
 
 pub is-held-spec : {M : Type 1} → statement M
 is-held-spec =

@@ -37,7 +37,8 @@ returns-2 : tie.Need-returns-2 Inv-loop μ-loop
 returns-2 c =
     let s = c .before .before .before .before .before .before .before in
     let l = c .before .before .before .before .before .loop in
-    listing-breaks (s .args .words .now) (l .low) (l .i) (omega arith) (l .inv .1) (sym (c .before .is-packing .ensures) ∙ not-true _ (c .if2 .taken))
+    listing-breaks (s .args .words .now) (l .low) (l .i) (omega arith) (l .inv .1)
+    (sym (c .before .is-packing .ensures) ∙ not-true _ (c .if2 .taken))
 
 add-i : tie.Need-add-i Inv-loop μ-loop
 add-i c = omega arith
@@ -48,8 +49,11 @@ loop-less c = omega arith
 loop-again : tie.Need-loop-again Inv-loop μ-loop
 loop-again c =
     let s = c .before .before .before .before .before .before .before in
-    let l = c .before .before .before .before .before .loop in
-    (omega arith, listing-on (s .args .words .now) (l .low) (l .i) (omega arith) (l .inv .1) (c .before .before .if1 .left) (sym (c .before .is-packing .ensures) ∙ not-false _ (c .if2 .left)))
+    let l = c .before .before .before .before .before .loop in (
+      omega arith,
+      listing-on (s .args .words .now) (l .low) (l .i) (omega arith) (l .inv .1) (c .before .before .if1 .left)
+          (sym (c .before .is-packing .ensures) ∙ not-false _ (c .if2 .left)),
+    )
 
 returns-3 : tie.Need-returns-3 Inv-loop μ-loop
 returns-3 c =

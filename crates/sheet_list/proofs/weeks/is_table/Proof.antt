@@ -75,7 +75,8 @@ returns-2 c =
     let w = list-weekly (s .args .words .now) (s .pre .packings) (s .pre .ascends) in
     let k = c .before .before .before .week-of .ensures in
     let d = c .before .before .week-end .ensures in
-    walk-differs (s .args .words .now) (s .args .table .now) w (l .i) (l .j) (omega arith) (omega arith) (λ g. c .if2 .taken (g ∙ sym (entry-is (l .i) _ _ k d))) (l .inv .2)
+    walk-differs (s .args .words .now) (s .args .table .now) w (l .i) (l .j) (omega arith) (omega arith)
+    (λ g. c .if2 .taken (g ∙ sym (entry-is (l .i) _ _ k d))) (l .inv .2)
 
 add-j : tie.Need-add-j Inv-loop μ-loop
 add-j c = omega arith
@@ -96,8 +97,13 @@ loop-again c =
     let w = list-weekly (s .args .words .now) (s .pre .packings) (s .pre .ascends) in
     let k = c .before .before .before .week-of .ensures in
     let d = c .before .before .week-end .ensures in
-    let r = run-within (weekOf (getD (s .args .words .now) (l .i) 0)) (l .i) (s .args .words .now) (l .inv .0) in
-    (omega (arith, d, r), omega arith, rw d (walk-on (s .args .words .now) (s .args .table .now) w (l .i) (l .j) (omega arith) (omega arith) (c .if2 .left ∙ entry-is (l .i) _ _ k d) (l .inv .2)))
+    let r = run-within (weekOf (getD (s .args .words .now) (l .i) 0)) (l .i) (s .args .words .now) (l .inv .0) in (
+      omega (arith, d, r),
+      omega arith,
+      rw d
+          (walk-on (s .args .words .now) (s .args .table .now) w (l .i) (l .j) (omega arith) (omega arith)
+          (c .if2 .left ∙ entry-is (l .i) _ _ k d) (l .inv .2)),
+    )
 
 returns-3 : tie.Need-returns-3 Inv-loop μ-loop
 returns-3 c =

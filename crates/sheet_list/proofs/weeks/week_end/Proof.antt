@@ -39,7 +39,8 @@ returns c =
     let l = c .before .before .before .loop in
     let n : nextWeek (getD (s .args .words .now) (s .args .from) 0) ≤ getD (s .args .words .now) (l .i) 0
     = omega (arith, c .before .before .before .before .next-week .ensures, c .if1 .taken) in
-    run-stops _ (s .args .from) (s .args .words .now) (l .i) (omega arith) (later-week (s .args .words .now) (s .pre .1) (s .args .from) (l .i) (l .inv .0) (omega arith) n) (l .inv .2)
+    run-stops _ (s .args .from) (s .args .words .now) (l .i) (omega arith)
+    (later-week (s .args .words .now) (s .pre .1) (s .args .from) (l .i) (l .inv .0) (omega arith) n) (l .inv .2)
 
 add-i : tie.Need-add-i Inv-loop μ-loop
 add-i c = omega arith
@@ -55,7 +56,8 @@ loop-again c =
     = omega (arith, c .before .before .before .before .next-week .ensures, c .if1 .left) in (
       omega arith,
       omega arith,
-      run-goes _ (s .args .from) (s .args .words .now) (l .i) (omega arith) (that-week (s .args .words .now) (s .pre .1) (s .args .from) (l .i) (l .inv .0) (omega arith) n) (l .inv .2),
+      run-goes _ (s .args .from) (s .args .words .now) (l .i) (omega arith)
+          (that-week (s .args .words .now) (s .pre .1) (s .args .from) (l .i) (l .inv .0) (omega arith) n) (l .inv .2),
     )
 
 returns-2 : tie.Need-returns-2 Inv-loop μ-loop
