@@ -7,4 +7,5 @@ pub mod Loop
 pub mod Steps
 pub mod Tables
 pub mod Rules
+pub mod Tallying
 pub mod Runs

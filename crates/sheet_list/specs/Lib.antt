@@ -3,4 +3,5 @@ pub mod Adding
 pub mod Ascending
 pub mod Private
 pub mod Rules
+pub mod Tallies
 pub mod Weeks

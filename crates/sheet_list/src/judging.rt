@@ -9,7 +9,7 @@ ghost use Rattle.sheet_list.specs.Adding.{held, isHeld};
 ghost use Rattle.sheet_list.specs.Ascending.{ascending};
 
 // The most words of the list's array.
-const MOST_WORDS: usize = 65536;
+pub(crate) const MOST_WORDS: usize = 65536;
 
 // How many words the array of the table has.
 pub const TABLE_LENGTH: usize = 1024;

@@ -2,6 +2,7 @@
 mod adding;
 mod ascending;
 mod judging;
+mod tallies;
 mod weeks;
 
 pub use adding::Added;
@@ -9,3 +10,5 @@ pub use adding::add;
 pub use adding::add_all;
 pub use judging::TABLE_LENGTH;
 pub use judging::is_held;
+pub use tallies::Tallied;
+pub use tallies::count_sheets;
