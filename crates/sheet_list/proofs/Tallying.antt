@@ -17,9 +17,10 @@ use Rattle.sheet_list.specs.Adding.{mostWords, tableLength, over}
 use Rattle.sheet_list.specs.Ascending.{ascending}
 use Rattle.sheet_list.specs.Private.{week, countedIn, weekIn, roomIn, IsTallied}
 use Rattle.sheet_list.specs.Tallies.{Tallies, tallies, noTallies, hasRoom, withSheet, withSheets, talliesOf}
+use Rattle.sheet_list.specs.Rules.{Rising}
 use Rattle.sheet_list.specs.Weeks.{Tally, counted, tallyWord, hasWeek}
 use Rattle.sheet_list.specs.declared.tallies.Tallied.{Tallied}
-use Rattle.sheet_list.proofs.Counting.{Rising, Most, counted-rises, counted-sheets, counted-among, counted-most, most-more}
+use Rattle.sheet_list.proofs.Counting.{Most, counted-rises, counted-sheets, counted-among, counted-most, most-more}
 use Rattle.sheet_list.proofs.Counting.{Cases, less, same, more, cases, counted-less, counted-same, counted-more}
 use Rattle.sheet_list.proofs.Tables.{counted-words, in-words, table-ascends}
 

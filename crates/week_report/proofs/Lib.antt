@@ -1,0 +1,6 @@
+-- Laws that the proofs of several functions cite.
+pub mod Gathering
+pub mod Lengths
+pub mod Showing
+pub mod Tallying
+pub mod Whole

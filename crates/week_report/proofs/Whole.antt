@@ -1,0 +1,2 @@
+-- The whole report, over plain variables.
+-- Assumes nothing.

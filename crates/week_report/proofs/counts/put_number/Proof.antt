@@ -1,0 +1,65 @@
+-- `week_report::counts::put_number` meets its contract. Assumes nothing.
+use Rattle.week_report.proofs.Showing.{no-line, some-line}
+use Rattle.lists.proofs.Puts.{then}
+use Rattle.laws.specs.Bytes.{bytes}
+use borrow.Author.Needs.{needs}
+use Rattle.week_report.proofs.counts.put_number.Statement.{statement}
+use Rattle.week_report.proofs.counts.put_number.Tie as tie
+
+first-place-requires : tie.Need-first-place-requires
+first-place-requires c κs = search needs
+
+same-length : tie.Need-same-length
+same-length c = search needs
+
+returns : tie.Need-returns
+returns c = rw (no-line _ (c .before .before .if1 .taken)) (c .first-place .ensures)
+
+slice-aggregate-put-bytes : tie.Need-slice-aggregate-put-bytes
+slice-aggregate-put-bytes c = search needs
+
+put-bytes-requires : tie.Need-put-bytes-requires
+put-bytes-requires c κs = search needs
+
+put-plain-requires : tie.Need-put-plain-requires
+put-plain-requires c κs = search needs
+
+slice-aggregate-put-bytes-2 : tie.Need-slice-aggregate-put-bytes-2
+slice-aggregate-put-bytes-2 c = search needs
+
+put-bytes-requires-2 : tie.Need-put-bytes-requires-2
+put-bytes-requires-2 c κs = search needs
+
+put-plain-requires-2 : tie.Need-put-plain-requires-2
+put-plain-requires-2 c κs = search needs
+
+put-byte-requires : tie.Need-put-byte-requires
+put-byte-requires c κs = search needs
+
+same-length-2 : tie.Need-same-length-2
+same-length-2 c = search needs
+
+returns-2 : tie.Need-returns-2
+unfolding bytes
+returns-2 c =
+    rw (some-line _ (c .before .before .before .before .before .before .before .before .before .before .before .before .before .before .before .before .before .before .before .before .before .before .if1 .left))
+    (then (c .before .before .before .before .before .before .before .before .before .before .before .before .before .before .before .before .before .before .before .put-bytes .ensures)
+    (then (c .before .before .before .before .before .before .before .before .before .before .before .before .before .before .before .put-plain .ensures)
+    (then (c .before .before .before .before .before .before .before .before .before .before .put-bytes2 .ensures) (then (c .before .before .before .before .before .before .put-plain2 .ensures) (c .before .before .put-byte .ensures)))))
+
+pub put-number-spec : {M : Type 1} → statement M
+put-number-spec =
+    tie.close
+    (tie.spec
+    first-place-requires
+    same-length
+    returns
+    slice-aggregate-put-bytes
+    put-bytes-requires
+    put-plain-requires
+    slice-aggregate-put-bytes-2
+    put-bytes-requires-2
+    put-plain-requires-2
+    put-byte-requires
+    same-length-2
+    returns-2)
