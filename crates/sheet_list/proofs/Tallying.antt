@@ -138,6 +138,11 @@ module _ {xs before after : List ℕ} {t : Tallied} (v : IsTallied xs before aft
       let e : t .weeks ≡ length (words (talliesOf xs .weeks)) = v .weeks ∙ sym (words-length (talliesOf xs .weeks)) in
       rw (e, v .table) (over-front (words (talliesOf xs .weeks)) before)
 
+  pub table-size : length before ≡ tableLength → length after ≡ tableLength
+  table-size size =
+      let w = words (talliesOf xs .weeks) in
+      ap length (v .table) ∙ over-length w before (omega (arith, words-length (talliesOf xs .weeks), good xs .few, size)) ∙ size
+
   pub within : length after ≡ tableLength → t .weeks ≤ length after
   within size = omega (arith, size, v .weeks, good xs .few)
 

@@ -145,8 +145,7 @@ unfolding tallied
 gathered {o} {es} {s} {next = next} v h =
     let z = none-left (openedReading o es) s next h in
     record {
-      few = omega (arith, v .few);
-      fewer = omega (arith, v .few);
+      few = v .few;
       long = v .long;
       ends = omega (arith, v .ends, ap length (z .0));
       sheets = rw (z .0) at (v .sheets);

@@ -60,5 +60,5 @@ unfolding leftOut
 left-most ns h =
     let t = total-most (length ns) h in
     let e = each-most (λ k. numberLine k (howMany k ns)) 17 numbers
-        (λ k l. number-most k (howMany k ns) (omega arith) (omega (arith, many-most k ns))) in
+    (λ k l. number-most k (howMany k ns) (omega arith) (omega (arith, many-most k ns))) in
     omega (arith, length-append (totalLine (length ns)) (each (λ k. numberLine k (howMany k ns)) numbers))

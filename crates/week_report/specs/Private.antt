@@ -49,8 +49,7 @@ pub record Took (g : Gives) (words : List ℕ) (n : ℕ) (words′ counts counts
 
 -- what the texts of an input from a place on give, from the front of the sheets' words on
 pub record Gathered (o : Opened) (es s : List ℕ) (from : ℕ) (words words′ counts counts′ : List ℕ) (r : ℕ) : Type 0 where
-  pub few : r ≤ length s
-  pub fewer : sumOf counts′ ≤ length s
+  pub few : r + sumOf counts′ ≤ length s
   pub long : length counts′ ≡ length counts
   pub ends : r ≡ length (sheetsOf (openedReading o es) (lines (drop from s)))
   pub sheets : words′ ≡ sets words 0 (sheetsOf (openedReading o es) (lines (drop from s)))

@@ -1,89 +1,95 @@
+-- `week_report::report` meets its contract. Assumes nothing.
+use Rattle.week_report.proofs.Whole.{long-reported, next-is, words-within, left-few, weeks-within, small, sum-fits, counts-fit, done}
+use Rattle.week_report.specs.Private.{sumOf}
+use Rattle.laws.specs.Bytes.{bytes}
+use lib.Seq.{length-take-le}
+use lib.ListN.{length, length-replicate}
+use denote.Ref.{now}
+use native.Mathlib.Omega.{arith}
+use mathlib.Core.Path.{refl, sym}
+use Prim.Native.Nat.{_≤_, _<_}
 use borrow.Author.Needs.{needs}
 use Rattle.week_report.proofs.report.Statement.{statement}
 use Rattle.week_report.proofs.report.Tie as tie
-use Rattle.week_report.proofs.report.Reads as reads
-use Rattle.week_report.proofs.report.Lts as lts
-use Rattle.lists.proofs.begin.Reads as begin-reads
-use Rattle.sheet_list.proofs.count_sheets.Reads as count-sheets-reads
-use Rattle.week_report.proofs.counts.put_left_out.Reads as put-left-out-reads
-use Rattle.week_report.proofs.texts.gather.Reads as gather-reads
-use Rattle.week_report.proofs.weeks.put_weeks.Reads as put-weeks-reads
 
--- src/lib.rt:24:23
 slice-aggregate-begin : tie.Need-slice-aggregate-begin
 slice-aggregate-begin c = search needs
 
--- src/lib.rt:24:35
 slice-aggregate-begin-2 : tie.Need-slice-aggregate-begin-2
 slice-aggregate-begin-2 c = search needs
 
--- src/lib.rt:24:9
 begin-requires : tie.Need-begin-requires
 begin-requires c κs = search needs
 
--- src/lib.rt:26:9
 returns : tie.Need-returns
-returns c = ?
+unfolding bytes
+returns c = long-reported (c .before .before .begin .ensures) (omega arith) (omega arith)
 
--- src/lib.rt:37:9
 slice-aggregate-gather : tie.Need-slice-aggregate-gather
 slice-aggregate-gather c = search needs
 
--- src/lib.rt:31:9
 gather-requires : tie.Need-gather-requires
-gather-requires c κs = ?
+unfolding sumOf
+gather-requires c κs =
+    let b = c .before .before .before .before .before .begin .ensures in
+    ((omega arith, omega (arith, next-is b (omega arith))), (refl, refl))
 
--- src/lib.rt:40:32
 array-share-prefix-words : tie.Need-array-share-prefix-words
-array-share-prefix-words c = ?
+array-share-prefix-words c = words-within (c .before .before .before .before .before .before .before .begin .ensures) (omega arith) (c .before .gather .ensures) (omega arith)
 
--- src/lib.rt:40:32
 slice-aggregate-count-sheets : tie.Need-slice-aggregate-count-sheets
-slice-aggregate-count-sheets c = ?
+slice-aggregate-count-sheets c =
+    sym (length-take-le _ _ (words-within (c .before .before .before .before .before .before .before .before .begin .ensures) (omega arith) (c .before .before .gather .ensures) (omega arith)))
 
--- src/lib.rt:40:9
 count-sheets-requires : tie.Need-count-sheets-requires
 count-sheets-requires c κs = search needs
 
--- src/lib.rt:42:19
 cast-counts : tie.Need-cast-counts
-cast-counts c = ?
+cast-counts c =
+    let b = c .before .before .before .before .before .before .before .before .before .before .before .begin .ensures in
+    record { fits = omega (arith, left-few b (omega arith) (c .before .before .before .before .before .gather .ensures) (omega arith) (c .before .count-sheets .ensures)) }
 
--- src/lib.rt:42:5
 array-read-counts : tie.Need-array-read-counts
 array-read-counts c = search needs
 
--- src/lib.rt:42:5
 add-counts : tie.Need-add-counts
-add-counts c = ?
+add-counts c =
+    let b = c .before .before .before .before .before .before .before .before .before .before .before .begin .ensures in
+    record { fits = omega (arith, sum-fits b (omega arith) (c .before .before .before .before .before .gather .ensures) (omega arith) (c .before .count-sheets .ensures)) }
 
--- src/lib.rt:42:5
 array-write-counts : tie.Need-array-write-counts
 array-write-counts c = search needs
 
--- src/lib.rt:43:42
 array-share-prefix-table : tie.Need-array-share-prefix-table
-array-share-prefix-table c = ?
+array-share-prefix-table c =
+    let b = c .before .before .before .before .before .before .before .before .before .before .before .before .begin .ensures in
+    weeks-within b (omega arith) (c .before .before .before .before .before .before .gather .ensures) (omega arith) (c .before .before .count-sheets .ensures) (omega arith)
 
--- src/lib.rt:43:42
 slice-aggregate-put-weeks : tie.Need-slice-aggregate-put-weeks
-slice-aggregate-put-weeks c = ?
+slice-aggregate-put-weeks c =
+    let b = c .before .before .before .before .before .before .before .before .before .before .before .before .before .begin .ensures in
+    let w = weeks-within b (omega arith) (c .before .before .before .before .before .before .before .gather .ensures) (omega arith) (c .before .before .before .count-sheets .ensures) (omega arith) in
+    sym (length-take-le _ _ w)
 
--- src/lib.rt:43:9
 put-weeks-requires : tie.Need-put-weeks-requires
-put-weeks-requires c κs = ?
+put-weeks-requires c κs =
+    let b = c .before .before .before .before .before .before .before .before .before .before .before .before .before .begin .ensures in
+    small b (omega arith) (c .before .before .before .before .before .before .before .gather .ensures) (omega arith) (c .before .before .before .count-sheets .ensures)
 
--- src/lib.rt:44:27
 slice-aggregate-put-left-out : tie.Need-slice-aggregate-put-left-out
 slice-aggregate-put-left-out c = search needs
 
--- src/lib.rt:44:5
 put-left-out-requires : tie.Need-put-left-out-requires
-put-left-out-requires c κs = ?
+put-left-out-requires c κs =
+    let b = c .before .before .before .before .before .before .before .before .before .before .before .before .before .before .before .before .begin .ensures in
+    counts-fit b (omega arith) (c .before .before .before .before .before .before .before .before .before .before .gather .ensures) (omega arith) (c .before .before .before .before .before .before .count-sheets .ensures)
 
--- src/lib.rt:20:1
 returns-2 : tie.Need-returns-2
-returns-2 c = ?
+returns-2 c =
+    let b = c .before .before .before .before .before .before .before .before .before .before .before .before .before .before .before .before .before .begin .ensures in
+    done b (omega arith) (c .before .before .before .before .before .before .before .before .before .before .before .gather .ensures) (omega arith) (c .before .before .before .before .before .before .before .count-sheets .ensures)
+    (λ i. omega (arith, c .before .before .before .before .before .before .before .before .before .before .before .before .before .before .before .before .before .before .before .before .before .shared-slice-known .given i)) (omega arith) (omega arith) (omega arith)
+    (c .before .before .before .put-weeks .ensures) (c .put-left-out .ensures)
 
 pub report-spec : {M : Type 1} → statement M
 report-spec =

@@ -60,8 +60,7 @@ take-text-requires : tie.Need-take-text-requires Inv-loop μ-loop
 take-text-requires c κs =
     let l = c .before .before .before .before .before .before .before .before in
     let s = c .before .before .before .before .before .before .before .before .before .before .before in
-    let f = l .loop .inv in
-    (
+    let f = l .loop .inv in (
       (omega (arith, f .ahead, s .pre .0), rw (read (c .before .before)) (read-below _ _ _)),
       (f .long ∙ s .pre .1 .0, omega (arith, f .ahead, s .pre .0)),
     )
