@@ -148,7 +148,7 @@ is-held h v =
 
 -- ---- a list over the front of an array
 
-over-length : (s array : List ℕ) → length s ≤ length array → length (over s array) ≡ length array
+pub over-length : (s array : List ℕ) → length s ≤ length array → length (over s array) ≡ length array
 unfolding over
 over-length s array l = simp (length-append, length-drop) (omega arith)
 
@@ -190,7 +190,7 @@ module _ (h : Held) (v : Sound h) where
       (counted-words (length (listOf h)) (weekOf x) short-list (weeksOf (listOf h)) (weeks-most (listOf h))
       ∙ ap (map tallyWord) (sym (inserted-weeks x (listOf h))))
 
-  weeks-held : length (weeksOf (listOf h)) ≡ h .weeks
+  pub weeks-held : length (weeksOf (listOf h)) ≡ h .weeks
   unfolding tableOf
   weeks-held =
       sym (length-map (weeksOf (listOf h)) tallyWord)

@@ -1,18 +1,17 @@
 -- Sheets counted by their weeks alone: what their weeks are like, and what the table holds.
 -- Assumes nothing.
-use Prim.Native.Nat.{ℕ, zero, suc, _+_, _-_, _*_, _^_, _≤_, _<_}
-use mathlib.Core.Bool.{Bool, true, false, cond, not, _&&_, _||_, and-eq-true-iff}
+use Prim.Native.Nat.{ℕ, suc, _+_, _-_, _≤_, _<_}
+use mathlib.Core.Bool.{Bool, true, false, not, _&&_, _||_, and-eq-true-iff}
 use mathlib.Core.List.{List, [], _∷_, _++_, map}
 use mathlib.Core.Path.{_≡_, refl, sym, ap, _∙_}
 use native.Mathlib.Numerals.{add-one}
 use native.Mathlib.Omega.{arith}
-use borrow.Author.Tests.{eq-eqb, ne-eqb, eqb-true, eqb-false}
-use lib.Dec.{eqb, lit<, lit≤}
-use lib.ListN.{length, getD, take, drop, length-map, length-append, length-drop, length-take}
-use lib.Seq.{take-suc, take-at, take-length, drop-append-add, drop-drop, length-take-le}
+use borrow.Author.Tests.{eq-eqb, ne-eqb, eqb-false}
+use lib.Dec.{eqb, lit≤}
+use lib.ListN.{length, getD, take, drop, length-map}
+use lib.Seq.{take-suc, drop-append-add, drop-drop, length-take-le}
 use Rattle.laws.proofs.Cases.{either, clash}
 use Rattle.sheets.specs.Sheets.{isPacking, weekOf}
-use Rattle.sheets.proofs.Order.{packing-week}
 use Rattle.sheet_list.specs.Adding.{mostWords, tableLength, over}
 use Rattle.sheet_list.specs.Ascending.{ascending}
 use Rattle.sheet_list.specs.Private.{week, countedIn, weekIn, roomIn, IsTallied}
@@ -20,6 +19,7 @@ use Rattle.sheet_list.specs.Tallies.{Tallies, tallies, noTallies, hasRoo
 use Rattle.sheet_list.specs.Rules.{Rising}
 use Rattle.sheet_list.specs.Weeks.{Tally, counted, tallyWord, hasWeek}
 use Rattle.sheet_list.specs.declared.tallies.Tallied.{Tallied}
+use Rattle.sheet_list.proofs.Holding.{over-front, over-length}
 use Rattle.sheet_list.proofs.Counting.{Most, counted-rises, counted-sheets, counted-among, counted-most, most-more}
 use Rattle.sheet_list.proofs.Counting.{Cases, less, same, more, cases, counted-less, counted-same, counted-more}
 use Rattle.sheet_list.proofs.Tables.{counted-words, in-words, table-ascends}
@@ -103,14 +103,6 @@ grows x a =
     (λ _. least (weekOf x) (a .weeks)) (λ _. omega arith)
 
 -- ---- a list over the front of an array
-
-over-front : (s t : List ℕ) → take (length s) (over s t) ≡ s
-unfolding over
-over-front s t = take-at s (drop (length s) t) (length s) refl
-
-over-length : (s t : List ℕ) → length s ≤ length t → length (over s t) ≡ length t
-unfolding over
-over-length s t l = simp (length-append, length-drop) (omega arith)
 
 over-over : (s r t : List ℕ) → length r ≤ length s → over s (over r t) ≡ over s t
 unfolding over

@@ -7,7 +7,7 @@ use sheets::is_packing;
 use sheets::week_of;
 ghost use mathlib.Core.Bool.{true, _&&_};
 ghost use mathlib.Core.Path.{_≡_};
-ghost use Prim.Native.Nat.{_+_, _≤_, _<_};
+ghost use Prim.Native.Nat.{_+_, _<_};
 ghost use lib.ListN.{length, take};
 ghost use Rattle.sheets.specs.Sheets.{isPacking, weekOf};
 ghost use Rattle.sheet_list.specs.Adding.{mostWords, tableLength};

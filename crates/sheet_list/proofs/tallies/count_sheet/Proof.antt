@@ -1,12 +1,12 @@
 -- `proofs::count_sheet` meets its contract. Assumes nothing.
 use Rattle.sheet_list.proofs.Tallying.{within, table-rises, counted-fits, stays, counted-more-is, left-most}
 use Rattle.sheet_list.specs.Private.{week, countedIn}
-use Rattle.sheets.specs.Sheets.{isPacking, weekOf}
+use Rattle.sheets.specs.Sheets.{isPacking}
 use Rattle.sheets.proofs.Order.{packing-week}
 use lib.Seq.{length-take-le}
 use lib.ListN.{length, getD, take}
 use native.Mathlib.Omega.{arith}
-use Prim.Native.Nat.{_≤_, _<_}
+use Prim.Native.Nat.{_<_}
 use mathlib.Core.Bool.{and-eq-true-iff}
 use mathlib.Core.Path.{sym, ap, _∙_}
 use borrow.Author.Tests.{not-true, not-false}

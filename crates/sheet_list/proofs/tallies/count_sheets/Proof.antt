@@ -6,7 +6,7 @@ use lib.Seq.{take-all}
 use denote.Ref.{now}
 use lib.ListN.{length, take}
 use native.Mathlib.Omega.{arith}
-use mathlib.Core.Path.{_≡_, refl, sym, ap, _∙_}
+use mathlib.Core.Path.{_≡_, refl, sym, _∙_}
 use Prim.Native.Nat.{_-_, _≤_}
 use Rattle.sheet_list.proofs.tallies.count_sheets.Statement.{statement}
 use Rattle.sheet_list.proofs.tallies.count_sheets.Tie as tie
