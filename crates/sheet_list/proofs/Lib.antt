@@ -9,3 +9,4 @@ pub mod Tables
 pub mod Rules
 pub mod Tallying
 pub mod Runs
+pub mod Cases

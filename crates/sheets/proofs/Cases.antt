@@ -6,7 +6,6 @@ use Rattle.calendar.specs.Calendar as calendar
 use Rattle.strptime.specs.Answers as answers
 use Rattle.values.specs.Moments as moments
 use Rattle.values.specs.Offsets as offsets
-use Rattle.words.specs.Words as words
 use Rattle.sheets.specs.Cases.{packingCases, unpackingCases, wordsCases, readingCases, weekCases}
 use Rattle.sheets.specs.Packing as bits
 use Rattle.sheets.specs.Sheets as sheets
@@ -15,15 +14,15 @@ use Rattle.sheets.specs.declared.SheetFields.{SheetFields}
 use Rattle.sheets.specs.declared.Unpacked.{Unpacked}
 
 pub all-packed : map (λ (c : Packed × Packed). c .0) packingCases ≡ map (λ (c : Packed × Packed). c .1) packingCases
-unfolding packingCases calendar.computes offsets.computes moments.computes words.computes bits.computes sheets.computes
+unfolding packingCases calendar.computes offsets.computes moments.computes bits.computes sheets.computes
 all-packed = refl
 
 pub all-unpacked : map (λ (c : Unpacked × Unpacked). c .0) unpackingCases ≡ map (λ (c : Unpacked × Unpacked). c .1) unpackingCases
-unfolding unpackingCases calendar.computes offsets.computes moments.computes words.computes bits.computes sheets.computes
+unfolding unpackingCases calendar.computes offsets.computes moments.computes bits.computes sheets.computes
 all-unpacked = refl
 
 pub all-worded : map (λ (c : SheetFields × SheetFields). c .0) wordsCases ≡ map (λ (c : SheetFields × SheetFields). c .1) wordsCases
-unfolding wordsCases words.computes sheets.computes
+unfolding wordsCases sheets.computes
 all-worded = refl
 
 pub all-read : map (λ (c : SheetFields × SheetFields). c .0) readingCases ≡ map (λ (c : SheetFields × SheetFields). c .1) readingCases

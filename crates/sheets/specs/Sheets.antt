@@ -19,6 +19,7 @@ use Rattle.values.specs.Offsets.{offsetNumber, offsetOf}
 use Rattle.values.specs.Values.{dayNumberOf}
 use Rattle.values.specs.declared.offsets.Offset.{Offset}
 use Rattle.values.specs.declared.offsets.Offset.the-variants.{Unsaid as NoOffset, Minutes}
+use Rattle.words.specs.Words as words
 use Rattle.words.specs.Words.{flag, numberOr0, offsetFlag, offsetFrom}
 use Rattle.sheets.specs.Packing.{packed, unpacked}
 use Rattle.sheets.specs.declared.DateFields.{DateFields}
@@ -153,9 +154,9 @@ wordFrom Outside = 2 ^ 64 - 1
 unfoldable pub nextWeek : ℕ → ℕ
 nextWeek x = let k = dayNumberOf (sheetOf x .date) in wordFrom (fromDayNumber (k + 8 - weekday k))
 
--- everything here, for proofs that compute
+-- everything here, and the words of offsets, for proofs that compute
 unfoldable pub computes : Unit {0}
-unfolding sheetWidths offsetField fields wordOf saidFrom fieldOffset sheetFrom sheetOf
+unfolding words.computes sheetWidths offsetField fields wordOf saidFrom fieldOffset sheetFrom sheetOf
     faultOf isValid isPacking unpacking packingOf dated packing dayFields readingFields dateFrom fieldsFrom weekWidths weekOfDate weekOf
     dateWord wordFrom nextWeek
 computes = tt
