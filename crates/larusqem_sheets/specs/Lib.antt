@@ -1,2 +1,3 @@
 -- Sheets and lists of them on numbers and slices, as C sees them.
+pub mod Cases
 pub mod Sheets
