@@ -1,29 +1,26 @@
 -- What is owed of lists of sheets and their tables holds.
 -- Assumes nothing.
 use Prim.Native.Nat.{ℕ, suc, _+_}
-use mathlib.Core.Bool.{Bool, true, false, cond, not, _&&_, _||_}
+use mathlib.Core.Bool.{Bool, true, false, cond}
 use mathlib.Core.List.{List, [], _∷_}
 use mathlib.Core.Path.{_≡_, refl, sym, ap, _∙_}
 use native.Mathlib.Omega.{arith}
-use borrow.Author.Tests.{ne-eqb}
 use lib.Dec.{eqb, leb}
-use lib.ListN.{length}
 use Rattle.laws.proofs.Cases.{picked}
 use Rattle.calendar.specs.declared.Date.{Date}
 use Rattle.calendar.specs.Calendar.{isoYear, isoWeek}
 use Rattle.sheets.specs.Packing.{bits, packed}
-use Rattle.sheets.specs.Sheets.{isPacking, weekOf, weekWidths, weekOfDate, packing}
+use Rattle.sheets.specs.Sheets.{weekOf, weekWidths, weekOfDate, packing}
 use Rattle.sheets.specs.declared.Packed.the-variants.{Word}
 use Rattle.sheets.specs.declared.SheetFields.{SheetFields}
 use Rattle.values.specs.Values.{dayNumberOf}
-use Rattle.sheet_list.specs.Adding.{Held, listOf, tableLength, isHeld, isFull, with, Outcome, adding}
+use Rattle.sheet_list.specs.Adding.{Held, listOf, with, Outcome, adding}
 use Rattle.sheet_list.specs.Ascending.{inserted}
-use Rattle.sheet_list.specs.Rules.{howMany, ofWeek, sheetsFor, ListRules, Past, AddRules, keeping, keepingAll, TallyRules}
-use Rattle.sheet_list.specs.Tallies.{Tallies, tallies, noTallies, hasRoom, withSheet, withSheets}
-use Rattle.sheet_list.specs.Weeks.{Tally, tally, counted, weeksOf, tallyWidths, tallyWord, tableOf, hasWeek}
-use Rattle.sheet_list.proofs.Counting.{Cases, cases, counted-less, counted-same, counted-more, inserted-weeks, weeks-rise}
+use Rattle.sheet_list.specs.Rules.{howMany, ofWeek, sheetsFor, ListRules, Past, AddRules}
+use Rattle.sheet_list.specs.Weeks.{Tally, tally, counted, weeksOf, tallyWidths, tallyWord, tableOf}
+use Rattle.sheet_list.proofs.Counting.{Cases, cases, counted-less, counted-same, counted-more, weeks-rise}
 use Rattle.sheet_list.proofs.Counting.Cases.{less, same, more}
-use Rattle.sheet_list.proofs.Holding.{over-front, over-past, sound, weeks-held}
+use Rattle.sheet_list.proofs.Holding.{over-front, over-past}
 use Rattle.sheet_list.proofs.Ranks.{inserted-ascends}
 use Rattle.sheet_list.proofs.Steps.{sheet-undated, sheet-bad, sheet-word, word-unheld, word-full, word-added, sheet-cases}
 use Rattle.sheet_list.proofs.Steps.{adding-taken, adding-refused}
@@ -138,37 +135,3 @@ add-rules =
       list = list-then;
       past = past-then;
     }
-
--- ---- counting by weeks alone
-
-one-sheet : (x n : ℕ) (s : List ℕ) → withSheet x (tallies (weeksOf s) n) .weeks ≡ weeksOf (keeping x s)
-unfolding withSheet keeping
-one-sheet x n s = go (isPacking x && hasRoom (weekOf x) (weeksOf s))
-  where
-    go : (b : Bool)
-        → cond b (tallies (counted (weekOf x) (weeksOf s)) n) (tallies (weeksOf s) (suc n)) .weeks ≡ weeksOf (cond b (inserted x s) s)
-    go true = sym (inserted-weeks x s)
-    go false = refl
-
-many-sheets : (xs : List ℕ) (a : Tallies) (s : List ℕ) → a .weeks ≡ weeksOf s → withSheets xs a .weeks ≡ weeksOf (keepingAll xs s)
-unfolding withSheets keepingAll
-many-sheets [] a s e = e
-many-sheets (x ∷ xs) a s e =
-    many-sheets xs (withSheet x a) (keeping x s)
-    (ap (λ (ts : List Tally). withSheet x (tallies ts (a .left)) .weeks) e ∙ one-sheet x (a .left) s)
-
-room-is : (a b : Bool) → (a && not b) ≡ not (not a || b)
-room-is true true = refl
-room-is true false = refl
-room-is false b = refl
-
-room-left : (x : ℕ) (h : Held) → isHeld h ≡ true → (h .count ≡ length (h .words) → ⊥)
-    → isFull x h ≡ not (hasRoom (weekOf x) (weeksOf (listOf h)))
-unfolding isFull hasRoom
-room-left x h e n =
-    rw (ne-eqb (h .count) (length (h .words)) n, weeks-held h (sound h e))
-    (room-is (eqb (h .weeks) tableLength) (hasWeek (weekOf x) (weeksOf (listOf h))))
-
-pub tally-rules : TallyRules
-tally-rules =
-    record { weeks = λ xs. many-sheets xs noTallies [] (unfold weeksOf in refl); room = room-left }

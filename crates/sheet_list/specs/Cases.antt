@@ -5,7 +5,6 @@ use mathlib.Core.Bool.{Bool, true, false}
 use mathlib.Core.List.{List, [], _∷_, _++_}
 use lib.ListN.{length, replicate}
 use Rattle.sheets.specs.Sheets.{fieldsFrom}
-use Rattle.sheets.specs.declared.SheetFields.{SheetFields}
 use Rattle.sheet_list.specs.Adding.{Held, held, isHeld, isFull, Outcome, outcome, adding, addingWords}
 use Rattle.sheet_list.specs.Weeks.{tableOf}
 

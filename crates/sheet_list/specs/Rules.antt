@@ -1,13 +1,13 @@
 -- What is owed of lists of sheets and their tables (RULES 11.2 and RULES 11.3), as statements about the definitions; the proofs are in
 -- proofs/Rules.antt.
 use Prim.Native.Nat.{ℕ, suc, _+_, _≤_, _<_}
-use mathlib.Core.Bool.{Bool, true, false, cond, not, _&&_}
+use mathlib.Core.Bool.{Bool, true, false, cond}
 use mathlib.Core.List.{List, [], _∷_}
 use mathlib.Core.Path.{_≡_}
 use lib.Dec.{eqb}
-use lib.ListN.{length, drop}
+use lib.ListN.{drop}
 use Rattle.sheets.specs.Packing.{packed}
-use Rattle.sheets.specs.Sheets.{isPacking, weekOf, weekOfDate, packing}
+use Rattle.sheets.specs.Sheets.{weekOf, weekOfDate, packing}
 use Rattle.sheets.specs.declared.Packed.the-variants.{Word, NoDay, Bad}
 use Rattle.sheets.specs.declared.SheetFields.{SheetFields}
 use Rattle.calendar.specs.Calendar.{isoYear, isoWeek}
@@ -15,7 +15,6 @@ use Rattle.calendar.specs.declared.Date.{Date}
 use Rattle.values.specs.Values.{dayNumberOf}
 use Rattle.sheet_list.specs.Adding.{Held, listOf, isHeld, isFull, adding}
 use Rattle.sheet_list.specs.Ascending.{ascending, inserted}
-use Rattle.sheet_list.specs.Tallies.{hasRoom, talliesOf}
 use Rattle.sheet_list.specs.Weeks.{Tally, tally, weeksOf, tallyWord}
 
 -- how many words of a list pass a test
@@ -73,19 +72,3 @@ pub record AddRules : Type 0 where
   pub list : (i x : ℕ) (f : SheetFields) (h : Held) → packing f ≡ Word x → adding i f h .number ≡ 0
       → listOf (adding i f h .held) ≡ inserted x (listOf h)
   pub past : (i : ℕ) (f : SheetFields) (h : Held) → Past h (adding i f h .held)
-
--- a list with one sheet more, by its word, where there is room for its week; and with many
-unfoldable pub keeping : ℕ → List ℕ → List ℕ
-keeping x s = cond (isPacking x && hasRoom (weekOf x) (weeksOf s)) (inserted x s) s
-
-unfoldable pub keepingAll : List ℕ → List ℕ → List ℕ
-keepingAll [] s = s
-keepingAll (x ∷ xs) s = keepingAll xs (keeping x s)
-
--- counting by weeks alone
-pub record TallyRules : Type 0 where
-  -- gives the weeks of the list that the same sheets would be added to
-  pub weeks : (xs : List ℕ) → talliesOf xs .weeks ≡ weeksOf (keepingAll xs [])
-  -- where the array is not full there is room exactly if adding is not refused by 14
-  pub room : (x : ℕ) (h : Held) → isHeld h ≡ true → (h .count ≡ length (h .words) → ⊥)
-      → isFull x h ≡ not (hasRoom (weekOf x) (weeksOf (listOf h)))
