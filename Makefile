@@ -11,7 +11,7 @@ soname := liblarusqem.so.$(basename $(version))
 
 static = target/lib/liblarusqem.a
 shared = target/sharedlib/liblarusqem.so.$(version)
-programs = date_lines quarrels
+programs = date_lines quarrels week_counts
 
 ifneq ($(words $(PREFIX)) $(filter-out /%,$(PREFIX) $(DESTDIR)),1 )
 $(error PREFIX is an absolute path without blanks, and so is DESTDIR if there is one)
@@ -62,7 +62,7 @@ test:
 	tests/run
 
 help:
-	@echo 'make                   proves and builds the library, static and shared, and the programs date_lines and quarrels (minutes)'
+	@echo 'make                   proves and builds the library, static and shared, and the programs $(programs) (minutes)'
 	@echo 'make library           the library alone'
 	@echo 'make programs          the programs alone'
 	@echo 'make install           installs header, libraries, pkg-config file, programs and manual pages under PREFIX ($(PREFIX));'

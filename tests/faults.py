@@ -1,5 +1,5 @@
 #!/usr/bin/env python3
-"""Runs the programs in a folder, date_lines and quarrels, under faults: python3 tests/faults.py FOLDER
+"""Runs the programs in a folder, date_lines, quarrels and week_counts, under faults: python3 tests/faults.py FOLDER
 
 What cannot be read to its end gets no report, and what cannot be written whole is said: one line on standard error. A call that is
 interrupted, moves few bytes or would block changes nothing. faults.c, beside this file, makes single calls fail.
@@ -35,12 +35,23 @@ SAYS = {
         "long": b"x" * 32765 + b"\nline #: the text has more than 1,024 bytes\n\n",
     },
 }
+# by which number week_counts leaves out each kind of text that it does
+LEFT_OUT = {"impossible": 9, "ended": 6, "other": 6, "long": 5}
+# as much stack as README says is enough, in kilobytes
+STACK = {"date_lines": 256, "quarrels": 256, "week_counts": 512}
+
+
+def weeks(*texts):
+    """What week_counts writes for texts of these kinds."""
+    read, numbers = texts.count("read"), [LEFT_OUT[text] for text in texts if text != "read"]
+    each = b"".join(b"number %d: %d\n" % (number, numbers.count(number)) for number in sorted(set(numbers)))
+    return (b"1934-W11 %d\n" % read if read else b"") + b"left out: %d\n" % len(numbers) + each
 
 
 class Tests:
     def __init__(self, programs, name, folder):
-        self.program, self.name, self.says = os.path.join(os.path.abspath(programs), name), name.encode(), SAYS[name]
-        self.folder, self.count, self.failed = folder, 0, 0
+        self.program, self.name, self.says = os.path.join(os.path.abspath(programs), name), name.encode(), SAYS.get(name)
+        self.folder, self.stack, self.count, self.failed = folder, STACK[name] * 1024, 0, 0
         self.usage = b"usage: " + self.name + b" "
         self.not_read = self.name + b": the list could not be read to its end: "
         self.not_written = self.name + b": the report could not be written whole: "
@@ -50,6 +61,8 @@ class Tests:
 
     def report_on(self, *texts):
         """The report on texts of these kinds."""
+        if self.says is None:
+            return weeks(*texts)
         lines = (self.says[text].replace(b"#", b"%d" % line) for line, text in enumerate(texts, 2))
         return self.says["first"] + b"".join(lines)
 
@@ -179,7 +192,7 @@ def slow_output(t):
 def stack(t):
     """The longest lists, with as little stack as README says is enough."""
     def small():
-        resource.setrlimit(resource.RLIMIT_STACK, (256 * 1024, 256 * 1024))
+        resource.setrlimit(resource.RLIMIT_STACK, (t.stack, t.stack))
 
     t.expect("32,768 bytes, short lines", t.run(input=b"%M" + b"\n" * 32766, preexec_fn=small), t.report_on(*["ended"] * 32765))
     t.expect("32,768 bytes, one line", t.run(input=b"%M\n" + b"x" * 32765, preexec_fn=small), t.report_on("long"))
@@ -201,4 +214,4 @@ def failures(programs, name):
 if __name__ == "__main__":
     if len(sys.argv) != 2:
         sys.exit("usage: python3 tests/faults.py FOLDER")
-    sys.exit(1 if sum(failures(sys.argv[1], name) for name in SAYS) else 0)
+    sys.exit(1 if sum(failures(sys.argv[1], name) for name in STACK) else 0)

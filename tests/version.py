@@ -10,7 +10,7 @@ import subprocess
 import sys
 
 ROOT = os.path.dirname(os.path.dirname(os.path.abspath(__file__)))
-PROGRAMS = ["date_lines", "quarrels"]
+PROGRAMS = ["date_lines", "quarrels", "week_counts"]
 
 
 def found(path, pattern):

@@ -36,7 +36,8 @@ next-sheet s i h = rw (add-one, take-suc s i 0 h) (with-last (take i s) (getD s 
 -- ---- each case
 
 module _ (x : ℕ) (a : Tallies) where
-  pub sheet-counted : (isPacking x && hasRoom (weekOf x) (a .weeks)) ≡ true → withSheet x a ≡ tallies (counted (weekOf x) (a .weeks)) (a .left)
+  pub sheet-counted : (isPacking x && hasRoom (weekOf x) (a .weeks)) ≡ true
+      → withSheet x a ≡ tallies (counted (weekOf x) (a .weeks)) (a .left)
   unfolding withSheet
   sheet-counted e = rw e
 
@@ -244,7 +245,8 @@ left-with [] a = omega arith
 left-with (x ∷ xs) a =
     let l = left-with xs (withSheet x a) in
     let m : withSheet x a .left ≤ suc (a .left)
-    = either (λ (b : Tallies). b .left ≤ suc (a .left)) (isPacking x && hasRoom (weekOf x) (a .weeks)) (λ _. omega arith) (λ _. omega arith) in
+    = either (λ (b : Tallies). b .left ≤ suc (a .left)) (isPacking x && hasRoom (weekOf x) (a .weeks)) (λ _. omega arith)
+    (λ _. omega arith) in
     omega arith
 
 pub left-most : (xs : List ℕ) → talliesOf xs .left ≤ length xs

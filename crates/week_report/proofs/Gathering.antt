@@ -47,7 +47,8 @@ packed-below (Bad k) = (lit< tt, tt)
 out-below : (r : Reading) → r .number < 16 → Below 16 (outIn (givenBy r))
 unfolding givenBy
 out-below r h =
-    picked (λ (g : Gives). Below 16 (outIn g)) (eqb (r .number) 0) (packed-below (packing (readingFields r))) (unfold outIn Below in (h, tt))
+    picked (λ (g : Gives). Below 16 (outIn g)) (eqb (r .number) 0) (packed-below (packing (readingFields r)))
+    (unfold outIn Below in (h, tt))
 
 pub number-below : (r : Reading) {n : ℕ} → r .number < 16 → givenBy r ≡ Out n → n < 16
 unfolding outIn Below

@@ -94,5 +94,6 @@ left-lines ns b =
     = tallied-sum ns (replicate numbers 0) (rw l b) ∙ (let z = none-sum numbers in omega arith) in
     let q : length (tallied ns (replicate numbers 0)) ≡ numbers = tallied-length ns (replicate numbers 0) ∙ l in
     let alike = each-alike (λ k. numberLine k (getD (tallied ns (replicate numbers 0)) k 0)) (λ k. numberLine k (howMany k ns)) numbers
-    (λ k _. ap (numberLine k) (tallied-at k ns (replicate numbers 0) (rw l b) ∙ ap (λ x. x + howMany k ns) (none-at numbers k) ∙ omega arith)) in
+    (λ k _.
+    ap (numberLine k) (tallied-at k ns (replicate numbers 0) (rw l b) ∙ ap (λ x. x + howMany k ns) (none-at numbers k) ∙ omega arith)) in
     rw (p, q) (ap (λ (x : List ℕ). totalLine (length ns) ++ x) alike)

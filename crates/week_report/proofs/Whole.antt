@@ -45,12 +45,14 @@ use Rattle.week_report.proofs.Tallying.{tallied-same}
 abbrev texts : List ℕ → List (List ℕ)
 texts s = lines (drop (suc (lineLength s)) s)
 
-sheets-alike : {read read′ : List ℕ → Reading} → ((t : List ℕ) → read t ≡ read′ t) → (ts : List (List ℕ)) → sheetsOf read ts ≡ sheetsOf read′ ts
+sheets-alike : {read read′ : List ℕ → Reading} → ((t : List ℕ) → read t ≡ read′ t) → (ts : List (List ℕ))
+    → sheetsOf read ts ≡ sheetsOf read′ ts
 unfolding sheetsOf
 sheets-alike e [] = refl
 sheets-alike e (t ∷ ts) = rw (e t, sheets-alike e ts)
 
-outs-alike : {read read′ : List ℕ → Reading} → ((t : List ℕ) → read t ≡ read′ t) → (ts : List (List ℕ)) → outsOf read ts ≡ outsOf read′ ts
+outs-alike : {read read′ : List ℕ → Reading} → ((t : List ℕ) → read t ≡ read′ t) → (ts : List (List ℕ))
+    → outsOf read ts ≡ outsOf read′ ts
 unfolding outsOf
 outs-alike e [] = refl
 outs-alike e (t ∷ ts) = rw (e t, outs-alike e ts)
@@ -154,8 +156,20 @@ module _ {s room es before between : List ℕ} {f : First} (b : Begun [] s room 
         pub small : Small (take (t .weeks) table)
         small = rw (front i) (table-small (length sheets) (talliesOf sheets .weeks) (omega (arith, n-is, g .few)) (good sheets .most))
 
-        pub sum-fits : getD counts noRoom 0 + t .left < 65536
-        sum-fits = omega (arith, at-most-sum counts noRoom, left-n, g .few)
+        -- whichever count is raised by those that are left out
+        pub sum-fits : (k : ℕ) → getD counts k 0 + t .left < 2 ^ 32
+        sum-fits k = omega (arith, at-most-sum counts k, left-n, g .few)
+
+        pub counts-fit : (k : ℕ) → k < numbers
+            → (length (set counts k (getD counts k 0 + t .left)) < 65536) × (sumOf (set counts k (getD counts k 0 + t .left)) < 65536)
+        counts-fit k h =
+            let ns = replicate (t .left) k in
+            let l : k < length counts = omega (arith, counts-length) in
+            let z = tallied-sum ns counts (below-same (length counts) k (t .left) l) in
+            rw (tallied-same k (t .left) counts l) (
+              omega (arith, tallied-length ns counts, counts-length),
+              omega (arith, z, length-replicate (t .left) k, left-n, g .few),
+            )
 
         then-counts : set counts noRoom (getD counts noRoom 0 + t .left)
             ≡ tallied (outs ++ replicate (talliesOf sheets .left) noRoom) (replicate numbers 0)
@@ -181,15 +195,6 @@ module _ {s room es before between : List ℕ} {f : First} (b : Begun [] s room 
               left-n,
               g .few,
             )
-
-        pub counts-fit : (length (set counts noRoom (getD counts noRoom 0 + t .left)) < 65536)
-            × (sumOf (set counts noRoom (getD counts noRoom 0 + t .left)) < 65536)
-        unfolding sumOf
-        counts-fit =
-            let ns = outs ++ replicate (talliesOf sheets .left) noRoom in
-            let z = tallied-sum ns (replicate numbers 0) all-below in
-            rw then-counts
-            (omega (arith, tallied-length ns (replicate numbers 0)), omega (arith, z, then-length))
 
         pub done : ((k : ℕ) → getD s k 0 < 256) → mostElements ≤ length room → mostElements ≤ length es → 65536 ≤ length before
             → {middle after : List ℕ} {at r : ℕ} → Put (tableShown (take (t .weeks) table)) between (f .count) middle at

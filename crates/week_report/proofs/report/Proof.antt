@@ -23,7 +23,9 @@ begin-requires c κs = search needs
 
 returns : tie.Need-returns
 unfolding bytes
-returns c = long-reported (c .before .before .begin .ensures) (omega arith) (omega arith)
+returns c =
+    let begin-then = c .before .before in
+    long-reported (begin-then .begin .ensures) (omega arith) (omega arith)
 
 slice-aggregate-gather : tie.Need-slice-aggregate-gather
 slice-aggregate-gather c = search needs
@@ -31,65 +33,109 @@ slice-aggregate-gather c = search needs
 gather-requires : tie.Need-gather-requires
 unfolding sumOf
 gather-requires c κs =
-    let b = c .before .before .before .before .before .begin .ensures in
-    ((omega arith, omega (arith, next-is b (omega arith))), (refl, refl))
+    let begin-then = c .before .before .before .before .before in
+    ((omega arith, omega (arith, next-is (begin-then .begin .ensures) (omega arith))), (refl, refl))
 
 array-share-prefix-words : tie.Need-array-share-prefix-words
-array-share-prefix-words c = words-within (c .before .before .before .before .before .before .before .begin .ensures) (omega arith) (c .before .gather .ensures) (omega arith)
+array-share-prefix-words c =
+    let gather-then = c .before in
+    let else1-then = gather-then .before .before .before .before in
+    let begin-then = else1-then .before .before in
+    words-within (begin-then .begin .ensures) (omega (arith, else1-then .if1 .left)) (gather-then .gather .ensures) (omega arith)
 
 slice-aggregate-count-sheets : tie.Need-slice-aggregate-count-sheets
 slice-aggregate-count-sheets c =
-    sym (length-take-le _ _ (words-within (c .before .before .before .before .before .before .before .before .begin .ensures) (omega arith) (c .before .before .gather .ensures) (omega arith)))
+    let gather-then = c .before .before in
+    let else1-then = gather-then .before .before .before .before in
+    let begin-then = else1-then .before .before in
+    let w = words-within (begin-then .begin .ensures) (omega (arith, else1-then .if1 .left)) (gather-then .gather .ensures) (omega arith) in
+    sym (length-take-le _ _ w)
 
 count-sheets-requires : tie.Need-count-sheets-requires
 count-sheets-requires c κs = search needs
 
 cast-counts : tie.Need-cast-counts
 cast-counts c =
-    let b = c .before .before .before .before .before .before .before .before .before .before .before .begin .ensures in
-    record { fits = omega (arith, left-few b (omega arith) (c .before .before .before .before .before .gather .ensures) (omega arith) (c .before .count-sheets .ensures)) }
+    let count-sheets-then = c .before in
+    let gather-then = count-sheets-then .before .before .before .before in
+    let else1-then = gather-then .before .before .before .before in
+    let begin-then = else1-then .before .before in
+    let g = gather-then .gather .ensures in
+    let t = count-sheets-then .count-sheets .ensures in
+    record { fits = omega (arith, left-few (begin-then .begin .ensures) (omega (arith, else1-then .if1 .left)) g (omega arith) t) }
 
 array-read-counts : tie.Need-array-read-counts
 array-read-counts c = search needs
 
 add-counts : tie.Need-add-counts
 add-counts c =
-    let b = c .before .before .before .before .before .before .before .before .before .before .before .begin .ensures in
-    record { fits = omega (arith, sum-fits b (omega arith) (c .before .before .before .before .before .gather .ensures) (omega arith) (c .before .count-sheets .ensures)) }
+    let count-sheets-then = c .before in
+    let gather-then = count-sheets-then .before .before .before .before in
+    let else1-then = gather-then .before .before .before .before in
+    let begin-then = else1-then .before .before in
+    let g = gather-then .gather .ensures in
+    let t = count-sheets-then .count-sheets .ensures in
+    record { fits = sum-fits (begin-then .begin .ensures) (omega (arith, else1-then .if1 .left)) g (omega arith) t _ }
 
 array-write-counts : tie.Need-array-write-counts
 array-write-counts c = search needs
 
 array-share-prefix-table : tie.Need-array-share-prefix-table
 array-share-prefix-table c =
-    let b = c .before .before .before .before .before .before .before .before .before .before .before .before .begin .ensures in
-    weeks-within b (omega arith) (c .before .before .before .before .before .before .gather .ensures) (omega arith) (c .before .before .count-sheets .ensures) (omega arith)
+    let count-sheets-then = c .before .before in
+    let gather-then = count-sheets-then .before .before .before .before in
+    let else1-then = gather-then .before .before .before .before in
+    let begin-then = else1-then .before .before in
+    let g = gather-then .gather .ensures in
+    let t = count-sheets-then .count-sheets .ensures in
+    weeks-within (begin-then .begin .ensures) (omega (arith, else1-then .if1 .left)) g (omega arith) t (omega arith)
 
 slice-aggregate-put-weeks : tie.Need-slice-aggregate-put-weeks
 slice-aggregate-put-weeks c =
-    let b = c .before .before .before .before .before .before .before .before .before .before .before .before .before .begin .ensures in
-    let w = weeks-within b (omega arith) (c .before .before .before .before .before .before .before .gather .ensures) (omega arith) (c .before .before .before .count-sheets .ensures) (omega arith) in
-    sym (length-take-le _ _ w)
+    let count-sheets-then = c .before .before .before in
+    let gather-then = count-sheets-then .before .before .before .before in
+    let else1-then = gather-then .before .before .before .before in
+    let begin-then = else1-then .before .before in
+    let g = gather-then .gather .ensures in
+    let t = count-sheets-then .count-sheets .ensures in
+    sym (length-take-le _ _ (weeks-within (begin-then .begin .ensures) (omega (arith, else1-then .if1 .left)) g (omega arith) t (omega arith)))
 
 put-weeks-requires : tie.Need-put-weeks-requires
 put-weeks-requires c κs =
-    let b = c .before .before .before .before .before .before .before .before .before .before .before .before .before .begin .ensures in
-    small b (omega arith) (c .before .before .before .before .before .before .before .gather .ensures) (omega arith) (c .before .before .before .count-sheets .ensures)
+    let count-sheets-then = c .before .before .before in
+    let gather-then = count-sheets-then .before .before .before .before in
+    let else1-then = gather-then .before .before .before .before in
+    let begin-then = else1-then .before .before in
+    let g = gather-then .gather .ensures in
+    let t = count-sheets-then .count-sheets .ensures in
+    small (begin-then .begin .ensures) (omega (arith, else1-then .if1 .left)) g (omega arith) t
 
 slice-aggregate-put-left-out : tie.Need-slice-aggregate-put-left-out
 slice-aggregate-put-left-out c = search needs
 
 put-left-out-requires : tie.Need-put-left-out-requires
 put-left-out-requires c κs =
-    let b = c .before .before .before .before .before .before .before .before .before .before .before .before .before .before .before .before .begin .ensures in
-    counts-fit b (omega arith) (c .before .before .before .before .before .before .before .before .before .before .gather .ensures) (omega arith) (c .before .before .before .before .before .before .count-sheets .ensures)
+    let count-sheets-then = c .before .before .before .before .before .before in
+    let gather-then = count-sheets-then .before .before .before .before in
+    let else1-then = gather-then .before .before .before .before in
+    let begin-then = else1-then .before .before in
+    let g = gather-then .gather .ensures in
+    let t = count-sheets-then .count-sheets .ensures in
+    counts-fit (begin-then .begin .ensures) (omega (arith, else1-then .if1 .left)) g (omega arith) t _ (omega arith)
 
 returns-2 : tie.Need-returns-2
 returns-2 c =
-    let b = c .before .before .before .before .before .before .before .before .before .before .before .before .before .before .before .before .before .begin .ensures in
-    done b (omega arith) (c .before .before .before .before .before .before .before .before .before .before .before .gather .ensures) (omega arith) (c .before .before .before .before .before .before .before .count-sheets .ensures)
-    (λ i. omega (arith, c .before .before .before .before .before .before .before .before .before .before .before .before .before .before .before .before .before .before .before .before .before .shared-slice-known .given i)) (omega arith) (omega arith) (omega arith)
-    (c .before .before .before .put-weeks .ensures) (c .put-left-out .ensures)
+    let put-weeks-then = c .before .before .before in
+    let count-sheets-then = put-weeks-then .before .before .before .before in
+    let gather-then = count-sheets-then .before .before .before .before in
+    let else1-then = gather-then .before .before .before .before in
+    let begin-then = else1-then .before .before in
+    let shared-slice-known-then = begin-then .before .before .before .before in
+    let g = gather-then .gather .ensures in
+    let t = count-sheets-then .count-sheets .ensures in
+    done (begin-then .begin .ensures) (omega (arith, else1-then .if1 .left)) g (omega arith) t
+    (λ i. omega (arith, shared-slice-known-then .shared-slice-known .given i)) (omega arith) (omega arith) (omega arith)
+    (put-weeks-then .put-weeks .ensures) (c .put-left-out .ensures)
 
 pub report-spec : {M : Type 1} → statement M
 report-spec =

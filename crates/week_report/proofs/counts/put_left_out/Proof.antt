@@ -23,8 +23,11 @@ same-length c = search needs
 returns : tie.Need-returns
 unfolding leftShown
 returns c =
-    let p = rw (c .before .before .before .before .before .before .before .sum-of .ensures) at (c .before .before .before .before .before .before .put-total .ensures) in
-    then p (c .before .before .put-numbers .ensures)
+    let put-numbers-then = c .before .before in
+    let put-total-then = put-numbers-then .before .before .before .before in
+    let sum-of-then = put-total-then .before in
+    let total = rw (sum-of-then .sum-of .ensures) at (put-total-then .put-total .ensures) in
+    then total (put-numbers-then .put-numbers .ensures)
 
 pub put-left-out-spec : {M : Type 1} → statement M
 put-left-out-spec =

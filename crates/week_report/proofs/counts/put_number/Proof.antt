@@ -42,10 +42,17 @@ same-length-2 c = search needs
 returns-2 : tie.Need-returns-2
 unfolding bytes
 returns-2 c =
-    rw (some-line _ (c .before .before .before .before .before .before .before .before .before .before .before .before .before .before .before .before .before .before .before .before .before .before .if1 .left))
-    (then (c .before .before .before .before .before .before .before .before .before .before .before .before .before .before .before .before .before .before .before .put-bytes .ensures)
-    (then (c .before .before .before .before .before .before .before .before .before .before .before .before .before .before .before .put-plain .ensures)
-    (then (c .before .before .before .before .before .before .before .before .before .before .put-bytes2 .ensures) (then (c .before .before .before .before .before .before .put-plain2 .ensures) (c .before .before .put-byte .ensures)))))
+    let put-byte-then = c .before .before in
+    let put-plain2-then = put-byte-then .before .before .before .before in
+    let put-bytes2-then = put-plain2-then .before .before .before .before in
+    let put-plain-then = put-bytes2-then .before .before .before .before .before in
+    let put-bytes-then = put-plain-then .before .before .before .before in
+    let else1-then = put-bytes-then .before .before .before in
+    rw (some-line _ (else1-then .if1 .left))
+    (then (put-bytes-then .put-bytes .ensures)
+    (then (put-plain-then .put-plain .ensures)
+    (then (put-bytes2-then .put-bytes2 .ensures)
+    (then (put-plain2-then .put-plain2 .ensures) (put-byte-then .put-byte .ensures)))))
 
 pub put-number-spec : {M : Type 1} → statement M
 put-number-spec =

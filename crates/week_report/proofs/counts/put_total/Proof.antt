@@ -23,7 +23,12 @@ same-length c = search needs
 
 returns : tie.Need-returns
 unfolding totalLine bytes
-returns c = then (c .before .before .before .before .before .before .before .before .before .before .put-bytes .ensures) (then (c .before .before .before .before .before .before .put-plain .ensures) (c .before .before .put-byte .ensures))
+returns c =
+    let put-byte-then = c .before .before in
+    let put-plain-then = put-byte-then .before .before .before .before in
+    let put-bytes-then = put-plain-then .before .before .before .before in
+    then (put-bytes-then .put-bytes .ensures)
+    (then (put-plain-then .put-plain .ensures) (put-byte-then .put-byte .ensures))
 
 pub put-total-spec : {M : Type 1} → statement M
 put-total-spec =

@@ -11,7 +11,8 @@ use Rattle.week_report.proofs.texts.gather.Statement.{statement}
 use Rattle.week_report.proofs.texts.gather.Tie as tie
 
 abbrev Inv-loop : tie.InvT-loop
-Inv-loop opened elements input from words₀ counts₀ n₀ next₀ words counts n next = Gathering (openedReading opened elements) input from words₀ counts₀ words counts n next
+Inv-loop opened elements input from words₀ counts₀ n₀ next₀ words counts n next =
+    Gathering (openedReading opened elements) input from words₀ counts₀ words counts n next
 
 abbrev μ-loop : tie.MeasureT-loop
 μ-loop opened elements input from words₀ counts₀ n₀ next₀ words counts n next = length input - next
@@ -58,26 +59,35 @@ read c = c .reading-of .ensures ∙ c .before .answer-to .ensures
 
 take-text-requires : tie.Need-take-text-requires Inv-loop μ-loop
 take-text-requires c κs =
-    let l = c .before .before .before .before .before .before .before .before in
-    let s = c .before .before .before .before .before .before .before .before .before .before .before in
-    let f = l .loop .inv in (
-      (omega (arith, f .ahead, s .pre .0), rw (read (c .before .before)) (read-below _ _ _)),
-      (f .long ∙ s .pre .1 .0, omega (arith, f .ahead, s .pre .0)),
+    let reading-of-then = c .before .before in
+    let at-loop = reading-of-then .before .before .before .before .before .before in
+    let start = at-loop .before .before .before in
+    let v = at-loop .loop .inv in
+    let p = start .pre in (
+      (omega (arith, v .ahead, p .0), rw (read reading-of-then) (read-below _ _ _)),
+      (v .long ∙ p .1 .0, omega (arith, v .ahead, p .0)),
     )
 
 add-next : tie.Need-add-next Inv-loop μ-loop
-add-next c = record { fits = omega (arith, found (c .before .before .before .before .before .before .before .before .before)) }
+add-next c =
+    let line-end-then = c .before .before .before .before .before .before .before .before .before in
+    record { fits = omega (arith, found line-end-then) }
 
 loop-less : tie.Need-loop-less Inv-loop μ-loop
-loop-less c = omega (arith, found (c .before .before .before .before .before .before .before .before .before))
+loop-less c =
+    let line-end-then = c .before .before .before .before .before .before .before .before .before in
+    omega (arith, found line-end-then)
 
 loop-again : tie.Need-loop-again Inv-loop μ-loop
 loop-again c =
-    let e = c .before .before .before .before .before .before .before .before .before in
-    let l = c .before .before .before .before .before .before .before .before .before .before .before in
-    let s = c .before .before .before .before .before .before .before .before .before .before .before .before .before .before in
-    gather-next (l .loop .inv) (omega arith) (e .line-end .ensures) (l .loop .inv .long ∙ s .pre .1 .0) (read (c .before .before .before .before .before))
-    (rw (read (c .before .before .before .before .before)) (read-below _ _ _)) (c .before .before .take-text .ensures)
+    let take-text-then = c .before .before in
+    let reading-of-then = take-text-then .before .before .before in
+    let line-end-then = reading-of-then .before .before .before .before in
+    let at-loop = line-end-then .before .before in
+    let start = at-loop .before .before .before in
+    let v = at-loop .loop .inv in
+    gather-next v (omega arith) (line-end-then .line-end .ensures) (v .long ∙ start .pre .1 .0) (read reading-of-then)
+    (rw (read reading-of-then) (read-below _ _ _)) (take-text-then .take-text .ensures)
 
 same-length : tie.Need-same-length Inv-loop μ-loop
 same-length c = c .before .loop .inv .long

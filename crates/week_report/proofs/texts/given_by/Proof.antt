@@ -28,23 +28,33 @@ enum-told-2 c = search needs
 returns-2 : tie.Need-returns-2
 unfolding sheetOrOut
 returns-2 c =
-    let p = c .before .before .before in
-    read-gives (c .before .before .before .before .before .before .args .reading) (c .before .before .before .before .before .if1 .left)
-    (sym (p .pack .ensures ∙ ap packing (c .before .before .before .before .reading-fields .ensures)) ∙ c .before .word .given .1)
+    let word-then = c .before in
+    let pack-then = word-then .before .before in
+    let reading-fields-then = pack-then .before in
+    let else1-then = reading-fields-then .before in
+    let start = else1-then .before in
+    let packed = pack-then .pack .ensures ∙ ap packing (reading-fields-then .reading-fields .ensures) in
+    read-gives (start .args .reading) (else1-then .if1 .left) (sym packed ∙ word-then .word .given .1)
 
 returns-3 : tie.Need-returns-3
 unfolding sheetOrOut
 returns-3 c =
-    let p = c .before .before in
-    read-gives (c .before .before .before .before .before .args .reading) (c .before .before .before .before .if1 .left)
-    (sym (p .pack .ensures ∙ ap packing (c .before .before .before .reading-fields .ensures)) ∙ c .enum-told .given .1)
+    let pack-then = c .before .before in
+    let reading-fields-then = pack-then .before in
+    let else1-then = reading-fields-then .before in
+    let start = else1-then .before in
+    let packed = pack-then .pack .ensures ∙ ap packing (reading-fields-then .reading-fields .ensures) in
+    read-gives (start .args .reading) (else1-then .if1 .left) (sym packed ∙ c .enum-told .given .1)
 
 returns-4 : tie.Need-returns-4
 unfolding sheetOrOut
 returns-4 c =
-    let p = c .before .before in
-    read-gives (c .before .before .before .before .before .args .reading) (c .before .before .before .before .if1 .left)
-    (sym (p .pack .ensures ∙ ap packing (c .before .before .before .reading-fields .ensures)) ∙ c .enum-told2 .given .1)
+    let pack-then = c .before .before in
+    let reading-fields-then = pack-then .before in
+    let else1-then = reading-fields-then .before in
+    let start = else1-then .before in
+    let packed = pack-then .pack .ensures ∙ ap packing (reading-fields-then .reading-fields .ensures) in
+    read-gives (start .args .reading) (else1-then .if1 .left) (sym packed ∙ c .enum-told2 .given .1)
 
 pub given-by-spec : {M : Type 1} → statement M
 given-by-spec =

@@ -30,24 +30,34 @@ cast-count-number c = search needs
 
 count-number-requires : tie.Need-count-number-requires
 count-number-requires c κs =
-    let s = c .before .before .before .before .before .before in
-    let e = sym (c .before .before .before .before .given-by .ensures) ∙ c .before .before .number .given .1 in
-    (omega (arith, number-below (s .args .reading) (s .pre .0 .1) e, s .pre .1 .0), s .pre .1 .1)
+    let number-then = c .before .before in
+    let given-by-then = number-then .before .before in
+    let start = given-by-then .before .before in
+    let given = sym (given-by-then .given-by .ensures) ∙ number-then .number .given .1 in
+    let p = start .pre in
+    (omega (arith, number-below (start .args .reading) (p .0 .1) given, p .1 .0), p .1 .1)
 
 returns : tie.Need-returns
 returns c =
-    let s = c .before .before .before .before .before in
-    took-sheet (s .args .words .now) (s .args .counts .now) (s .args .n)
-    (sym (c .before .before .before .given-by .ensures) ∙ c .before .word .given .1)
+    let word-then = c .before in
+    let given-by-then = word-then .before .before in
+    let start = given-by-then .before .before in
+    let a = start .args in
+    took-sheet (a .words .now) (a .counts .now) (a .n)
+    (sym (given-by-then .given-by .ensures) ∙ word-then .word .given .1)
 
 same-length : tie.Need-same-length
 same-length c = search needs
 
 returns-2 : tie.Need-returns-2
 returns-2 c =
-    let s = c .before .before .before .before .before .before .before .before .before in
-    took-out (s .args .words .now) (s .args .counts .now) (s .args .n)
-    (sym (c .before .before .before .before .before .before .before .given-by .ensures) ∙ c .before .before .before .before .before .number .given .1) (c .before .before .count-number .ensures)
+    let count-number-then = c .before .before in
+    let number-then = count-number-then .before .before .before in
+    let given-by-then = number-then .before .before in
+    let start = given-by-then .before .before in
+    let a = start .args in
+    took-out (a .words .now) (a .counts .now) (a .n)
+    (sym (given-by-then .given-by .ensures) ∙ number-then .number .given .1) (count-number-then .count-number .ensures)
 
 pub take-text-spec : {M : Type 1} → statement M
 take-text-spec =

@@ -43,10 +43,17 @@ same-length c = search needs
 returns : tie.Need-returns
 unfolding weekLine tallyOf bytes
 returns c =
-    then (c .before .before .before .before .before .before .before .before .before .before .before .before .before .before .before .before .before .before .before .before .before .before .before .put-four .ensures)
-    (then (c .before .before .before .before .before .before .before .before .before .before .before .before .before .before .before .before .before .before .put-bytes .ensures)
-    (then (c .before .before .before .before .before .before .before .before .before .before .before .before .before .before .put-two .ensures)
-    (then (c .before .before .before .before .before .before .before .before .before .before .put-byte .ensures) (then (c .before .before .before .before .before .before .put-plain .ensures) (c .before .before .put-byte2 .ensures)))))
+    let put-byte2-then = c .before .before in
+    let put-plain-then = put-byte2-then .before .before .before .before in
+    let put-byte-then = put-plain-then .before .before .before .before in
+    let put-two-then = put-byte-then .before .before .before .before in
+    let put-bytes-then = put-two-then .before .before .before .before in
+    let put-four-then = put-bytes-then .before .before .before .before .before in
+    then (put-four-then .put-four .ensures)
+    (then (put-bytes-then .put-bytes .ensures)
+    (then (put-two-then .put-two .ensures)
+    (then (put-byte-then .put-byte .ensures)
+    (then (put-plain-then .put-plain .ensures) (put-byte2-then .put-byte2 .ensures)))))
 
 pub put-week-spec : {M : Type 1} → statement M
 put-week-spec =
