@@ -1,3 +1,4 @@
+pub mod Alone
 pub mod Ranks
 pub mod Shifting
 pub mod Counting

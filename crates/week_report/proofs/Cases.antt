@@ -6,7 +6,7 @@ use Rattle.agreement.specs.Agreement as agreement
 use Rattle.agreement.specs.Search as search
 use Rattle.agreement.specs.Verdicts as verdicts
 use Rattle.calendar.specs.Calendar as calendar
-use Rattle.format.specs.Conversions as conversions
+use Rattle.conversions.specs.Conversions as conversions
 use Rattle.format.specs.Opening as opening
 use Rattle.judge.specs.Engines as engines
 use Rattle.laws.specs.Bytes.{bytes}
@@ -20,11 +20,11 @@ use Rattle.sheet_list.specs.Weeks.{counted, hasWeek}
 use Rattle.sheets.specs.Packing as packing
 use Rattle.sheets.specs.Sheets as sheets
 use Rattle.strptime.specs.Answers as answers
-use Rattle.text.specs.Case.{fold, cased}
+use Rattle.names.specs.Case.{fold, cased}
 use Rattle.text.specs.Digits.{leading, filled, digits, plain, isDigit, digitRun, decimal}
-use Rattle.text.specs.Names as names
-use Rattle.text.specs.Names.{goesOn, firstForm, readName}
-use Rattle.text.specs.Naming as naming
+use Rattle.names.specs.Names as names
+use Rattle.names.specs.Names.{goesOn, firstForm, readName}
+use Rattle.names.specs.Naming as naming
 use Rattle.text.specs.Space.{isSpace, spaces}
 use Rattle.values.specs.Moments as moments
 use Rattle.values.specs.Offsets as offsets
