@@ -1,7 +1,6 @@
 -- What the texts of an input give, one after the other, over plain variables.
 -- Assumes nothing.
-use Prim.Native.Nat.{ℕ, zero, suc, _+_, _-_, _≤_, _<_}
-use mathlib.Core.Bool.{Bool, true, false, cond}
+use Prim.Native.Nat.{ℕ, _+_, _-_, _≤_, _<_}
 use mathlib.Core.List.{List, [], _∷_, _++_}
 use mathlib.Core.Path.{_≡_, refl, sym, ap, _∙_}
 use native.Mathlib.Omega.{arith}
@@ -9,7 +8,7 @@ use borrow.Author.Tests.{eq-eqb, ne-eqb}
 use lib.Dec.{eqb, lit<, lit≤}
 use lib.ListN.{length, set, take, drop, length-append}
 use lib.Seq.{sets}
-use Rattle.laws.proofs.Cases.{either, picked}
+use Rattle.laws.proofs.Cases.{picked}
 use Rattle.laws.proofs.Stores.{sets-append}
 use Rattle.format.specs.declared.opening.Opened.{Opened}
 use Rattle.lists.specs.Answers.{openedReading}
@@ -24,7 +23,7 @@ use Rattle.week_report.specs.Private.{tallied, sumOf, Took, Gathered}
 use Rattle.week_report.specs.Texts.{sheetOrOut, givenBy, sheetIn, outIn, sheetsOf, outsOf}
 use Rattle.week_report.specs.declared.texts.Gives.{Gives}
 use Rattle.week_report.specs.declared.texts.Gives.the-variants.{Sheet, Out}
-use Rattle.week_report.proofs.Tallying.{Below, below-append, one-more, tallied-length, tallied-append, tallied-sum}
+use Rattle.week_report.proofs.Tallying.{Below, below-append, tallied-length, tallied-append, tallied-sum}
 
 -- ---- one text
 

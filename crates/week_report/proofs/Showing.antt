@@ -1,17 +1,15 @@
 -- The lines of weeks and numbers, over plain variables.
 -- Assumes nothing.
-use Prim.Native.Nat.{ℕ, zero, suc, _+_, _-_, _*_, _/_, _%_, _^_, _≤_, _<_}
-use mathlib.Core.Bool.{cond}
+use Prim.Native.Nat.{ℕ, zero, suc, _+_, _/_, _%_, _^_, _<_}
 use mathlib.Core.List.{List, [], _∷_, _++_, map, append-assoc, append-nil}
 use mathlib.Core.Path.{_≡_, refl, sym, ap, _∙_}
 use native.Mathlib.Omega.{arith}
 use borrow.Author.Tests.{eq-eqb, ne-eqb}
-use lib.Dec.{eqb, lit<, lit≤}
-use lib.ListN.{length, getD, replicate, length-append}
-use lib.Seq.{getD-append-add}
+use lib.Dec.{lit<}
+use lib.ListN.{length, getD, replicate}
 use Rattle.laws.specs.Bytes.{bytes}
-use Rattle.lists.specs.Putting.{Put, each}
-use Rattle.sheet_list.specs.Weeks.{Tally, tally, tallyWord}
+use Rattle.lists.specs.Putting.{each}
+use Rattle.sheet_list.specs.Weeks.{Tally, tallyWord}
 use Rattle.sheet_list.proofs.Counting.{Most}
 use Rattle.sheet_list.proofs.Tables.{word-is}
 use Rattle.text.specs.Digits.{plain}

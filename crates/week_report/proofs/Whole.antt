@@ -1,17 +1,14 @@
 -- The whole report, over plain variables: what begins it, what the texts give, the weeks, and what was left out.
 -- Assumes nothing.
-use Prim.Native.Nat.{ℕ, zero, suc, _+_, _-_, _*_, _^_, _≤_, _<_}
-use mathlib.Core.Bool.{true, false, cond}
-use mathlib.Core.List.{List, [], _∷_, _++_, map}
+use Prim.Native.Nat.{ℕ, suc, _+_, _^_, _≤_, _<_}
+use mathlib.Core.List.{List, [], _∷_, _++_}
 use mathlib.Core.Path.{_≡_, refl, sym, ap, _∙_}
 use native.Mathlib.Omega.{arith}
 use borrow.Author.Tests.{le-leb, lt-leb}
-use lib.Dec.{leb, lit<, lit≤}
+use lib.Dec.{lit<}
 use lib.ListN.{length, getD, set, take, drop, replicate, length-append, length-replicate}
 use lib.Seq.{sets, length-sets, take-all, take-at, drop-at}
 use Rattle.format.specs.Opening.{mostElements}
-use Rattle.format.specs.declared.opening.Opened.{Opened}
-use Rattle.laws.specs.Bytes.{bytes}
 use Rattle.laws.proofs.Stores.{sets-start}
 use Rattle.lists.specs.Answers.{openedReading}
 use Rattle.lists.specs.Lines.{lines, lineLength, longestInput, tooLong, onLines}
@@ -24,14 +21,12 @@ use Rattle.lists.proofs.Puts.{then}
 use Rattle.sheet_list.specs.Adding.{mostWords, tableLength}
 use Rattle.sheet_list.specs.Private.{IsTallied}
 use Rattle.sheet_list.specs.Tallies.{talliesOf, withSheets}
-use Rattle.sheet_list.specs.Weeks.{Tally}
 use Rattle.sheet_list.specs.declared.tallies.Tallied.{Tallied}
-use Rattle.sheet_list.proofs.Counting.{Most}
 use Rattle.sheet_list.proofs.Tallying.{good, front, table-size, within, left-most as few-left}
 use Rattle.strptime.specs.Answers.{reading}
 use Rattle.strptime.specs.declared.Reading.{Reading}
 use Rattle.week_report.specs.Private.{tallied, sumOf, tableShown, leftShown, Small, Gathered}
-use Rattle.week_report.specs.Texts.{givenBy, sheetIn, outIn, sheetsOf, outsOf}
+use Rattle.week_report.specs.Texts.{sheetsOf, outsOf}
 use Rattle.week_report.specs.Weeks.{weekLines, numbers, leftOut, noRoom, weeksAnd, weeksBy, weeksOn, weeksOf, Reported}
 use Rattle.week_report.proofs.Gathering.{outs-below, read-below}
 use Rattle.week_report.proofs.Lengths.{weeks-most, left-most}

@@ -9,7 +9,7 @@ use Rattle.lists.specs.Answers.{openedReading}
 use Rattle.lists.specs.Lines.{lines}
 use Rattle.lists.specs.Putting.{each}
 use Rattle.sheet_list.specs.Weeks.{Tally, tally}
-use Rattle.week_report.specs.Texts.{sheetIn, outIn, givenBy, sheetsOf, outsOf}
+use Rattle.week_report.specs.Texts.{sheetIn, outIn, sheetsOf, outsOf}
 use Rattle.week_report.specs.Weeks.{totalLine, numberLine, weekLine}
 use Rattle.week_report.specs.declared.texts.Gives.{Gives}
 

@@ -1,6 +1,6 @@
 -- `week_counts::write_report` is safe: the report has no more bytes than its buffer.
 use lib.Seq.{length-take-le}
-use lib.ListN.{length, take, length-take}
+use lib.ListN.{length, length-take}
 use native.Mathlib.Omega.{arith}
 use mathlib.Core.Path.{sym, ap}
 use Prim.Native.Nat.{_≤_}

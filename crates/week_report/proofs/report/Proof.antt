@@ -3,11 +3,8 @@ use Rattle.week_report.proofs.Whole.{long-reported, next-is, words-with
 use Rattle.week_report.specs.Private.{sumOf}
 use Rattle.laws.specs.Bytes.{bytes}
 use lib.Seq.{length-take-le}
-use lib.ListN.{length, length-replicate}
-use denote.Ref.{now}
 use native.Mathlib.Omega.{arith}
 use mathlib.Core.Path.{refl, sym}
-use Prim.Native.Nat.{_≤_, _<_}
 use borrow.Author.Needs.{needs}
 use Rattle.week_report.proofs.report.Statement.{statement}
 use Rattle.week_report.proofs.report.Tie as tie

@@ -1,8 +1,6 @@
 -- `week_report::counts::count_number` meets its contract. Assumes nothing.
 use Rattle.week_report.proofs.Tallying.{at-most-sum, one-more}
-use lib.ListN.{getD}
 use native.Mathlib.Omega.{arith}
-use Prim.Native.Nat.{_<_}
 use borrow.Author.Needs.{needs}
 use Rattle.week_report.proofs.counts.count_number.Statement.{statement}
 use Rattle.week_report.proofs.counts.count_number.Tie as tie

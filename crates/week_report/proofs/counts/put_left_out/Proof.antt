@@ -1,9 +1,6 @@
 -- `week_report::counts::put_left_out` meets its contract. Assumes nothing.
-use Rattle.week_report.specs.Weeks.{totalLine}
-use Rattle.week_report.specs.Private.{sumOf, leftShown}
+use Rattle.week_report.specs.Private.{leftShown}
 use Rattle.lists.proofs.Puts.{then}
-use denote.Ref.{now}
-use mathlib.Core.Path.{ap, _∙_}
 use borrow.Author.Needs.{needs}
 use Rattle.week_report.proofs.counts.put_left_out.Statement.{statement}
 use Rattle.week_report.proofs.counts.put_left_out.Tie as tie

@@ -5,7 +5,7 @@ use Rattle.week_report.specs.Private.{sumOf}
 use lib.ListN.{length, drop, drop-of-length-le}
 use denote.Ref.{now}
 use native.Mathlib.Omega.{arith}
-use mathlib.Core.Path.{_≡_, refl}
+use mathlib.Core.Path.{_≡_}
 use Prim.Native.Nat.{_+_, _-_, _≤_}
 use Rattle.week_report.proofs.counts.sum_of.Statement.{statement}
 use Rattle.week_report.proofs.counts.sum_of.Tie as tie

@@ -5,8 +5,8 @@ use Rattle.lists.specs.Answers.{openedReading}
 use lib.ListN.{length, take, drop}
 use denote.Ref.{now}
 use native.Mathlib.Omega.{arith}
-use mathlib.Core.Path.{_≡_, refl, sym, ap, _∙_}
-use Prim.Native.Nat.{_-_, _≤_, _<_}
+use mathlib.Core.Path.{_≡_, _∙_}
+use Prim.Native.Nat.{_-_, _≤_}
 use Rattle.week_report.proofs.texts.gather.Statement.{statement}
 use Rattle.week_report.proofs.texts.gather.Tie as tie
 

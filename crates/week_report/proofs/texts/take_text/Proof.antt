@@ -1,7 +1,6 @@
 -- `week_report::texts::take_text` meets its contract. Assumes nothing.
 use Rattle.week_report.proofs.Gathering.{number-below, took-sheet, took-out}
-use mathlib.Core.Path.{sym, ap, _∙_}
-use Prim.Native.Nat.{_<_}
+use mathlib.Core.Path.{sym, _∙_}
 use native.Mathlib.Omega.{arith}
 use borrow.Author.Needs.{needs}
 use Rattle.week_report.proofs.texts.take_text.Statement.{statement}
