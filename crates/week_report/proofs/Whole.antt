@@ -27,7 +27,8 @@ use Rattle.strptime.specs.Answers.{reading}
 use Rattle.strptime.specs.declared.Reading.{Reading}
 use Rattle.week_report.specs.Private.{tallied, sumOf, tableShown, leftShown, Small, Gathered}
 use Rattle.week_report.specs.Texts.{sheetsOf, outsOf}
-use Rattle.week_report.specs.Weeks.{weekLines, numbers, leftOut, noRoom, weeksAnd, weeksBy, weeksOn, weeksOf, Reported}
+use Rattle.week_report.specs.Weeks.{weekLines, numbers, leftOut, noRoom, weeksAndLeft, weekReportBy, weekReportOn, weekReportOf}
+use Rattle.week_report.specs.Weeks.{Reported}
 use Rattle.week_report.proofs.Gathering.{outs-below, read-below}
 use Rattle.week_report.proofs.Lengths.{weeks-most, left-most}
 use Rattle.week_report.proofs.Showing.{table-lines, table-small, left-lines}
@@ -52,19 +53,19 @@ unfolding outsOf
 outs-alike e [] = refl
 outs-alike e (t ∷ ts) = rw (e t, outs-alike e ts)
 
-by-lines : (s : List ℕ) → weeksOn (lines s) ≡ weeksBy (reading (take (lineLength s) s)) (texts s)
-unfolding weeksOn lines
-by-lines [] = unfold weeksBy weeksAnd weekLines sheetsOf outsOf withSheets in refl
+by-lines : (s : List ℕ) → weekReportOn (lines s) ≡ weekReportBy (reading (take (lineLength s) s)) (texts s)
+unfolding weekReportOn lines
+by-lines [] = unfold weekReportBy weeksAndLeft weekLines sheetsOf outsOf withSheets in refl
 by-lines (b ∷ s) = rw (first-line (b ∷ s) (omega arith))
 
 module _ (s : List ℕ) where
   whole : length s ≤ longestInput → {read : List ℕ → Reading} → ((t : List ℕ) → read t ≡ reading (take (lineLength s) s) t)
-      → weeksOf s ≡ weeksAnd (talliesOf (sheetsOf read (texts s))) (outsOf read (texts s))
-  unfolding weeksOf onLines weeksBy
+      → weekReportOf s ≡ weeksAndLeft (talliesOf (sheetsOf read (texts s))) (outsOf read (texts s))
+  unfolding weekReportOf onLines weekReportBy
   whole h f = rw (le-leb (length s) longestInput h, sheets-alike f (texts s), outs-alike f (texts s)) (by-lines s)
 
-  too-long : longestInput < length s → weeksOf s ≡ tooLong
-  unfolding weeksOf onLines
+  too-long : longestInput < length s → weekReportOf s ≡ tooLong
+  unfolding weekReportOf onLines
   too-long h = rw (lt-leb (length s) longestInput h)
 
 -- ---- what is put from the start on, and fits, stands there
@@ -81,7 +82,7 @@ reported {x} {before} {after} {r} p h =
     }
 
 module _ {s room es before between : List ℕ} {f : First} (b : Begun [] s room es before between f) where
-  pub long-reported : longestInput < length s → length tooLong ≤ length before → Reported (weeksOf s) before between (f .count)
+  pub long-reported : longestInput < length s → length tooLong ≤ length before → Reported (weekReportOf s) before between (f .count)
   long-reported h l = rw (too-long s h) (reported (rw (lt-leb (length s) longestInput h) at (b .puts)) l)
 
   module _ (short : length s ≤ longestInput) where
@@ -194,8 +195,8 @@ module _ {s room es before between : List ℕ} {f : First} (b : Begun [] s room 
         pub done : ((k : ℕ) → getD s k 0 < 256) → mostElements ≤ length room → mostElements ≤ length es → 65536 ≤ length before
             → {middle after : List ℕ} {at r : ℕ} → Put (tableShown (take (t .weeks) table)) between (f .count) middle at
             → Put (leftShown (set counts noRoom (getD counts noRoom 0 + t .left))) middle at after r
-            → Reported (weeksOf s) before after r
-        unfolding weeksAnd
+            → Reported (weekReportOf s) before after r
+        unfolding weeksAndLeft
         done are-bytes h k l p q =
             let ts = talliesOf sheets .weeks in
             let ns = outs ++ replicate (talliesOf sheets .left) noRoom in

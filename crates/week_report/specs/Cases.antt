@@ -13,7 +13,7 @@ use Rattle.strptime.specs.declared.Day.the-variants.{NoDate, On}
 use Rattle.strptime.specs.declared.Reading.{Reading}
 use Rattle.strptime.specs.declared.Said.the-variants.{Unsaid, Is}
 use Rattle.values.specs.declared.offsets.Offset.the-variants.{Unsaid as NoOffset}
-use Rattle.week_report.specs.Weeks.{weeksAnd, weeksBy, weeksOf}
+use Rattle.week_report.specs.Weeks.{weeksAndLeft, weekReportBy, weekReportOf}
 
 -- a case: what is done, and what it must give
 abbrev pub Case : Type 0
@@ -21,13 +21,13 @@ Case = List ℕ × List ℕ
 
 -- what is written for a list; and for texts with these readings, the first of a, the second of b, and so on
 unfoldable pub lists : String → List ℕ
-lists s = weeksOf (bytes s)
+lists s = weekReportOf (bytes s)
 
 unfoldable pub says : ℕ → ℕ → ℕ → Reading
 says y m d = finished 0 (On (date y m d)) (Is 23) Unsaid Unsaid NoOffset
 
 unfoldable pub texts : List Reading → List (List ℕ) → List ℕ
-texts rs ts = weeksBy (λ t. getD rs (getD t 0 0 - 97) (refused 6 0)) ts
+texts rs ts = weekReportBy (λ t. getD rs (getD t 0 0 - 97) (refused 6 0)) ts
 
 unfoldable pub weekCases : List Case
 weekCases =
@@ -41,7 +41,7 @@ weekCases =
     )
     -- no room
     ∷ (
-      weeksAnd (tallies (tally (64 * 1934 + 10) 3 ∷ tally (64 * 1935 + 1) 120 ∷ []) 2) (6 ∷ 10 ∷ 6 ∷ []),
+      weeksAndLeft (tallies (tally (64 * 1934 + 10) 3 ∷ tally (64 * 1935 + 1) 120 ∷ []) 2) (6 ∷ 10 ∷ 6 ∷ []),
       bytes "1934-W10 3\n1935-W01 120\nleft out: 5\nnumber 6: 2\nnumber 10: 1\nnumber 14: 2\n",
     )
     -- lists
@@ -51,7 +51,7 @@ weekCases =
     ∷ (lists "", bytes "left out: 0\n")
     ∷ (lists "%F", bytes "left out: 0\n")
     ∷ (lists "%F\n", bytes "left out: 0\n")
-    ∷ (weeksOf (replicate 32769 10), bytes "too long\n")
+    ∷ (weekReportOf (replicate 32769 10), bytes "too long\n")
     ∷ []
 
 -- everything here, for the proof that computes

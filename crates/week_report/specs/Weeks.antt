@@ -44,21 +44,22 @@ leftOut ns = totalLine (length ns) ++ each (λ k. numberLine k (howMany k ns)) n
 abbrev pub noRoom : ℕ
 noRoom = 14
 
--- sheets are counted by weeks one after another
-unfoldable pub weeksAnd : Tallies → List ℕ → List ℕ
-weeksAnd a ns = weekLines (a .weeks) ++ leftOut (ns ++ replicate (a .left) noRoom)
+-- the weeks of the sheets that are counted; then the texts that gave none, and the sheets for which there was no room
+unfoldable pub weeksAndLeft : Tallies → List ℕ → List ℕ
+weeksAndLeft a ns = weekLines (a .weeks) ++ leftOut (ns ++ replicate (a .left) noRoom)
 
-unfoldable pub weeksBy : (List ℕ → Reading) → List (List ℕ) → List ℕ
-weeksBy read ts = weeksAnd (talliesOf (sheetsOf read ts)) (outsOf read ts)
+-- each text is read, and their sheets are counted one after another
+unfoldable pub weekReportBy : (List ℕ → Reading) → List (List ℕ) → List ℕ
+weekReportBy read ts = weeksAndLeft (talliesOf (sheetsOf read ts)) (outsOf read ts)
 
 -- the first line is the format, and each other one a text
-unfoldable pub weeksOn : List (List ℕ) → List ℕ
-weeksOn [] = leftOut []
-weeksOn (f ∷ ts) = weeksBy (reading f) ts
+unfoldable pub weekReportOn : List (List ℕ) → List ℕ
+weekReportOn [] = leftOut []
+weekReportOn (f ∷ ts) = weekReportBy (reading f) ts
 
 -- on an input
-unfoldable pub weeksOf : List ℕ → List ℕ
-weeksOf s = onLines weeksOn s
+unfoldable pub weekReportOf : List ℕ → List ℕ
+weekReportOf s = onLines weekReportOn s
 
 -- a report at the front of a buffer: its bytes, as many as it has, and every other byte as it was
 pub record Reported (report before after : List ℕ) (r : ℕ) : Type 0 where
@@ -68,5 +69,5 @@ pub record Reported (report before after : List ℕ) (r : ℕ) : Type 0 where
 
 -- everything here, for proofs that compute
 unfoldable pub computes : Unit {0}
-unfolding weekLine weekLines totalLine numberLine leftOut weeksAnd weeksBy weeksOn weeksOf
+unfolding weekLine weekLines totalLine numberLine leftOut weeksAndLeft weekReportBy weekReportOn weekReportOf
 computes = tt

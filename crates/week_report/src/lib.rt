@@ -10,7 +10,7 @@ use sheet_list::TABLE_LENGTH;
 use sheet_list::count_sheets;
 use texts::gather;
 use weeks::put_weeks;
-ghost use Rattle.week_report.specs.Weeks.{weeksOf, Reported};
+ghost use Rattle.week_report.specs.Weeks.{weekReportOf, Reported};
 
 mod counts;
 mod texts;
@@ -18,7 +18,7 @@ mod weeks;
 
 // Puts the report on `input` at the front of `out`, and answers how many bytes it has.
 pub fn report(input: &[u8], out: &mut [u8; PART]) -> usize
-    ensures { λ r. ⌜ Reported (weeksOf (now (input .entry))) (now (out .entry)) (now (out .exit)) r ⌝ }
+    ensures { λ r. ⌜ Reported (weekReportOf (now (input .entry))) (now (out .entry)) (now (out .exit)) r ⌝ }
 {
     let mut elements = [0; MOST_ELEMENTS];
     let first = begin(b"", input, &mut elements, out);

@@ -95,7 +95,8 @@ slice-aggregate-put-weeks c =
     let begin-then = else1-then .before .before in
     let g = gather-then .gather .ensures in
     let t = count-sheets-then .count-sheets .ensures in
-    sym (length-take-le _ _ (weeks-within (begin-then .begin .ensures) (omega (arith, else1-then .if1 .left)) g (omega arith) t (omega arith)))
+    sym (length-take-le _ _ (weeks-within (begin-then .begin .ensures) (omega (arith, else1-then .if1 .left)) g (omega arith) t
+    (omega arith)))
 
 put-weeks-requires : tie.Need-put-weeks-requires
 put-weeks-requires c κs =

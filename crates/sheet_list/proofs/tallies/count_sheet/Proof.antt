@@ -1,4 +1,4 @@
--- `proofs::count_sheet` meets its contract. Assumes nothing.
+-- `sheet_list::tallies::count_sheet` meets its contract. Assumes nothing.
 use Rattle.sheet_list.proofs.Tallying.{within, table-rises, counted-fits, stays, counted-more-is, left-most}
 use Rattle.sheet_list.specs.Private.{week, countedIn}
 use Rattle.sheets.specs.Sheets.{isPacking}

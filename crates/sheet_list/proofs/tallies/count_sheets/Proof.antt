@@ -1,4 +1,4 @@
--- `proofs::count_sheets` meets its contract. Assumes nothing.
+-- `sheet_list::tallies::count_sheets` meets its contract. Assumes nothing.
 use Rattle.sheet_list.proofs.Tallying.{again, onward, tallied-start}
 use Rattle.sheet_list.specs.Private.{IsTallied}
 use Rattle.sheet_list.specs.Adding.{mostWords}

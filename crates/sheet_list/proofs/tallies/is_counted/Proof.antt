@@ -1,4 +1,4 @@
--- `proofs::is_counted` meets its contract. Assumes nothing.
+-- `sheet_list::tallies::is_counted` meets its contract. Assumes nothing.
 use Rattle.sheet_list.proofs.Tallying.{not-packing, weeks-free, by-week}
 use Rattle.sheets.proofs.Order.{packing-week}
 use native.Mathlib.Omega.{arith}
