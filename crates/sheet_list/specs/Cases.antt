@@ -59,8 +59,9 @@ heldCases =
     ∷ (isHeld (held (replicate 65536 7) 0 (rows []) 0), true)
     ∷ (isHeld (held (replicate 65537 7) 0 (rows []) 0), false)
     ∷ (isHeld (held five 6 (rows two) 2), false)
-    -- a word that is no packing, a list that is not ascending
-    ∷ (isHeld (held (five ++ (7 ∷ [])) 6 (rows two) 2), false)
+    -- a word that is no packing, 0001-01-01 with its lowest bit set, beside its week's table; a list that is not ascending
+    ∷ (isHeld (all (0x0004420000000000 ∷ []) (0x0004100000000001 ∷ [])), true)
+    ∷ (isHeld (all (0x0004420000000001 ∷ []) (0x0004100000000001 ∷ [])), false)
     ∷ (isHeld (all (w5 ∷ w5at7 ∷ w11 ∷ w5at7 ∷ w2010 ∷ []) two), false)
     -- a table's array of another length, a count past its end
     ∷ (isHeld (held [] 0 (replicate 1023 7) 0), false)
