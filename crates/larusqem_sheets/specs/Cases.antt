@@ -63,15 +63,16 @@ answerCases =
 abbrev rows : ℕ → List ℕ
 rows x = x ∷ replicate 1023 7
 
--- the array of 0001-01-01 and another word, and the table of 0001-W01 with one sheet; the counts are sheets, then weeks
+-- the array of 0001-01-01 twice and another word, and the table of 0001-W01 with two sheets; the counts are sheets, then weeks
 abbrev judges : ℕ → ℕ → ℕ
-judges c k = judged (heldBy (0x0004420000000000 ∷ 7 ∷ []) (rows 0x0004100000000001) (c ∷ k ∷ []))
+judges c k = judged (heldBy (0x0004420000000000 ∷ 0x0004420000000000 ∷ 7 ∷ []) (rows 0x0004100000000002) (c ∷ k ∷ []))
 
 unfoldable pub judgedCases : List (ℕ × ℕ)
 judgedCases =
     (judges 0 0, 0)
-    ∷ (judges 1 1, 0)
-    ∷ (judges 0 1, 15)
-    ∷ (judges 1 0, 15)
-    ∷ (judges 2 1, 15)
+    ∷ (judges 2 1, 0)
+    ∷ (judges 1 2, 15)
+    ∷ (judges 1 1, 15)
+    ∷ (judges 2 0, 15)
+    ∷ (judges 3 1, 15)
     ∷ []
