@@ -1,7 +1,7 @@
 -- Sheets and lists in the words of C worked out (RULES 10.4), each beside what it must be. The words were put together by shifting each
 -- number to the bits that the request lists, outside the code; none is what the code gave.
 use Prim.Native.Nat.{ℕ}
-use mathlib.Core.List.{List, [], _∷_, _++_}
+use mathlib.Core.List.{List, [], _∷_}
 use lib.ListN.{replicate}
 use Rattle.sheets.specs.Sheets.{packing, unpacking}
 use Rattle.sheet_list.specs.Adding.{held, outcome}

@@ -1,17 +1,17 @@
 -- What is counted alone is what adding counts.
 -- Assumes nothing.
-use Prim.Native.Nat.{ℕ, suc, _+_, _<_}
+use Prim.Native.Nat.{ℕ, suc, _<_}
 use mathlib.Core.Bool.{Bool, true, false, cond, not, _&&_, _||_}
-use mathlib.Core.Path.{_≡_, refl, sym, ap, _∙_}
+use mathlib.Core.Path.{_≡_, refl}
 use native.Mathlib.Omega.{arith}
 use borrow.Author.Tests.{ne-eqb}
 use lib.Dec.{eqb}
 use lib.ListN.{length}
 use Rattle.sheets.specs.Sheets.{isPacking, weekOf}
-use Rattle.sheet_list.specs.Adding.{Held, listOf, tableLength, isHeld, isFull, with, Outcome, outcome, addingWord}
+use Rattle.sheet_list.specs.Adding.{Held, listOf, tableLength, isHeld, isFull, with, Outcome, addingWord}
 use Rattle.sheet_list.specs.Ascending.{inserted}
-use Rattle.sheet_list.specs.Tallies.{Tallies, tallies, hasRoom, withSheet, CountsAlike}
-use Rattle.sheet_list.specs.Weeks.{counted, weeksOf, hasWeek}
+use Rattle.sheet_list.specs.Tallies.{tallies, hasRoom, withSheet, CountsAlike}
+use Rattle.sheet_list.specs.Weeks.{weeksOf, hasWeek}
 use Rattle.sheet_list.proofs.Counting.{inserted-weeks}
 use Rattle.sheet_list.proofs.Holding.{sound, weeks-held, over-front}
 use Rattle.sheet_list.proofs.Steps.{word-full, word-added}

@@ -1,10 +1,12 @@
 -- What is owed of lists of sheets and their tables holds.
 -- Assumes nothing.
-use Prim.Native.Nat.{ℕ, suc, _+_}
+use Prim.Native.Nat.{ℕ, zero, suc, _+_}
 use mathlib.Core.Bool.{Bool, true, false, cond}
 use mathlib.Core.List.{List, [], _∷_}
 use mathlib.Core.Path.{_≡_, refl, sym, ap, _∙_}
+use native.Mathlib.Decide.{ℕ-discrete}
 use native.Mathlib.Omega.{arith}
+use borrow.Author.Tests.{eq-eqb, ne-eqb}
 use lib.Dec.{eqb, leb}
 use Rattle.laws.proofs.Cases.{picked}
 use Rattle.calendar.specs.declared.Date.{Date}
@@ -14,15 +16,15 @@ use Rattle.sheets.specs.Sheets.{weekOf, weekWidths, weekOfDate, packing}
 use Rattle.sheets.specs.declared.Packed.the-variants.{Word}
 use Rattle.sheets.specs.declared.SheetFields.{SheetFields}
 use Rattle.values.specs.Values.{dayNumberOf}
-use Rattle.sheet_list.specs.Adding.{Held, listOf, with, Outcome, adding}
+use Rattle.sheet_list.specs.Adding.{Held, listOf, isHeld, isFull, with, Outcome, outcome, addingWord, adding, addingAll}
 use Rattle.sheet_list.specs.Ascending.{inserted}
-use Rattle.sheet_list.specs.Rules.{howMany, ofWeek, sheetsFor, ListRules, Past, AddRules}
+use Rattle.sheet_list.specs.Rules.{howMany, ofWeek, sheetsFor, ListRules, Past, heldBefore, Stopped, AddRules}
 use Rattle.sheet_list.specs.Weeks.{Tally, tally, counted, weeksOf, tallyWidths, tallyWord, tableOf}
 use Rattle.sheet_list.proofs.Counting.{Cases, cases, counted-less, counted-same, counted-more, weeks-rise}
 use Rattle.sheet_list.proofs.Counting.Cases.{less, same, more}
 use Rattle.sheet_list.proofs.Holding.{over-front, over-past}
 use Rattle.sheet_list.proofs.Ranks.{inserted-ascends}
-use Rattle.sheet_list.proofs.Steps.{sheet-undated, sheet-bad, sheet-word, word-unheld, word-full, word-added, sheet-cases}
+use Rattle.sheet_list.proofs.Steps.{sheet-undated, sheet-bad, sheet-word, word-unheld, word-full, sheet-cases}
 use Rattle.sheet_list.proofs.Steps.{adding-taken, adding-refused}
 
 -- ---- counting words
@@ -121,17 +123,75 @@ past-then i f h =
     (λ n p l. record { words = refl; table = refl })
     (λ x p a b. with-past x h)
 
+added-word : (i x : ℕ) (h : Held) → isHeld h ≡ true → isFull x h ≡ false → addingWord i x h ≡ outcome 0 0 (suc i) (with x h)
+unfolding addingWord
+added-word i x h e f = rw (e, f)
+
+-- ---- many sheets
+
+module _ (sheet : ℕ → SheetFields) where
+  counted-all : (i n : ℕ) (h : Held) → addingAll sheet i n h .number ≡ 0 → addingAll sheet i n h .index ≡ i + n
+  unfolding addingAll
+  counted-all i zero h = λ e. omega arith
+  counted-all i (suc n) h = go (adding i (sheet i) h) (counted-all (suc i) n (adding i (sheet i) h .held))
+    where
+      go : (o : Outcome) → (addingAll sheet (suc i) n (o .held) .number ≡ 0 → addingAll sheet (suc i) n (o .held) .index ≡ suc i + n)
+          → cond (eqb (o .number) 0) (addingAll sheet (suc i) n (o .held)) o .number ≡ 0
+          → cond (eqb (o .number) 0) (addingAll sheet (suc i) n (o .held)) o .index ≡ i + suc n
+      go o later =
+          elim (ℕ-discrete (o .number) 0) [
+            | yes z ↦ rw (eq-eqb (o .number) 0 z) (λ e. omega (arith, later e))
+            | no z ↦ rw (ne-eqb (o .number) 0 z) (λ e. absurd (z e))
+          ]
+
+  stopped-here : (i n : ℕ) (h : Held) → (adding i (sheet i) h .number ≡ 0 → ⊥) → Stopped sheet i (suc n) h (adding i (sheet i) h)
+  stopped-here i n h z =
+      let e : i + 0 ≡ i = omega arith in
+      record {
+        before = 0;
+        among = omega arith;
+        index = adding-refused i (sheet i) h z .index ∙ sym e;
+        refusal = rw e (unfold heldBefore in refl);
+      }
+
+  stopped-later : (i n : ℕ) (h : Held) {o : Outcome} → Stopped sheet (suc i) n (adding i (sheet i) h .held) o
+      → Stopped sheet i (suc n) h o
+  stopped-later i n h s =
+      let e : i + suc (s .before) ≡ suc i + s .before = omega arith in
+      record {
+        before = suc (s .before);
+        among = omega (arith, s .among);
+        index = s .index ∙ sym e;
+        refusal = rw e (unfold heldBefore in s .refusal);
+      }
+
+  stopped : (i n : ℕ) (h : Held) → (addingAll sheet i n h .number ≡ 0 → ⊥) → Stopped sheet i n h (addingAll sheet i n h)
+  unfolding addingAll
+  stopped i zero h = λ z. absurd (z refl)
+  stopped i (suc n) h = go (stopped (suc i) n (adding i (sheet i) h .held)) (ℕ-discrete (adding i (sheet i) h .number) 0)
+    where
+      one : Outcome
+      one = adding i (sheet i) h
+
+      go : ((addingAll sheet (suc i) n (one .held) .number ≡ 0 → ⊥)
+          → Stopped sheet (suc i) n (one .held) (addingAll sheet (suc i) n (one .held)))
+          → Dec (one .number ≡ 0)
+          → (cond (eqb (one .number) 0) (addingAll sheet (suc i) n (one .held)) one .number ≡ 0 → ⊥)
+          → Stopped sheet i (suc n) h (cond (eqb (one .number) 0) (addingAll sheet (suc i) n (one .held)) one)
+      go later (yes z) = rw (eq-eqb (one .number) 0 z) (λ e. stopped-later i n h (later e))
+      go later (no z) = rw (ne-eqb (one .number) 0 z) (λ e. stopped-here i n h z)
+
 pub add-rules : AddRules
 add-rules =
     record {
-      undated = λ i f h e. sym (ap (λ (o : Outcome). o .number) (sheet-undated i f h e));
-      bad = λ i p f h e.
-          (sym (ap (λ (o : Outcome). o .number) (sheet-bad i f h e)), sym (ap (λ (o : Outcome). o .place) (sheet-bad i f h e)));
-      unheld = λ i x f h e a. sym (ap (λ (o : Outcome). o .number) (word-unheld i x h a ∙ sheet-word i f h e));
-      full = λ i x f h e a b. sym (ap (λ (o : Outcome). o .number) (word-full i x h a b ∙ sheet-word i f h e));
-      added = λ i x f h e a b. sym (ap (λ (o : Outcome). o .number) (word-added i x h a b refl ∙ sheet-word i f h e));
-      untouched = λ i f h n. adding-refused i f h n .held;
+      undated = λ i f h e. sym (sheet-undated i f h e);
+      bad = λ i p f h e. sym (sheet-bad i f h e);
+      unheld = λ i x f h e a. sym (word-unheld i x h a ∙ sheet-word i f h e);
+      full = λ i x f h e a b. sym (word-full i x h a b ∙ sheet-word i f h e);
+      added = λ i x f h e a b. sym (sheet-word i f h e) ∙ added-word i x h a b;
       holds = λ i f h z. adding-taken i f h z .holds;
       list = list-then;
       past = past-then;
+      all = counted-all;
+      first = stopped;
     }

@@ -112,7 +112,7 @@ addingAll sheet i (suc n) h =
     let more = addingAll sheet (suc i) n (one .held) in
     cond (eqb (one .number) 0) more one
 
--- sheets as words, eleven each (RULES 10)
+-- sheets as words, eleven each (RULES 10.4)
 abbrev pub sheetWords : ℕ
 sheetWords = 11
 

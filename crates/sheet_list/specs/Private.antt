@@ -7,7 +7,7 @@ use lib.Dec.{eqb, ltb}
 use lib.ListN.{length, getD, take, drop}
 use Rattle.laws.specs.Lists.{every}
 use Rattle.sheets.specs.Sheets.{isPacking, weekOf}
-use Rattle.sheet_list.specs.Adding.{over, tableLength}
+use Rattle.sheet_list.specs.Adding.{over, mostWords, tableLength}
 use Rattle.sheet_list.specs.Ascending.{ascending}
 use Rattle.sheet_list.specs.Tallies.{talliesOf}
 use Rattle.sheet_list.specs.Weeks.{tallyWord}
@@ -51,7 +51,7 @@ isWeekAt k at t = ltb at (length t) && eqb (getD t at 0 / week) k
 
 -- a list of packings, ascending, no longer than the longest
 pub record Listed (s : List ℕ) : Type 0 where
-  pub short : length s ≤ 65536
+  pub short : length s ≤ mostWords
   pub packings : every isPacking s ≡ true
   pub ascends : ascending s ≡ true
 

@@ -1,6 +1,6 @@
 -- What is owed of lists of sheets and their tables (RULES 11.2 and RULES 11.3), as statements about the definitions; the proofs are in
 -- proofs/Rules.antt.
-use Prim.Native.Nat.{ℕ, suc, _+_, _≤_, _<_}
+use Prim.Native.Nat.{ℕ, zero, suc, _+_, _≤_, _<_}
 use mathlib.Core.Bool.{Bool, true, false, cond}
 use mathlib.Core.List.{List, [], _∷_}
 use mathlib.Core.Path.{_≡_}
@@ -13,7 +13,7 @@ use Rattle.sheets.specs.declared.SheetFields.{SheetFields}
 use Rattle.calendar.specs.Calendar.{isoYear, isoWeek}
 use Rattle.calendar.specs.declared.Date.{Date}
 use Rattle.values.specs.Values.{dayNumberOf}
-use Rattle.sheet_list.specs.Adding.{Held, listOf, isHeld, isFull, adding}
+use Rattle.sheet_list.specs.Adding.{Held, listOf, isHeld, isFull, with, Outcome, outcome, adding, addingAll}
 use Rattle.sheet_list.specs.Ascending.{ascending, inserted}
 use Rattle.sheet_list.specs.Weeks.{Tally, tally, weeksOf, tallyWord}
 
@@ -56,19 +56,33 @@ pub record Past (h g : Held) : Type 0 where
   pub words : drop (g .count) (g .words) ≡ drop (g .count) (h .words)
   pub table : drop (g .weeks) (g .table) ≡ drop (g .weeks) (h .table)
 
+-- the sheets before one were added one after another, and that one is refused
+unfoldable pub heldBefore : (ℕ → SheetFields) → ℕ → ℕ → Held → Held
+heldBefore sheet i zero h = h
+heldBefore sheet i (suc k) h = heldBefore sheet (suc i) k (adding i (sheet i) h .held)
+
+pub record Stopped (sheet : ℕ → SheetFields) (i n : ℕ) (h : Held) (o : Outcome) : Type 0 where
+  pub before : ℕ
+  pub among : before < n
+  pub index : o .index ≡ i + before
+  pub refusal : o ≡ adding (i + before) (sheet (i + before)) (heldBefore sheet i before h)
+
 -- what becomes of a sheet
 pub record AddRules : Type 0 where
-  -- 13, 2, 15 and 14, each exactly in its case
-  pub undated : (i : ℕ) (f : SheetFields) (h : Held) → packing f ≡ NoDay → adding i f h .number ≡ 13
-  pub bad : (i p : ℕ) (f : SheetFields) (h : Held) → packing f ≡ Bad p → (adding i f h .number ≡ 2) × (adding i f h .place ≡ p)
-  pub unheld : (i x : ℕ) (f : SheetFields) (h : Held) → packing f ≡ Word x → isHeld h ≡ false → adding i f h .number ≡ 15
-  pub full : (i x : ℕ) (f : SheetFields) (h : Held) → packing f ≡ Word x → isHeld h ≡ true → isFull x h ≡ true → adding i f h .number ≡ 14
+  -- 13, 2, 15 and 14, each exactly in its case, with its place and the sheet's index; all leave both arrays and both counts
+  pub undated : (i : ℕ) (f : SheetFields) (h : Held) → packing f ≡ NoDay → adding i f h ≡ outcome 13 0 i h
+  pub bad : (i p : ℕ) (f : SheetFields) (h : Held) → packing f ≡ Bad p → adding i f h ≡ outcome 2 p i h
+  pub unheld : (i x : ℕ) (f : SheetFields) (h : Held) → packing f ≡ Word x → isHeld h ≡ false → adding i f h ≡ outcome 15 0 i h
+  pub full : (i x : ℕ) (f : SheetFields) (h : Held) → packing f ≡ Word x → isHeld h ≡ true → isFull x h ≡ true
+      → adding i f h ≡ outcome 14 0 i h
   pub added : (i x : ℕ) (f : SheetFields) (h : Held) → packing f ≡ Word x → isHeld h ≡ true → isFull x h ≡ false
-      → adding i f h .number ≡ 0
-  -- whatever is refused leaves both arrays and both counts
-  pub untouched : (i : ℕ) (f : SheetFields) (h : Held) → (adding i f h .number ≡ 0 → ⊥) → adding i f h .held ≡ h
+      → adding i f h ≡ outcome 0 0 (suc i) (with x h)
   -- what is added holds again, with its list and table, and leaves the words past the new counts
   pub holds : (i : ℕ) (f : SheetFields) (h : Held) → adding i f h .number ≡ 0 → isHeld (adding i f h .held) ≡ true
   pub list : (i x : ℕ) (f : SheetFields) (h : Held) → packing f ≡ Word x → adding i f h .number ≡ 0
       → listOf (adding i f h .held) ≡ inserted x (listOf h)
   pub past : (i : ℕ) (f : SheetFields) (h : Held) → Past h (adding i f h .held)
+  -- of many sheets, where none is refused the index is how many there were; else it is that of one of them, whose refusal is the answer
+  pub all : (sheet : ℕ → SheetFields) (i n : ℕ) (h : Held) → addingAll sheet i n h .number ≡ 0 → addingAll sheet i n h .index ≡ i + n
+  pub first : (sheet : ℕ → SheetFields) (i n : ℕ) (h : Held) → (addingAll sheet i n h .number ≡ 0 → ⊥)
+      → Stopped sheet i n h (addingAll sheet i n h)

@@ -111,7 +111,7 @@ dated (Fields y m d) f = packingOf y m d f
 unfoldable pub packing : SheetFields → Packed
 packing f = dated (f .date) f
 
--- what a reading says of a sheet; a refused one says nothing
+-- what a reading says of a sheet; a refused one has no day, hour, minute, second or offset (RULES 3)
 unfoldable pub dayFields : ReadDay → DateFields
 dayFields NoDate = NoFields
 dayFields (On t) = Fields (t .year) (t .month) (t .day)
@@ -120,7 +120,7 @@ unfoldable pub readingFields : Reading → SheetFields
 readingFields r =
     record { date = dayFields (r .day); hour = r .hour; minute = r .minute; second = r .second; offset = r .offset }
 
--- what words say of a sheet (RULES 10): a date of three zeros is none, and a flag of 0 leaves its field unsaid
+-- what words say of a sheet (RULES 10.4): a date of three zeros is none, and a flag of 0 leaves its field unsaid
 unfoldable pub dateFrom : ℕ → ℕ → ℕ → DateFields
 dateFrom y m d = cond (eqb y 0 && (eqb m 0 && eqb d 0)) NoFields (Fields y m d)
 
@@ -142,8 +142,8 @@ weekOfDate t = packed weekWidths (isoYear (dayNumberOf t) ∷ isoWeek (dayNumber
 unfoldable pub weekOf : ℕ → ℕ
 weekOf x = weekOfDate (sheetOf x .date)
 
--- the lowest word of a later week: that of the Monday after, where nothing else is said, or the highest number where the calendar ends
--- first
+-- the lowest word of a later week, by which a week's words are told without working out each one's week: that of the Monday after, of
+-- which nothing else is said, or the highest number where the calendar ends first
 unfoldable pub dateWord : Date → ℕ
 dateWord t = packed (14 ∷ 4 ∷ 5 ∷ 41 ∷ []) (t .year ∷ t .month ∷ t .day ∷ 0 ∷ [])
 

@@ -311,7 +311,7 @@ fn date_from(year: u32, month: u32, day: u32) -> DateFields
     DateFields::NoFields
 }
 
-// A sheet as it comes in words (RULES 10): year, month and day, then whether each other field is said and which it is.
+// A sheet as it comes in words (RULES 10.4): year, month and day, then whether each other field is said and which it is.
 pub fn fields_from(
     year: u32,
     month: u32,
