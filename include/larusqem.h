@@ -374,8 +374,8 @@ struct larusqem_options {
  * and a refusal leaves both arrays and both counts untouched.
  *
  * Many sheets are added by one call as if one after another, up to the first that is refused, whose index is given; those before it stay
- * added. Judging goes over the whole list, some 20 ns for a word; such a call judges it once, and with no sheets not at all. So 65,536
- * sheets in any order are added in less than 2 s, where a call for each takes some 40.
+ * added. Judging goes over the whole list, some 4 to 10 ns for a word; such a call judges it once, and with no sheets not at all. So
+ * 65,536 sheets in any order are added in some 0.2 s, where a call for each takes more than 10.
  */
 
 /*
