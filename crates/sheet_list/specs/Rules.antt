@@ -49,7 +49,8 @@ pub record ListRules : Type 0 where
   pub counts : (k : ℕ) (s : List ℕ) → sheetsFor k (weeksOf s) ≡ ofWeek k s
   -- a word of the table: ISO year 14 bits, week 6, sheets 44
   pub bits : (t : Date) (n : ℕ)
-      → tallyWord (tally (weekOfDate t) n) ≡ packed (14 ∷ 6 ∷ 44 ∷ []) (isoYear (dayNumberOf t) ∷ isoWeek (dayNumberOf t) ∷ n ∷ [])
+      → tallyWord (tally (weekOfDate t) n)
+      ≡ packed (14 ∷ 6 ∷ 44 ∷ []) (isoYear (dayNumberOf t) ∷ isoWeek (dayNumberOf t) ∷ n ∷ [])
 
 -- past the new counts nothing is changed
 pub record Past (h g : Held) : Type 0 where
@@ -72,7 +73,8 @@ pub record AddRules : Type 0 where
   -- 13, 2, 15 and 14, each exactly in its case, with its place and the sheet's index; all leave both arrays and both counts
   pub undated : (i : ℕ) (f : SheetFields) (h : Held) → packing f ≡ NoDay → adding i f h ≡ outcome 13 0 i h
   pub bad : (i p : ℕ) (f : SheetFields) (h : Held) → packing f ≡ Bad p → adding i f h ≡ outcome 2 p i h
-  pub unheld : (i x : ℕ) (f : SheetFields) (h : Held) → packing f ≡ Word x → isHeld h ≡ false → adding i f h ≡ outcome 15 0 i h
+  pub unheld : (i x : ℕ) (f : SheetFields) (h : Held) → packing f ≡ Word x → isHeld h ≡ false
+      → adding i f h ≡ outcome 15 0 i h
   pub full : (i x : ℕ) (f : SheetFields) (h : Held) → packing f ≡ Word x → isHeld h ≡ true → isFull x h ≡ true
       → adding i f h ≡ outcome 14 0 i h
   pub added : (i x : ℕ) (f : SheetFields) (h : Held) → packing f ≡ Word x → isHeld h ≡ true → isFull x h ≡ false
@@ -83,6 +85,7 @@ pub record AddRules : Type 0 where
       → listOf (adding i f h .held) ≡ inserted x (listOf h)
   pub past : (i : ℕ) (f : SheetFields) (h : Held) → Past h (adding i f h .held)
   -- of many sheets, where none is refused the index is how many there were; else it is that of one of them, whose refusal is the answer
-  pub all : (sheet : ℕ → SheetFields) (i n : ℕ) (h : Held) → addingAll sheet i n h .number ≡ 0 → addingAll sheet i n h .index ≡ i + n
+  pub all : (sheet : ℕ → SheetFields) (i n : ℕ) (h : Held) → addingAll sheet i n h .number ≡ 0
+      → addingAll sheet i n h .index ≡ i + n
   pub first : (sheet : ℕ → SheetFields) (i n : ℕ) (h : Held) → (addingAll sheet i n h .number ≡ 0 → ⊥)
       → Stopped sheet i n h (addingAll sheet i n h)

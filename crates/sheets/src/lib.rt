@@ -325,7 +325,8 @@ pub fn fields_from(
     offset_said: u32,
     offset: u32,
 ) -> SheetFields
-    ensures { λ r. ⌜ r ≡ fieldsFrom year month day «hour_said» hour «minute_said» minute «second_said» second «offset_said» offset ⌝ }
+    ensures { λ r. ⌜ r
+        ≡ fieldsFrom year month day «hour_said» hour «minute_said» minute «second_said» second «offset_said» offset ⌝ }
 {
     SheetFields {
         date: date_from(year, month, day),
