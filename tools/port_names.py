@@ -72,7 +72,7 @@ def swap(text, names):
 
 def of_antt(text, names):
     lines = []
-    camel = {old: new for old, new in names.items() if "-" not in old}
+    camel = {old: new for old, new in names.items() if re.search("[a-z][A-Z]", old)}
     for line in text.split("\n"):
         body, dashes, comment = line.partition("--") if line.lstrip().startswith("--") else (line, "", "")
         lines.append(swap(body, names) + dashes + swap(comment, camel))
@@ -81,7 +81,7 @@ def of_antt(text, names):
 
 def of_rattle(text, names):
     """Clauses and ghost lines; of comments and code, names with a capital inside."""
-    camel = {old: new for old, new in names.items() if "-" not in old}
+    camel = {old: new for old, new in names.items() if re.search("[a-z][A-Z]", old)}
     out, clause, depth = [], False, 0
     for line in text.split("\n"):
         starts = re.match(r"\s*(pub )?(ghost|requires|ensures)\b", line)
@@ -102,7 +102,7 @@ def of_edit(text, names):
             parts.append(line)
         else:
             clause = specs or "ensures" in line or "requires" in line or "ghost" in line
-            parts.append(swap(line, names if clause else {old: new for old, new in names.items() if "-" not in old}))
+            parts.append(swap(line, names if clause else {old: new for old, new in names.items() if re.search("[a-z][A-Z]", old)}))
     return "\n".join(parts)
 
 

@@ -147,8 +147,8 @@ is_agrees (suc n) v f = agrees_suc n v ∙ eq-eqb n v (sym (f n refl))
 
 -- facts of some kinds
 module _ (f : Facts) (ks : List ℕ) where
-  none_said : not (none_said f ks) ≡ false → NoneSaid f ks
-  none_said e k m = eqb-true (said f k) 0 (every_member (λ k. eqb (said f k) 0) ks (not-false _ e) k m)
+  none_said_lem : not (none_said f ks) ≡ false → NoneSaid f ks
+  none_said_lem e k m = eqb-true (said f k) 0 (every_member (λ k. eqb (said f k) 0) ks (not-false _ e) k m)
 
   said-none : NoneSaid f ks → not (none_said f ks) ≡ false
   said-none z = ap not (member_every (λ k. eqb (said f k) 0) ks (λ k m. eq-eqb (said f k) 0 (z k m)))
@@ -169,7 +169,7 @@ pub day_judged : (f : Facts) → DayJudged f (day_verdict f)
 unfolding day_verdict days_found day_borne day_agrees date_agrees
 day_judged f =
     judged (NoDayFact f) IsDay (DayAgrees f) (day_agrees f) 1 days (day_borne f)
-    (none_said f day_kinds)
+    (none_said_lem f day_kinds)
     (said-none f day_kinds)
     (λ k i. omega arith)
     (λ k l m. omega arith)
@@ -181,7 +181,7 @@ pub hour_judged : (f : Facts) → HourJudged f (hour_verdict f)
 unfolding hour_verdict hour_borne hour_agrees
 hour_judged f =
     judged (NoHourFact f) IsHour (HourAgrees f) (hour_agrees f) 0 24 (hour_borne f)
-    (none_said f hour_kinds)
+    (none_said_lem f hour_kinds)
     (said-none f hour_kinds)
     (λ h i. omega arith)
     (λ h l m. omega arith)

@@ -112,6 +112,7 @@ year_least y = least (leap y)
 
 -- the year of a day within 365 days of the year's start
 pub year_within : (y k : ℕ) → 0 < y → days_before y < k → k ≤ days_before y + 365 → year_of k ≡ y
+year_within zero k h a b = elim h [ ]
 year_within (suc p) k h a b =
     let e = days_before_is (suc p) p refl in
     year_is p k (omega (arith, e)) (omega (arith, e, sum_suc year_length p, year_least (suc p)))

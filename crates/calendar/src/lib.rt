@@ -1,4 +1,6 @@
 // The Gregorian calendar of the years 1 to 9999: dates, day numbers, weekdays and weeks (RULES 2).
+#![tactic(auto)]
+
 ghost use Rattle.std.specs.Prelude.{◌≡◌, ◌-◌, ◌<◌, ◌≤◌, ◌^◌};
 ghost use Rattle.calendar.specs.Calendar.{sum, leap, year_length, month_length, day_of_year, days_before, day_number, year_of, month_of};
 ghost use Rattle.calendar.specs.Calendar.{weekday, count_after, sunday_week, monday_week, thursday, iso_year, iso_week};
@@ -14,7 +16,7 @@ const SUNDAY: u32 = 7;
 // The days of each month in a year that is not leap, at the month's number; there is no month 0.
 const MONTH_LENGTHS: [u32; 13] = [0, 31, 28, 31, 30, 31, 30, 31, 31, 30, 31, 30, 31];
 
-#[derive(Drop)]
+#[derive(Clone, Copy)]
 pub struct Date {
     pub year: u16,
     pub month: u8,
@@ -22,21 +24,21 @@ pub struct Date {
 }
 
 // What three fields give: a date, or the first bad one: 1 year, 2 month, 3 day.
-#[derive(Drop)]
+#[derive(Clone, Copy)]
 pub enum FromFields {
     Valid(Date),
     Bad(u8),
 }
 
 // What a day number gives.
-#[derive(Drop)]
+#[derive(Clone, Copy)]
 pub enum FromNumber {
     Day(Date),
     Outside,
 }
 
 // The calendar's ends and how many days it has.
-#[derive(Drop)]
+#[derive(Clone, Copy)]
 pub struct Ends {
     pub first: Date,
     pub last: Date,

@@ -1,4 +1,6 @@
 // What the programs have in common: what their arguments ask for, and what they print of themselves (RULES 9.1).
+#![tactic(auto)]
+
 ghost use Rattle.std.specs.Prelude.{◌≡◌};
 ghost use Rattle.console.specs.Arguments.{asked_by, asked};
 
@@ -8,7 +10,7 @@ use streams::write_all;
 
 // What a program is asked for: its report, on standard input or on the file that its argument names; its help; its version; or nothing
 // that it knows.
-#[derive(Drop)]
+#[derive(Clone, Copy)]
 pub enum Asked {
     Standard,
     File,

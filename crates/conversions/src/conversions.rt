@@ -5,7 +5,7 @@ use names::Names;
 
 // How a conversion is written and read: numbers filled with zeros or blanks, the weekday counted from Sunday 0; names of a table
 // in three letters, in full, or in full with small letters; a zone offset; the seconds of %s; or no conversion at all.
-#[derive(Drop)]
+#[derive(Clone, Copy)]
 pub enum Form {
     Zeros,
     Blanks,
@@ -19,7 +19,7 @@ pub enum Form {
 }
 
 // A conversion: its kind of fact, its form, and for a number its width and range.
-#[derive(Drop)]
+#[derive(Clone, Copy)]
 pub struct Conversion {
     pub kind: u32,
     pub form: Form,

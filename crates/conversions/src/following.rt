@@ -8,14 +8,14 @@ ghost use Rattle.conversions.specs.Private.{holds, SetOf};
 use text::{Digits, read_digits};
 
 // A flag, one of the bytes `_`, `-`, `0` and `^`, and a width; 0 where there is none.
-#[derive(Drop)]
+#[derive(Clone, Copy)]
 pub struct Style {
     pub flag: u8,
     pub width: u8,
 }
 
 // What a piece of a format does: a byte or a conversion is stored, a composite is opened, or the conversion is bad.
-#[derive(Drop)]
+#[derive(Clone, Copy)]
 pub enum Act {
     Byte(u8),
     Convert { letter: u8, style: Style },
@@ -24,14 +24,14 @@ pub enum Act {
 }
 
 // A piece, what a format begins with: what it does, and how many bytes it takes.
-#[derive(Drop)]
+#[derive(Clone, Copy)]
 pub struct Piece {
     pub act: Act,
     pub length: usize,
 }
 
 // A composite's own format: some bytes, and how many of them it has.
-#[derive(Drop)]
+#[derive(Clone, Copy)]
 pub struct Own(pub [u8; 14], pub usize);
 
 // Sets of letters: the bit at 64 less than its byte says whether a letter is in. (An array would be copied at each use.)

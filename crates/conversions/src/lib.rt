@@ -1,4 +1,6 @@
 // What a % begins (RULES 4): the table of conversions, the composites' own formats, and what stands after a %.
+#![tactic(auto)]
+
 mod conversions;
 mod following;
 

@@ -14,7 +14,7 @@ use Rattle.names.specs.Naming.{place_for, name_for}
 use Rattle.names.specs.Rows.{padded}
 use Rattle.names.specs.declared.names.Case.{Case}
 use Rattle.names.specs.declared.names.Names.{Names}
-use Rattle.names.proofs.Case.{cased_length}
+use Rattle.names.proofs.Cased.{cased_length}
 use Rattle.text.proofs.Fill.{fill_length, fill_below, filled_is_fill}
 use Rattle.text.proofs.ReadBack.{filled_length}
 use Rattle.names.proofs.Rows.{held}

@@ -85,8 +85,8 @@ module _ (m : Moment) where
       → epoch_seconds m m.offset ≡ whole (to_z w64 (of_z w64 r))
   unfolding epoch_seconds
   epoch_said {z} e h {r} q l =
-      let same : to_z w64 (of_z w64 r) ≡ r = to_z-of_z (near_fits r (omega arith)) in
-      ap (epoch_seconds m) e ∙ ap whole (sym (ap (seconds m) (to_z-of_z (record { sfits = h }))) ∙ sym q ∙ sym same)
+      let same : to_z w64 (of_z w64 r) ≡ r = to_z-of_z {w = w64} (near_fits r (omega arith)) in
+      ap (epoch_seconds m) e ∙ ap whole (sym (ap (seconds m) (to_z-of_z {w = w32} (record { sfits = h }))) ∙ sym q ∙ sym same)
 
 -- ---- a whole number that is passed on in 64 bits
 
@@ -99,4 +99,4 @@ module _ (z : ℤ) (f : SFits w64 z) where
 
 -- a number that is passed on in 64 bits is still small
 pub still_small : (r : ℤ) → nat_abs r < 10 ^ 15 → nat_abs (to_z w64 (of_z w64 r)) < 10 ^ 15
-still_small r l = let same : to_z w64 (of_z w64 r) ≡ r = to_z-of_z (near_fits r (omega arith)) in rw same l
+still_small r l = let same : to_z w64 (of_z w64 r) ≡ r = to_z-of_z {w = w64} (near_fits r (omega arith)) in rw same l

@@ -1,5 +1,7 @@
 // What a conversion writes for a moment (RULES 5), with a flag and a width: how long it is, and what the flag chooses. What is put into a
 // buffer, and the order of refusals, is in `strftime`.
+#![tactic(auto)]
+
 mod measuring;
 mod styles;
 mod zones;

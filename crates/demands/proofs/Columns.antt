@@ -20,7 +20,7 @@ use Rattle.names.specs.Case.{fold, capital, cased}
 use Rattle.text.specs.Fill.{fill}
 use Rattle.names.specs.Names.{short}
 use Rattle.names.specs.Naming.{name_for}
-use Rattle.names.proofs.Case.{capital_fold}
+use Rattle.names.proofs.Cased.{capital_fold}
 use Rattle.text.proofs.Fill.{fill_below}
 use Rattle.text.specs.Digits.{digits, plain, is_digit, digit_run, decimal}
 use Rattle.conversions.specs.Conversions as conversions

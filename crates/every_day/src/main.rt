@@ -1,6 +1,8 @@
 // Goes over every day of the calendar, by its day number, and writes a digest of what the calendar says of the days of each century of
 // years: 0 to 99, 100 to 199, .., 9900 to 9999. A line has the century's last year and the digest, in decimal.
 // tests/every_day.py makes the same lines by Python's datetime module.
+#![tactic(auto)]
+
 use calendar::{Date, FromFields, FromNumber};
 use libc::STDOUT_FILENO;
 use text::write_number;

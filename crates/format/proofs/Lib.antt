@@ -6,7 +6,7 @@ mod Cases
 pub mod Elements
 pub mod Entries
 pub mod Entry
-pub mod Opened
+pub mod Openings
 pub mod Pieces
 pub mod Refused
 pub mod Sides

@@ -1,8 +1,10 @@
 // The format layer (RULES 4): opening a format into elements.
+#![tactic(auto)]
+
 mod opening;
 
 pub use opening::{
-    LONGEST, MOST_ELEMENTS, Opened, PLAIN, Side, elements_in, entry_place_lem, open, style_of,
+    LONGEST, MOST_ELEMENTS, Opened, PLAIN, Side, elements_in, entry_place, open, style_of,
 };
 
 // The room that a short format and a middling one need: to clear room for the longest takes longer than to write or read by a short one.

@@ -20,21 +20,21 @@ pub const MOST_ELEMENTS: usize = 6656;
 pub const PLAIN: u32 = 262144;
 
 // The side that a format is opened for: the writer takes flags, widths and %s, the reader none of them.
-#[derive(Drop)]
+#[derive(Clone, Copy)]
 pub enum Side {
     Writer,
     Reader,
 }
 
 // The offset that a % counts as: its own, or within a composite that of the composite's %.
-#[derive(Drop)]
+#[derive(Clone, Copy)]
 pub enum Sign {
     Own,
     Of { at: usize },
 }
 
 // The answer to opening a format: how many elements it has, that it is over 1,024 bytes, or the offset of its first bad %.
-#[derive(Drop)]
+#[derive(Clone, Copy)]
 pub enum Opened {
     Done { count: usize },
     TooLong,
@@ -259,7 +259,7 @@ pub fn elements_in(side: Side, elements: &[u32]) -> usize
 }
 
 // The place of an entry that the reader refuses: the offset of its %, where it is an element for writing, or its index.
-pub fn entry_place_lem(elements: &[u32], k: usize) -> usize
+pub fn entry_place(elements: &[u32], k: usize) -> usize
     ensures { result ≡ entry_place elements.now k }
 {
     if elements.len() <= k {

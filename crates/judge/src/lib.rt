@@ -1,4 +1,6 @@
 // Judging facts: which days, and which hours, agree with all of them (RULES 8).
+#![tactic(auto)]
+
 mod counting;
 mod judging;
 mod plain;
@@ -11,7 +13,7 @@ pub use judging::{judge_day, judge_hour};
 pub use skipping::search_days;
 
 // How the day is looked for: by skipping what cannot agree, or plainly day by day, all of them or as many as a budget allows.
-#[derive(Drop)]
+#[derive(Clone, Copy)]
 pub enum Engine {
     Skipping,
     Plain,
@@ -19,7 +21,7 @@ pub enum Engine {
 }
 
 // What an engine gives: the verdict on the day and how many days it examined, or that there are more to examine than its budget.
-#[derive(Drop)]
+#[derive(Clone, Copy)]
 pub enum Searched {
     Judged { verdict: Verdict, examined: u32 },
     OverBudget { budget: u32 },

@@ -8,7 +8,7 @@ use agreement::{Facts, Found, hit, is_two, verdict_of};
 use calendar::{Date, month_length};
 
 // What a scan comes to: the days found and how many were examined, or that the budget was used up before.
-#[derive(Drop)]
+#[derive(Clone, Copy)]
 pub enum Scanned {
     Ended { found: Found, examined: u32 },
     Over,

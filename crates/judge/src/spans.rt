@@ -9,7 +9,7 @@ use crate::testing::date_at;
 use agreement::Facts;
 
 // The numbers from `first` to `last`; none where `last` is smaller.
-#[derive(Drop)]
+#[derive(Clone, Copy)]
 pub struct Span {
     pub first: u32,
     pub last: u32,

@@ -1,4 +1,6 @@
 // The kinds of fact, by their numbers (RULES 7).
+#![tactic(auto)]
+
 pub const YEAR: u32 = 1;
 
 pub const CENTURY: u32 = 2;

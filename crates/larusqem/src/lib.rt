@@ -1,5 +1,7 @@
 // The library for C (RULES 10): each function is on numbers and slices alone, has no `requires`, and says all that it returns and
 // leaves in what it is lent. include/larusqem.h describes them for callers.
+#![tactic(auto)]
+
 ghost use Rattle.std.specs.Prelude.{◌≡◌, ◌<◌, ◌^◌};
 ghost use Rattle.calendar.specs.Calendar.{days};
 ghost use Rattle.calendar.specs.Dates.{from_fields, from_day_number};

@@ -1,6 +1,8 @@
 // Why a text is refused by 9 or 10, for C (RULES 10.3): each function is on numbers and slices alone, has no `requires`, and says all that
 // it leaves in what it is lent. These functions are an object of their own in the library: the compiler puts a function in place where it
 // is called once, and beside the readings of `larusqem` these would be second callers.
+#![tactic(auto)]
+
 ghost use Rattle.std.specs.Prelude.{◌∷◌, ◌≡◌};
 ghost use Rattle.judge.specs.declared.Engine.TheVariants.{Skipping};
 ghost use Rattle.laws.specs.Lists.{range};

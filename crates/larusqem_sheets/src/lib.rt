@@ -1,5 +1,7 @@
 // Lists of sheets for C (RULES 10.4): each function is on numbers and slices alone, has no `requires`, and says all that it returns and
 // leaves in what it is lent. They are an object of their own in the library, as those of `larusqem_reasons` are.
+#![tactic(auto)]
+
 ghost use Rattle.std.specs.Prelude.{[], ◌∷◌, ◌≡◌, ◌<◌, ◌^◌};
 ghost use Rattle.sheets.specs.Sheets.{packing, unpacking};
 ghost use Rattle.sheet_list.specs.Adding.{adding_words};

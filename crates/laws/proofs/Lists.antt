@@ -21,6 +21,7 @@ module _ {A : Type 0} (p : A → Bool) where
   -- at one that is among them
   pub every_member : (s : List A) → every p s ≡ true → (x : A) → Member x s → p x ≡ true
   unfolding every
+  every_member [] e x m = elim m [ ]
   every_member (y ∷ s) e x (here q) = ap p q ∙ ((and-eq-true_iff (p y) (every p s)).0 e).0
   every_member (y ∷ s) e x (there m) = every_member s ((and-eq-true_iff (p y) (every p s)).0 e).1 x m
 

@@ -1,1 +1,3 @@
 // Laws that the proofs of several crates cite; no code.
+#![tactic(auto)]
+

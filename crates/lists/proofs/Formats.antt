@@ -13,7 +13,7 @@ use Rattle.format.specs.declared.opening.Opened.{Opened}
 use Rattle.format.specs.declared.opening.Opened.TheVariants.{Done, TooLong, Bad}
 use Rattle.format.specs.declared.opening.Side.TheVariants.{Reader}
 use Rattle.format.proofs.Elements.{are_bytes}
-use Rattle.format.proofs.Opened.{opened_done, opened_bad, opened_long, stored}
+use Rattle.format.proofs.Openings.{opened_done, opened_bad, opened_long, stored}
 use Rattle.judge.specs.declared.Engine.TheVariants.{Skipping}
 use Rattle.lists.specs.Answers.{opened_reading, opened_elements}
 use Rattle.strptime.specs.Answers.{reading}

@@ -1,4 +1,6 @@
 // Lists of texts (RULES 9): a format on the first line, a text on each other one; and what the reports on them are made of.
+#![tactic(auto)]
+
 use format::Opened;
 
 mod answers;
@@ -18,7 +20,7 @@ pub const LONGEST_INPUT: usize = 32768;
 pub const PART: usize = 65536;
 
 // The first part of a report: what opening the format answered, how many bytes were put, and where the texts begin.
-#[derive(Drop)]
+#[derive(Clone, Copy)]
 pub struct First {
     pub opened: Opened,
     pub count: usize,
@@ -26,7 +28,7 @@ pub struct First {
 }
 
 // Another part: how many bytes were put, and where the texts begin that are left.
-#[derive(Drop)]
+#[derive(Clone, Copy)]
 pub struct Next {
     pub count: usize,
     pub next: usize,

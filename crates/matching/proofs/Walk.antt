@@ -7,11 +7,9 @@ use mathlib.Core.Path.{◌≡◌, refl, sym, ◌∙◌}
 use native.Mathlib.Numerals.{add-one}
 use native.Mathlib.Omega.{arith}
 use borrow.Author.Tests.{not-true, not-false}
-use denote.Enum.Declared.{tag_of}
 use lib.Dec.{eqb}
 use lib.ListN.{length, get_or, drop, set, drop_of_length-le}
 use lib.Seq.{drop-cons}
-use types.Run.{OneOf, miss}
 use Rattle.laws.proofs.Cases.{picked}
 use Rattle.agreement.specs.Agreement.{said}
 use Rattle.matching.specs.Elements.{read_element}
@@ -24,7 +22,6 @@ use Rattle.matching.specs.declared.Stepped.{Stepped}
 use Rattle.matching.specs.declared.elements.Item.{Item}
 use Rattle.matching.specs.declared.elements.Item.TheVariants.{Skip, Fact, NoMatch, OutOfRange}
 use Rattle.names.specs.declared.names.NameForm.{NameForm}
-use Rattle.matching.specs.contracts.Outcome.{the_type}
 use Rattle.matching.proofs.Sound.{Finds, Sound, sound}
 
 -- a number is the first of its kind, or the one that was said
@@ -83,9 +80,9 @@ module _ (e : ℕ) (s : List ℕ) (t : State) (fs : Forms) {m : Item} (g : m ≡
     on_fact h q = rw (← g, f, not-false (consistent t k n) (sym c ∙ h), add-one, q)
 
 -- ---- one turn of the loop
-refused_here : (o : Outcome) → OneOf (1 ∷ 2 ∷ 3 ∷ []) (tag_of the_type o) → is_read o ≡ false
+refused_here : (o : Outcome) → (o ≡ Read → ⊥) → is_read o ≡ false
 unfolding is_read
-refused_here Read k = absurd (miss (1 ∷ 2 ∷ 3 ∷ []) 0 tt k)
+refused_here Read k = absurd (k refl)
 refused_here (Mismatch p) k = refl
 refused_here (Range p) k = refl
 refused_here (Conflict p) k = refl
@@ -104,5 +101,5 @@ module _ (es s : List ℕ) (t : State) (fs : Forms) (i : ℕ) where
     unfolding is_read
     all_more f = all-is ∙ rw f
 
-    pub all_stop : OneOf (1 ∷ 2 ∷ 3 ∷ []) (tag_of the_type o) → read_all (drop i es) s t fs ≡ stays u gs o
+    pub all_stop : (o ≡ Read → ⊥) → read_all (drop i es) s t fs ≡ stays u gs o
     all_stop k = all-is ∙ rw (refused_here o k)

@@ -9,7 +9,7 @@ use text::{is_space, read_digits, skip_space};
 
 // What an element found: nothing to say, a fact with its form if it is a name and with the offset of its first digit, letter or sign, or a
 // refusal with its place.
-#[derive(Drop)]
+#[derive(Clone, Copy)]
 pub enum Item {
     Skip {
         next: usize,

@@ -6,14 +6,14 @@ ghost use Rattle.matching.specs.Private.{sought_in};
 use crate::elements::{Item, read_element};
 
 // Where words stand in a text: from the first digit or letter up to `next`, the offset after the last; 0 and 0 where none stand.
-#[derive(Drop)]
+#[derive(Clone, Copy)]
 pub struct Extent {
     pub from: usize,
     pub next: usize,
 }
 
 // How the search for a kind goes on: from an offset, or it ends with what was found.
-#[derive(Drop)]
+#[derive(Clone, Copy)]
 pub enum Sought {
     On { next: usize },
     Ends { extent: Extent },

@@ -9,7 +9,7 @@ use names::NameForm;
 
 // Where an element leads: the first unread offset, the forms of names so far, and how its reading went. The two forms are apart here: as a
 // struct they are copied as one after each was stored alone, which costs a nanosecond or two an element.
-#[derive(Drop)]
+#[derive(Clone, Copy)]
 pub struct Step {
     pub at: usize,
     pub weekday: NameForm,

@@ -54,6 +54,7 @@ module _ (x : Form) (xs : List Form) (r : ranked (x ∷ xs) ≡ true) where
 one_value_in : (xs : List Form) (s : List ℕ) → ranked xs ≡ true → {x y : Form} → Member x xs → Member y xs
     → goes_on x.letters s ≡ true → goes_on y.letters s ≡ true → x.index ≡ y.index
 one_value_in (z ∷ zs) s r (here e) (here f) p q = rw (e, f) refl
+one_value_in [] s r {x = x} {y = y} x7 _ p q = elim x7 [ ]
 one_value_in (z ∷ zs) s r {x} {y} (here e) (there m) p q =
     rw e (one_name z y s (each_after z zs r m) (rw e at p) q).0
 one_value_in (z ∷ zs) s r {x} {y} (there m) (here f) p q =
@@ -72,6 +73,7 @@ pub record Longest (xs : List Form) (s : List ℕ) (y : Form) : Type 0 where
 pub longest_in : (xs : List Form) (s : List ℕ) (y : Form) → ranked xs ≡ true → Member y xs → goes_on y.letters s ≡ true
     → Longest xs s y
 unfolding first_form
+longest_in [] s y r m q = elim m [ ]
 longest_in (z ∷ zs) s y r m q = go (λ n. longest_in zs s y (tail-ranked z zs r) n q) (goes_on z.letters s) refl m
   where
     go : (Member y zs → Longest zs s y) → (b : Bool) → goes_on z.letters s ≡ b → Member y (z ∷ zs) → Longest (z ∷ zs) s y
@@ -208,6 +210,7 @@ first_append (x ∷ xs) ys s = go (goes_on x.letters s) (first_form xs s) (first
 module _ {x : Form} where
   in_left : (xs ys : List Form) → Member x xs → Member x (xs ++ ys)
   in_left (z ∷ zs) ys (here e) = here e
+  in_left [] ys x'' = elim x'' [ ]
   in_left (z ∷ zs) ys (there m) = there (in_left zs ys m)
 
   in_right : (xs ys : List Form) → Member x ys → Member x (xs ++ ys)

@@ -1,5 +1,5 @@
 -- Laws that the proofs of several functions cite, and that callers may cite.
-pub mod Case
+pub mod Cased
 pub mod Forms
 pub mod Goes
 pub mod Middles

@@ -18,7 +18,7 @@ use Rattle.names.specs.Rows.{padded}
 use Rattle.names.specs.declared.names.Case.{Case}
 use Rattle.names.specs.declared.names.Names.{Names}
 use Rattle.names.specs.declared.names.Names.TheVariants.{Weekdays, Months, Halves}
-use Rattle.names.proofs.Case.{cased_length, cased_at}
+use Rattle.names.proofs.Cased.{cased_length, cased_at}
 
 -- ---- a name in its row
 

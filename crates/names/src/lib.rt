@@ -1,4 +1,6 @@
 // The names of weekdays, months and halves of the day: as they are written, the forms in which they are read, letter case.
+#![tactic(auto)]
+
 mod names;
 
 pub use names::{

@@ -6,7 +6,7 @@ ghost use Rattle.names.specs.Naming.{first_value, place_for, value_at};
 ghost use Rattle.names.specs.Rows.{padded, middles_in, Aligned, same, place_of, short_place};
 
 // The tables of names: seven weekdays, twelve months, the two halves of the day.
-#[derive(Drop)]
+#[derive(Clone, Copy)]
 pub enum Names {
     Weekdays,
     Months,
@@ -14,7 +14,7 @@ pub enum Names {
 }
 
 // How a name is written: as it stands, in small letters, in capitals.
-#[derive(Drop)]
+#[derive(Clone, Copy)]
 pub enum Case {
     AsIs,
     Small,
@@ -22,7 +22,7 @@ pub enum Case {
 }
 
 // The form in which a name was met; none where no name was.
-#[derive(Drop)]
+#[derive(Clone, Copy)]
 pub enum NameForm {
     NoName,
     Full,
@@ -31,7 +31,7 @@ pub enum NameForm {
 }
 
 // What reading a name finds: its place in the table, counted from 0, how many bytes of the text it takes, and its form.
-#[derive(Drop)]
+#[derive(Clone, Copy)]
 pub enum NameRead {
     Found {
         index: usize,

@@ -1,5 +1,7 @@
 // Reads a list, a format and texts, from standard input or from a file, and says what is wrong with each text that is refused (RULES 9.2).
 // Of an input that was not read to its end nothing is said; what could not be done is said on standard error.
+#![tactic(auto)]
+
 use console::{Asked, print_help, print_version, what_is_asked};
 use format::MOST_ELEMENTS;
 use libc::{STDERR_FILENO, STDIN_FILENO, STDOUT_FILENO};

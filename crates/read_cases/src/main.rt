@@ -2,6 +2,8 @@
 // output is `number place date hour minute second offset | shown | examined | weekday month | reason`: what is unsaid is -, shown has the
 // first two days or hours of number 10, the days examined are those of the engine that skips, then come the forms of names. The reason is
 // -, or each kind that quarrels with where its words begin and end, or the part in which two days differ, or two hours.
+#![tactic(auto)]
+
 ghost use Rattle.std.specs.Prelude.{◌≡◌, ◌+◌, min, length};
 
 use calendar::Date;

@@ -1,4 +1,6 @@
 // Why a reading is refused by 9 or 10 (RULES 8.5): the words that quarrel, or in what the first two days or hours differ.
+#![tactic(auto)]
+
 use matching::Extent;
 
 mod explaining;
@@ -8,14 +10,14 @@ pub use explaining::{differing, explain, explain_by_format};
 pub use quarrels::quarrelling;
 
 // What is judged.
-#[derive(Drop)]
+#[derive(Clone, Copy)]
 pub enum About {
     Day,
     Hour,
 }
 
 // The parts of a date, in the order in which two days are compared.
-#[derive(Drop)]
+#[derive(Clone, Copy)]
 pub enum Part {
     Year,
     Month,
@@ -23,7 +25,7 @@ pub enum Part {
 }
 
 // With 9 a quarrel; with 10 the first part in which the two days differ, or the two hours; with every other number none.
-#[derive(Drop)]
+#[derive(Clone, Copy)]
 pub enum Reason {
     NoReason,
     Quarrel(About),
@@ -32,7 +34,7 @@ pub enum Reason {
 }
 
 // A reason, and where each kind that quarrels was first said, at the kind's number; every other kind stands nowhere.
-#[derive(Drop)]
+#[derive(Clone, Copy)]
 pub struct Explained {
     pub reason: Reason,
     pub words: [Extent; kinds::KINDS],

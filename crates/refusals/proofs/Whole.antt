@@ -15,7 +15,7 @@ use Rattle.format.specs.Opening.{most_elements, opened, opened_into}
 use Rattle.format.specs.declared.opening.Opened.{Opened}
 use Rattle.format.specs.declared.opening.Opened.TheVariants.{Done, TooLong, Bad}
 use Rattle.format.specs.declared.opening.Side.TheVariants.{Reader}
-use Rattle.format.proofs.Opened.{opened_done, stored}
+use Rattle.format.proofs.Openings.{opened_done, stored}
 use Rattle.lists.specs.Answers.{opened_reading, opened_elements}
 use Rattle.lists.specs.Lines.{lines, line_length, longest_input}
 use Rattle.lists.specs.Parts.{InParts}

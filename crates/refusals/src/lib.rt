@@ -1,5 +1,7 @@
 // What is wrong with the texts of a list (RULES 9.2): for each that is refused the text, marks below it, and a sentence. It is made in
 // parts, so that a small buffer does: `first_part` once, then `next_part` while texts are left.
+#![tactic(auto)]
+
 ghost use Rattle.std.specs.Prelude.{cond, ◌≡◌, suc, ◌≤◌, ◌<◌, ◌^◌, eqb, length};
 ghost use Rattle.lists.specs.Lines.{newline, longest_input};
 ghost use Rattle.lists.specs.Parts.{FirstPart, NextPart};

@@ -1,5 +1,7 @@
 // The report on a list of texts (RULES 9.1): a header, and a line for each text as it is read by the list's first line, the format. It is
 // made in parts, so that a small buffer does: `first_part` once, then `next_part` while texts are left.
+#![tactic(auto)]
+
 ghost use Rattle.lists.specs.Parts.{FirstPart, NextPart};
 ghost use Rattle.report.specs.Report.{report_of, lines_by};
 

@@ -9,7 +9,7 @@ use crate::weeks::{count_week, has_week};
 use sheets::{Packed, SheetFields, fields_from, pack, week_of};
 
 // What adding gives: number and place, how many sheets were added before it ended, and how many words and weeks are then held.
-#[derive(Drop)]
+#[derive(Clone, Copy)]
 pub struct Added {
     pub number: u32,
     pub place: u32,

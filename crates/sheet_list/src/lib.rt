@@ -1,4 +1,6 @@
 // The packed list of sheets and its table of weeks (RULES 11), in arrays that the caller lends.
+#![tactic(auto)]
+
 mod adding;
 mod ascending;
 mod judging;

@@ -10,7 +10,7 @@ use crate::weeks::{count_week, has_week};
 use sheets::{is_packing, week_of};
 
 // How many weeks a table has, and how many sheets were left out of it.
-#[derive(Drop)]
+#[derive(Clone, Copy)]
 pub struct Tallied {
     pub weeks: usize,
     pub left: usize,

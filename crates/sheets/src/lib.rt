@@ -1,4 +1,6 @@
 // A sheet (RULES 11): its date, and what is said of hour, minute, second and zone offset; its word of 64 bits; its week.
+#![tactic(auto)]
+
 ghost use Rattle.std.specs.Prelude.{◌≡◌, true, ◌+◌, ◌*◌, ◌<◌, ◌^◌};
 ghost use Rattle.words.specs.Words.{flag, number_or0, offset_flag};
 ghost use Rattle.sheets.specs.Sheets.{offset_field, word_of, said_from, field_offset, sheet_of, is_valid};
@@ -11,7 +13,7 @@ use strptime::{Day, Reading, Said};
 use values::{Moment, MomentFields, Offset, magnitude, offset_of};
 use words::{number_or_0, offset_from};
 
-#[derive(Drop)]
+#[derive(Clone, Copy)]
 pub struct Sheet {
     pub date: Date,
     pub hour: Said,
@@ -21,14 +23,14 @@ pub struct Sheet {
 }
 
 // What is said of a sheet's date, valid or not.
-#[derive(Drop)]
+#[derive(Clone, Copy)]
 pub enum DateFields {
     NoFields,
     Fields { year: u32, month: u32, day: u32 },
 }
 
 // A sheet as it comes: what is said of it, valid or not.
-#[derive(Drop)]
+#[derive(Clone, Copy)]
 pub struct SheetFields {
     pub date: DateFields,
     pub hour: Said,
@@ -38,7 +40,7 @@ pub struct SheetFields {
 }
 
 // What the fields of a sheet give: its word; or, judged in this order, 13, or 2 with the first bad field.
-#[derive(Drop)]
+#[derive(Clone, Copy)]
 pub enum Packed {
     Word(u64),
     NoDay,
@@ -46,7 +48,7 @@ pub enum Packed {
 }
 
 // What a word gives: the sheet that it is the packing of.
-#[derive(Drop)]
+#[derive(Clone, Copy)]
 pub enum Unpacked {
     Holds(Sheet),
     NoSheet,

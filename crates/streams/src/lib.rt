@@ -1,5 +1,7 @@
 // Input read to its end and output written whole, or a failure, which errno tells. A call that a signal broke off is tried again; one that
 // would block waits and is tried again.
+#![tactic(auto)]
+
 ghost use Rattle.std.specs.Prelude.{◌≤◌, length};
 ghost use Rattle.streams.specs.Got.{Within};
 
@@ -7,7 +9,7 @@ use libc::types::timespec;
 use libc::{EAGAIN, EINTR};
 
 // How many bytes came, or that a call failed.
-#[derive(Drop)]
+#[derive(Clone, Copy)]
 pub enum Got {
     All(usize),
     Failed,

@@ -23,7 +23,7 @@ use Rattle.format.proofs.Bound.{bound}
 use Rattle.format.proofs.Elements.{elements, are_bytes, read_letter}
 use Rattle.format.proofs.Entries.{counted_within, counted_all}
 use Rattle.format.proofs.Entry.{all_plain}
-use Rattle.format.proofs.Opened.{Opens, opened_done, opened_bad, opened_long, stored}
+use Rattle.format.proofs.Openings.{Opens, opened_done, opened_bad, opened_long, stored}
 use Rattle.format.proofs.Sides.{same_opening}
 use Rattle.values.specs.Moments.{moment_fault, moment_of}
 use Rattle.values.specs.declared.Moment.{Moment}

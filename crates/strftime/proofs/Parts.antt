@@ -14,7 +14,7 @@ use Rattle.text.specs.Digits.{plain, filled}
 use Rattle.text.specs.Fill.{fill}
 use Rattle.names.specs.declared.names.Case.{Case}
 use Rattle.names.specs.declared.names.Case.TheVariants.{AsIs, Small, Capital}
-use Rattle.names.proofs.Case.{cased_length}
+use Rattle.names.proofs.Cased.{cased_length}
 use Rattle.text.proofs.Fill.{fill_length, plain_places}
 use Rattle.text.proofs.ReadBack.{filled_length}
 use Rattle.conversions.specs.declared.following.Style.{Style}

@@ -1,4 +1,6 @@
 // The writer (RULES 5): a format, a moment's fields and a buffer; all or nothing.
+#![tactic(auto)]
+
 mod measuring;
 mod putting;
 mod zones;
@@ -17,7 +19,7 @@ use measuring::measure;
 use putting::put_elements;
 use values::{Moment, MomentFields, Offset};
 
-#[derive(Drop)]
+#[derive(Clone, Copy)]
 pub struct Fields {
     pub year: u32,
     pub month: u32,
@@ -29,7 +31,7 @@ pub struct Fields {
 }
 
 // The answer to a writing, in the order in which refusals are judged.
-#[derive(Drop)]
+#[derive(Clone, Copy)]
 pub enum Written {
     Done { count: usize },
     FormatTooLong,
@@ -40,14 +42,14 @@ pub enum Written {
 }
 
 // What a moment lacks to be written by some elements: nothing, or its zone offset for the first %s, by the offset of its %.
-#[derive(Drop)]
+#[derive(Clone, Copy)]
 pub enum Lack {
     Nothing,
     ZoneOffset { at: usize },
 }
 
 // The number and place of an answer (RULES 3).
-#[derive(Drop)]
+#[derive(Clone, Copy)]
 pub struct Writing {
     pub number: u32,
     pub place: usize,

@@ -13,7 +13,7 @@ use agreement::{Facts, Verdict};
 use calendar::{Date, FromNumber};
 use format::{
     LONGEST, MIDDLE_BYTES, MIDDLE_ELEMENTS, MOST_ELEMENTS, Opened, SHORT_BYTES, SHORT_ELEMENTS,
-    Side, elements_in, entry_place_lem, open,
+    Side, elements_in, entry_place, open,
 };
 use judge::{Engine, Searched, judge_day, judge_hour};
 use matching::{Forms, Outcome, State, read_all};
@@ -141,7 +141,7 @@ fn with_hour(state: State, forms: Forms, day: Day, examined: u32) -> Answer
 // ---- The day
 
 // What the verdict on the day leaves: a day or none, with the days examined, or the answer that refuses it.
-#[derive(Drop)]
+#[derive(Clone, Copy)]
 pub enum Dated {
     Fixed { day: Day, examined: u32 },
     Refused { answer: Answer },
@@ -265,7 +265,7 @@ pub fn read_elements(engine: Engine, elements: &[u32], text: &[u8]) -> Answer
 {
     let good = elements_in(Side::Reader, elements);
     if good != elements.len() {
-        return bad_conversion(entry_place_lem(elements, good), text);
+        return bad_conversion(entry_place(elements, good), text);
     }
     read_short(engine, elements, text)
 }

@@ -61,7 +61,7 @@ pub fn digit_count(n: u32) -> usize
 }
 
 // What was read: the number that some digits spell, and how many they are.
-#[derive(Drop)]
+#[derive(Clone, Copy)]
 pub struct Digits {
     pub value: u32,
     pub count: usize,

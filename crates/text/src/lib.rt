@@ -1,4 +1,6 @@
 // The text layer: decimal digits and white space.
+#![tactic(auto)]
+
 mod digits;
 mod space;
 

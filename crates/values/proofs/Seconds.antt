@@ -50,7 +50,7 @@ literal = record { same = refl; most = omega arith }
 
 -- an offset of 32 bits
 pub widened : (z : ℤ) → mag z < 2 ^ 31 → Near (to_z w32 (of_z w32 z)) z (2 ^ 31)
-widened z h = record { same = to_z-of_z (record { sfits = h }); most = nat_abs-le z h }
+widened z h = record { same = to_z-of_z {w = w32} (record { sfits = h }); most = nat_abs-le z h }
 
 times : (c : ℕ) {x y : ℤ} {k : ℕ} → Near x y k → Near (pos c *ℤ x) (pos c *ℤ y) (c * k)
 times c {x} {y} {k} a =

@@ -1,4 +1,6 @@
 // Moments, and the value that each kind of fact has for one.
+#![tactic(auto)]
+
 mod offsets;
 
 ghost use Rattle.std.specs.Prelude.{◌≡◌, ◌<◌, ◌^◌, nat_abs};
@@ -10,7 +12,7 @@ use calendar::Date;
 use offsets::is_offset;
 pub use offsets::{Offset, is_negative, magnitude, offset_of};
 
-#[derive(Drop)]
+#[derive(Clone, Copy)]
 pub struct Moment {
     pub date: Date,
     pub hour: u8,
@@ -20,7 +22,7 @@ pub struct Moment {
 }
 
 // What seven fields give: a moment, or the first bad one: 1 year, 2 month, 3 day, 4 hour, 5 minute, 6 second, 7 offset.
-#[derive(Drop)]
+#[derive(Clone, Copy)]
 pub enum MomentFields {
     Valid(Moment),
     Bad(u8),

@@ -2,7 +2,7 @@
 ghost use Rattle.std.specs.Prelude.{◌≡◌, nat_abs};
 ghost use Rattle.values.specs.Offsets.{is_offset, is_negative, offset_of};
 
-#[derive(Drop)]
+#[derive(Clone, Copy)]
 pub enum Offset {
     Unsaid,
     Minutes(i32),

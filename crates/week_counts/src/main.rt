@@ -1,5 +1,7 @@
 // Reads a list, a format and texts, from standard input or from a file, and writes the report on its weeks (RULES 9.3). An input that was
 // not read to its end gets no report; what could not be done is said on standard error.
+#![tactic(auto)]
+
 use console::{Asked, print_help, print_version, what_is_asked};
 use libc::{STDERR_FILENO, STDIN_FILENO, STDOUT_FILENO};
 use lists::{LONGEST_INPUT, PART};

@@ -1,5 +1,7 @@
 // The report on the weeks of a list of texts (RULES 9.3): a line for each ISO week that has sheets, then how many texts were left out, and
 // by which numbers.
+#![tactic(auto)]
+
 ghost use Rattle.week_report.specs.Weeks.{week_report_of, Reported};
 
 use counts::{NUMBERS, put_left_out};

@@ -10,7 +10,7 @@ use sheets::{Packed, pack, reading_fields};
 use strptime::{Reading, reading_of};
 
 // What a text gives: the word of its sheet, or the number by which it is left out.
-#[derive(Drop)]
+#[derive(Clone, Copy)]
 pub(crate) enum Gives {
     Sheet(u64),
     Out(u32),

@@ -1,4 +1,6 @@
 // Values as 32-bit words for C, and back (RULES 10.3): zone offsets, and the hours, minutes and seconds of a reading.
+#![tactic(auto)]
+
 ghost use Rattle.std.specs.Prelude.{◌≡◌};
 ghost use Rattle.words.specs.Words.{signed_of, word_of, offset_from, offset_flag, offset_word, flag, number_or0};
 

@@ -2,6 +2,8 @@
 // fields, its zone offset, the length of the buffer, at most 200, and the format. The offset is ? where it is unsaid, else a sign and the
 // minutes. A line of the output is `number place [BUFFER]`: the answer, and the
 // buffer, which held # before.
+#![tactic(auto)]
+
 ghost use Rattle.std.specs.Prelude.{◌≤◌, ◌<◌, ◌^◌, length};
 
 use libc::STDOUT_FILENO;
@@ -9,7 +11,7 @@ use strftime::{Fields, strftime, writing_of};
 use values::Offset;
 
 // A number, and the offset past it and the byte after it.
-#[derive(Drop)]
+#[derive(Clone, Copy)]
 struct Field {
     value: u32,
     next: usize,
@@ -40,7 +42,7 @@ fn read_field(line: &[u8], at: usize) -> Field
 }
 
 // An offset, and the offset in the line past it and the byte after it.
-#[derive(Drop)]
+#[derive(Clone, Copy)]
 struct OffsetField {
     offset: Offset,
     next: usize,

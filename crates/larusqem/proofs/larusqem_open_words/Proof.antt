@@ -1,6 +1,6 @@
 -- `larusqem::larusqem_open_words` meets its contract: by cases of what the opening answers; every place fits 32 bits.
 use native.Mathlib.Omega.{arith}
-use Rattle.format.proofs.Opened.{opened_done, opened_bad}
+use Rattle.format.proofs.Openings.{opened_done, opened_bad}
 use Rattle.larusqem.proofs.Ways.{all_fit, too_many, too_long_lem, bad_conversion_lem}
 use borrow.Author.Rules.{rules}
 use Rattle.larusqem.proofs.larusqem_open_words.Statement.{statement}

@@ -3,7 +3,7 @@ use mathlib.Core.Path.{sym, ◌∙◌}
 use native.Mathlib.Omega.{arith}
 use lib.Seq.{length-take-le}
 use Rattle.format.specs.declared.opening.Side.TheVariants.{Reader}
-use Rattle.format.proofs.Opened.{Opens, opened_done, stored}
+use Rattle.format.proofs.Openings.{Opens, opened_done, stored}
 use Rattle.reasons.specs.Reasons.{format_elements}
 use borrow.Author.Rules.{rules}
 use Rattle.reasons.proofs.explaining.explain_by_format.Statement.{statement}

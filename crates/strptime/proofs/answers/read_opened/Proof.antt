@@ -6,7 +6,7 @@ use native.Mathlib.Omega.{arith}
 use lib.ListN.{length}
 use lib.Seq.{length-take-le}
 use Rattle.format.specs.declared.opening.Side.TheVariants.{Reader}
-use Rattle.format.proofs.Opened.{Opens, opened_done, opened_bad, opened_long, stored, room}
+use Rattle.format.proofs.Openings.{Opens, opened_done, opened_bad, opened_long, stored, room}
 use Rattle.strptime.specs.Answers.{reading_of}
 use Rattle.strptime.proofs.Opens.{format_long, conversion_bad, format_read}
 use Rattle.strptime.proofs.answers.read_opened.Statement.{statement}

@@ -1,0 +1,25 @@
+-- `judge::testing::any_said` meets its contract. Assumes nothing.
+use Prim.Native.Nat.{ℕ, ◌≤◌, ◌+◌, ◌-◌}
+use mathlib.Core.Bool.{Bool, not}
+use mathlib.Core.List.{List}
+use mathlib.Core.Path.{ap, ◌≡◌, refl, sym, ◌∙◌}
+use native.Mathlib.Omega.{arith}
+use borrow.Author.Tests.{eq-eqb, ne_eqb}
+use lib.Dec.{eqb}
+use lib.ListN.{get_or}
+use Rattle.laws.specs.Lists.{every, range}
+use Rattle.agreement.proofs.Every.{every_turn, every_stop, every_done}
+use Rattle.judge.proofs.testing.any_said.Invariants.{unsaid}
+use Rattle.judge.proofs.testing.any_said.Goals as goal
+
+pub loop-kind-init : goal.loop-kind-init
+loop-kind-init c = (omega arith, refl)
+
+pub returns-then-said-kind-ne0 : goal.returns-then-said-kind-ne0
+returns-then-said-kind-ne0 c = sym (ap not (sym c.loop-kind.invariant.1 ∙ every_stop _ _ _ (omega arith) (ne_eqb _ 0 c.if-said-kind-ne0.true)))
+
+pub loop-kind-preserved : goal.loop-kind-preserved
+loop-kind-preserved c = (omega arith, sym (every_turn _ _ _ (omega arith) (eq-eqb _ 0 c.if-said-kind-ne0.false)) ∙ c.loop-kind.invariant.1)
+
+pub returns : goal.returns
+returns c = sym (ap not (sym c.loop-kind.invariant.1 ∙ every_done _ _ _ (omega arith)))

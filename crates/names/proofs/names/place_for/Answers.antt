@@ -1,0 +1,13 @@
+-- `names::names::place_for` meets its contract: below the first value a difference is 0.
+use native.Mathlib.Omega.{arith}
+use borrow.Author.Rules.{rules}
+use Rattle.names.specs.Naming.{place_for}
+use Rattle.names.proofs.names.place_for.Goals as goal
+
+pub returns-then-value-first : goal.returns-then-value-first
+unfolding place_for
+returns-then-value-first c = omega arith
+
+pub returns : goal.returns
+unfolding place_for
+returns c = omega arith

@@ -1,0 +1,104 @@
+-- `strftime::putting::put_styled` meets its contract: each form puts what it writes.
+use Prim.Native.Nat.{◌+◌, ◌≤◌}
+use mathlib.Core.Path.{◌≡◌, refl, sym}
+use native.Mathlib.Nat.{add-zero}
+use lib.ListN.{length}
+use Rattle.conversions.specs.declared.conversions.Form.{Form}
+use Rattle.converted.specs.Converted.{formed, converted}
+use Rattle.converted.proofs.Lengths.{by_form}
+use borrow.Author.Rules.{rules}
+use Rattle.strftime.proofs.putting.put_styled.Goals as goal
+use Rattle.strftime.proofs.putting.put_styled.Goals.{After-value-value}
+
+module _ (c : After-value-value) {f : Form} (e : c.args.c.form ≡ f) where
+  written : converted c.args.style c.args.c c.args.moment
+      ≡ formed c.args.moment c.args.style f c.args.c.width c.value-value.result
+  written = by_form c.args.style c.args.c c.args.moment e c.value-value.ensures
+
+  room : c.args.at + length (formed c.args.moment c.args.style f c.args.c.width c.value-value.result)
+      ≤ length c.args.out.now
+  room = rw written at c.requires
+
+pub put_styled_number-requires : goal.put_styled_number-requires
+unfolding formed
+put_styled_number-requires c = room (goal.at.put_styled_number-requires c).After-value-value c.in-Zeros.is
+
+pub put_styled_number-requires-in-Blanks : goal.put_styled_number-requires-in-Blanks
+unfolding formed
+put_styled_number-requires-in-Blanks c = room (goal.at.put_styled_number-requires-in-Blanks c).After-value-value c.in-Blanks.is
+
+pub put_styled_number-requires-in-FromSunday : goal.put_styled_number-requires-in-FromSunday
+unfolding formed
+put_styled_number-requires-in-FromSunday c = room (goal.at.put_styled_number-requires-in-FromSunday c).After-value-value c.in-FromSunday.is
+
+pub put_styled_short-requires : goal.put_styled_short-requires
+unfolding formed
+put_styled_short-requires c = room (goal.at.put_styled_short-requires c).After-value-value c.in-Short.is
+
+pub put_styled_full-requires : goal.put_styled_full-requires
+unfolding formed
+put_styled_full-requires c = room (goal.at.put_styled_full-requires c).After-value-value c.in-Full.is
+
+pub put_styled_full-requires-in-Lower : goal.put_styled_full-requires-in-Lower
+unfolding formed
+put_styled_full-requires-in-Lower c = room (goal.at.put_styled_full-requires-in-Lower c).After-value-value c.in-Lower.is
+
+pub put_zone-requires : goal.put_zone-requires
+unfolding formed
+put_zone-requires c = room (goal.at.put_zone-requires c).After-value-value c.in-Zone.is
+
+pub put_seconds-requires : goal.put_seconds-requires
+unfolding formed
+put_seconds-requires c = room (goal.at.put_seconds-requires c).After-value-value c.in-Seconds.is
+
+pub returns-in-Zeros : goal.returns-in-Zeros
+unfolding formed
+returns-in-Zeros c =
+    let l = c in
+    rw (written (goal.at.returns-in-Zeros c).After-value-value l.in-Zeros.is) c.put_styled_number.ensures
+
+pub returns-in-Blanks : goal.returns-in-Blanks
+unfolding formed
+returns-in-Blanks c =
+    let l = c in
+    rw (written (goal.at.returns-in-Blanks c).After-value-value l.in-Blanks.is) c.put_styled_number-in-Blanks.ensures
+
+pub returns-in-FromSunday : goal.returns-in-FromSunday
+unfolding formed
+returns-in-FromSunday c =
+    let l = c in
+    rw (written (goal.at.returns-in-FromSunday c).After-value-value l.in-FromSunday.is) c.put_styled_number-in-FromSunday.ensures
+
+pub returns-in-Short : goal.returns-in-Short
+unfolding formed
+returns-in-Short c =
+    let l = c in
+    rw (written (goal.at.returns-in-Short c).After-value-value l.in-Short.is) c.put_styled_short.ensures
+
+pub returns-in-Full : goal.returns-in-Full
+unfolding formed
+returns-in-Full c =
+    let l = c in
+    rw (written (goal.at.returns-in-Full c).After-value-value l.in-Full.is) c.put_styled_full.ensures
+
+pub returns-in-Lower : goal.returns-in-Lower
+unfolding formed
+returns-in-Lower c =
+    let l = c in
+    rw (written (goal.at.returns-in-Lower c).After-value-value l.in-Lower.is) c.put_styled_full-in-Lower.ensures
+
+pub returns-in-Zone : goal.returns-in-Zone
+unfolding formed
+returns-in-Zone c =
+    let l = c in
+    rw (written (goal.at.returns-in-Zone c).After-value-value l.in-Zone.is) c.put_zone.ensures
+
+pub returns-in-Seconds : goal.returns-in-Seconds
+unfolding formed
+returns-in-Seconds c =
+    let l = c in
+    rw (written (goal.at.returns-in-Seconds c).After-value-value l.in-Seconds.is) c.put_seconds.ensures
+
+pub returns-in-Unknown : goal.returns-in-Unknown
+unfolding formed
+returns-in-Unknown c = rw (written (goal.at.returns-in-Unknown c).After-value-value c.in-Unknown.is) record { ends = sym (add-zero _); stores = refl }

@@ -1,0 +1,33 @@
+-- `strftime::zones::put_zone` meets its contract.
+use mathlib.Core.Path.{refl, sym, ap}
+use native.Mathlib.Nat.{add-zero}
+use native.Mathlib.Omega.{arith}
+use borrow.Author.Rules.{rules}
+use lib.Dec.{lit<}
+use lib.ListN.{length}
+use Rattle.values.proofs.Seconds.{fits, kept, widened}
+use Rattle.converted.proofs.Offsets.{zone_unsaid, zone_said}
+use Rattle.strftime.proofs.zones.put_zone.Goals as goal
+
+pub overflow_cast-minutes : goal.overflow_cast-minutes
+overflow_cast-minutes c = fits (widened c.in-Minutes.minutes c.in-Minutes.known_told-1-own.given.0.1) (lit< tt)
+
+pub put_east-requires : goal.put_east-requires
+put_east-requires c =
+    let o = c in
+    let s = c in
+    let n = kept (widened o.in-Minutes.minutes c.in-Minutes.known_told-1-own.given.0.1) (lit< tt) in
+    rw n.same (record { minutes_bound = omega (arith, n.most); minutes_in_bounds = omega (arith, s.requires, ap length (zone_said s.args.moment o.in-Minutes.is)) })
+
+pub returns-in-Unsaid : goal.returns-in-Unsaid
+returns-in-Unsaid c =
+    rw (zone_unsaid c.args.moment c.in-Unsaid.is)
+    record { ends = sym (add-zero _); stores = refl }
+
+pub returns-in-Minutes : goal.returns-in-Minutes
+returns-in-Minutes c =
+    let a = c in
+    let o = c in
+    let s = c in
+    let n = kept (widened o.in-Minutes.minutes a.in-Minutes.known_told-1-own.given.0.1) (lit< tt) in
+    rw (zone_said s.args.moment o.in-Minutes.is) (rw n.same at c.put_east.ensures)

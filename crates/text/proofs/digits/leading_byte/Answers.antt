@@ -1,0 +1,10 @@
+-- `text::digits::leading_byte` meets its contract: its test is the definition's.
+use borrow.Author.Rules.{rules}
+use borrow.Author.Tests.{eq-eqb, ne_eqb}
+use Rattle.text.proofs.digits.leading_byte.Goals as goal
+
+pub returns-then-n-eq0 : goal.returns-then-n-eq0
+returns-then-n-eq0 c = simp (eq-eqb _ _ c.if-n-eq0.true)
+
+pub returns-else-n-eq0 : goal.returns-else-n-eq0
+returns-else-n-eq0 c = simp (ne_eqb _ _ c.if-n-eq0.false, c.last_digit-digit.ensures)
