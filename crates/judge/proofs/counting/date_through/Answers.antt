@@ -2,7 +2,6 @@
 use mathlib.Core.Bool.{true, false}
 use mathlib.Core.Path.{◌≡◌, sym, ◌∙◌}
 use native.Mathlib.Omega.{arith}
-use borrow.Author.Rules.{rules}
 use borrow.Author.Tests.{not-true, not-false}
 use Rattle.calendar.proofs.Dates.{Valid, no_fault_valid, number_within}
 use Rattle.calendar.proofs.Years.{days_is}
@@ -27,23 +26,20 @@ whole_years-years-requires c = omega (arith, (valid (goal.at.whole_years-years-r
 
 pub returns-then-not-date_kinds_agree : goal.returns-then-not-date_kinds_agree
 returns-then-not-date_kinds_agree c =
-    let s = c in
-    let other : year_agrees s.args.facts s.args.date.year ≡ false = sym (tested (goal.at.returns-then-not-date_kinds_agree c).After-date_kinds_agree) ∙ not-true _ c.if-not-date_kinds_agree.true-raw in
-    omega (arith, c.whole_years-years.ensures, rw other at (date_through s.args.facts _ _ _ (valid (goal.at.returns-then-not-date_kinds_agree c).Start)))
+    let other : year_agrees c.args.facts c.args.date.year ≡ false = sym (tested (goal.at.returns-then-not-date_kinds_agree c).After-date_kinds_agree) ∙ not-true _ c.if-not-date_kinds_agree.true-raw in
+    omega (arith, c.whole_years-years.ensures, rw other at (date_through c.args.facts _ _ _ (valid (goal.at.returns-then-not-date_kinds_agree c).Start)))
 
 pub returns : goal.returns
 returns c =
-    let s = c in
-    let same : year_agrees s.args.facts s.args.date.year ≡ true
+    let same : year_agrees c.args.facts c.args.date.year ≡ true
     = sym (tested (goal.at.returns c).After-date_kinds_agree) ∙ not-false _ c.if-not-date_kinds_agree.false-raw in
     omega (
       arith,
       c.whole_years-years.ensures,
       rw c.said_of.ensures at c.in_year.ensures,
-      rw same at (date_through s.args.facts _ _ _ (valid (goal.at.returns c).Start)),
+      rw same at (date_through c.args.facts _ _ _ (valid (goal.at.returns c).Start)),
     )
 
 pub overflow_add-result : goal.overflow_add-result
 overflow_add-result c =
-    let s = c in
-    omega (arith, returns c, month_days_most s.args.facts (day_number_of s.args.date), number_within _ _ _ (valid (goal.at.overflow_add-result c).Start), days_is)
+    omega (arith, returns c, month_days_most c.args.facts (day_number_of c.args.date), number_within _ _ _ (valid (goal.at.overflow_add-result c).Start), days_is)

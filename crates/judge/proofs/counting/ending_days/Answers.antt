@@ -1,6 +1,5 @@
 -- `judge::counting::ending_days` meets its contract. Assumes nothing.
 use native.Mathlib.Omega.{arith}
-use borrow.Author.Rules.{rules}
 use Rattle.judge.proofs.Counts.{fewer_leap, ending_days_is, ending_days_most, leap_days_most}
 use Rattle.judge.proofs.counting.ending_days.Goals as goal
 

@@ -1,6 +1,5 @@
 -- `judge::counting::ending_years` meets its contract. Assumes nothing.
 use native.Mathlib.Omega.{arith}
-use borrow.Author.Rules.{rules}
 use Rattle.judge.proofs.Counts.{ending_unsaid, ending_none, ending_some}
 use Rattle.judge.proofs.counting.ending_years.Goals as goal
 

@@ -1,7 +1,6 @@
 -- `judge::counting::in_year` meets its contract. Assumes nothing.
 use mathlib.Core.Path.{◌∙◌}
 use native.Mathlib.Omega.{arith}
-use borrow.Author.Rules.{rules}
 use Rattle.judge.proofs.Counts.{in_year_unsaid, in_year_early, in_year_at, in_year_late}
 use Rattle.judge.proofs.counting.in_year.Goals as goal
 

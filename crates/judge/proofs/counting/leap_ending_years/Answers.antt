@@ -1,7 +1,6 @@
 -- `judge::counting::leap_ending_years` meets its contract. Assumes nothing.
 use mathlib.Core.Path.{◌∙◌}
 use native.Mathlib.Omega.{arith}
-use borrow.Author.Rules.{rules}
 use Rattle.judge.proofs.Counts.{leap_unsaid, leap_none, leap_centuries, leap_all}
 use Rattle.judge.proofs.counting.leap_ending_years.Goals as goal
 

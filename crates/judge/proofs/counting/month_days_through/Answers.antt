@@ -1,6 +1,5 @@
 -- `judge::counting::month_days_through` meets its contract. Assumes nothing.
 use mathlib.Core.Path.{sym, ◌∙◌}
-use borrow.Author.Rules.{rules}
 use Rattle.agreement.specs.Search.{through}
 use Rattle.judge.proofs.CountedDays.{all_through}
 use Rattle.judge.proofs.counting.month_days_through.Goals as goal

@@ -1,5 +1,4 @@
 -- `judge::counting::said_days` meets its contract. Assumes nothing.
-use borrow.Author.Rules.{rules}
 use borrow.Author.Tests.{ne_eqb}
 use Rattle.judge.specs.Private.{said_days}
 use Rattle.judge.proofs.counting.said_days.Goals as goal

@@ -2,14 +2,13 @@
 use Prim.Native.Nat.{◌+◌, ◌-◌, min}
 use mathlib.Core.Path.{◌≡◌, sym, ap}
 use native.Mathlib.Omega.{arith}
-use borrow.Author.Rules.{rules}
 use Rattle.calendar.specs.Calendar.{last_year}
 use Rattle.judge.specs.Private.{ending_days, said_years, whole_years}
 use Rattle.judge.specs.declared.spans.Span.{Span}
 use Rattle.judge.proofs.CountedYears.{whole_none, whole_some}
 use Rattle.judge.proofs.SpanLaws.{said_years_low}
 use Rattle.judge.proofs.counting.whole_years.Goals as goal
-use Rattle.judge.proofs.counting.whole_years.Goals.{After-ending_days-2, After-said_years-span, Start}
+use Rattle.judge.proofs.counting.whole_years.Goals.{After-ending_days-2, After-said_years-span}
 
 first-is : (c : After-said_years-span) → c.said_years-span.result.first ≡ (said_years c.args.facts last_year).first
 first-is c = ap (λ (x : Span). x.first) c.said_years-span.ensures
@@ -17,17 +16,13 @@ first-is c = ap (λ (x : Span). x.first) c.said_years-span.ensures
 last-is : (c : After-said_years-span) → c.said_years-span.result.last ≡ (said_years c.args.facts last_year).last
 last-is c = ap (λ (x : Span). x.last) c.said_years-span.ensures
 
-abbrev entry : After-ending_days-2 → Start
-entry c = c.before.before.before.before.before.before.before.before
-
 -- what is taken away is the days before the span
 left_over : (c : After-ending_days-2)
-    → whole_years (entry c).args.facts (entry c).args.last + c.ending_days-2.result ≡ c.ending_days.result
+    → whole_years c.args.facts c.args.last + c.ending_days-2.result ≡ c.ending_days.result
 left_over c =
-    let a = (entry c).args in
-    let k = c in
+    let a = c.args in
     let span = said_years a.facts last_year in
-    let start : k.said_years-span.result.first - 1 ≡ span.first - 1 = omega (arith, first-is (goal.at.After-ending_days-2 c).After-said_years-span) in
+    let start : c.said_years-span.result.first - 1 ≡ span.first - 1 = omega (arith, first-is (goal.at.After-ending_days-2 c).After-said_years-span) in
     let end : c.earlier-end.result ≡ min a.last span.last
     = omega (arith, c.earlier-end.ensures, last-is (goal.at.After-ending_days-2 c).After-said_years-span) in
     omega (
@@ -36,20 +31,18 @@ left_over c =
       c.ending_days.ensures,
       ap (ending_days a.facts) start,
       ap (ending_days a.facts) end,
-      whole_some a.facts a.last (entry c).requires (omega (arith, c.if-end-span.false, first-is (goal.at.After-ending_days-2 c).After-said_years-span)),
+      whole_some a.facts a.last c.requires (omega (arith, c.if-end-span.false, first-is (goal.at.After-ending_days-2 c).After-said_years-span)),
     )
 
 pub returns-then-end-span : goal.returns-then-end-span
 returns-then-end-span c =
     let a = c.args in
-    let k = c in
     let e = c.earlier-end.ensures in
-    sym (whole_none a.facts a.last k.requires (omega (arith, e, first-is (goal.at.returns-then-end-span c).After-said_years-span, last-is (goal.at.returns-then-end-span c).After-said_years-span)))
+    sym (whole_none a.facts a.last c.requires (omega (arith, e, first-is (goal.at.returns-then-end-span c).After-said_years-span, last-is (goal.at.returns-then-end-span c).After-said_years-span)))
 
 pub overflow_sub-span : goal.overflow_sub-span
 overflow_sub-span c =
-    let k = c in
-    omega (arith, first-is (goal.at.overflow_sub-span c).After-said_years-span, said_years_low k.args.facts last_year)
+    omega (arith, first-is (goal.at.overflow_sub-span c).After-said_years-span, said_years_low c.args.facts last_year)
 
 pub overflow_sub-result : goal.overflow_sub-result
 overflow_sub-result c = omega (arith, left_over c)

@@ -20,24 +20,21 @@ borne c = sym c.any_said.ensures ∙ c.if-any_said.true
 
 pub returns-in-Skipping : goal.returns-in-Skipping
 returns-in-Skipping c =
-    let m = c in
     c.judge_skipping.ensures
     ∙ skipping_borne _ (borne (goal.at.returns-in-Skipping c).Then-any_said)
-    ∙ ap (λ (e : Engine). searched e m.args.facts) (sym c.in-Skipping.is)
+    ∙ ap (λ (e : Engine). searched e c.args.facts) (sym c.in-Skipping.is)
 
 pub returns-in-Plain : goal.returns-in-Plain
 returns-in-Plain c =
-    let m = c in
     c.judge_plainly.ensures
     ∙ plain_borne _ (borne (goal.at.returns-in-Plain c).Then-any_said) _ (omega (arith, days_is))
-    ∙ ap (λ (e : Engine). searched e m.args.facts) (sym c.in-Plain.is)
+    ∙ ap (λ (e : Engine). searched e c.args.facts) (sym c.in-Plain.is)
 
 pub returns-in-Within : goal.returns-in-Within
 returns-in-Within c =
-    let m = c in
     c.judge_plainly-in-Within.ensures
     ∙ within_borne _ (borne (goal.at.returns-in-Within c).Then-any_said) _
-    ∙ ap (λ (e : Engine). searched e m.args.facts) (sym c.in-Within.is)
+    ∙ ap (λ (e : Engine). searched e c.args.facts) (sym c.in-Within.is)
 
 pub returns : goal.returns
 unfolding day_borne day_kinds range

@@ -1,7 +1,6 @@
 -- `judge::skipping::named` meets its contract. Assumes nothing.
 use mathlib.Core.Bool.{true, false, not, ◌&&◌}
 use mathlib.Core.Path.{◌≡◌, sym, ap, ◌∙◌}
-use borrow.Author.Rules.{rules}
 use borrow.Author.Tests.{not-true, not-false}
 use lib.Dec.{eqb}
 use Rattle.agreement.specs.Agreement.{said, none_said}
@@ -26,6 +25,5 @@ returns-then-any_said c =
 pub returns : goal.returns
 returns c =
     let f = c.args.facts in
-    let e = c in
-    let none : none_said f (range kinds.year 2) ≡ true = not-false _ (sym e.any_said.ensures ∙ e.if-any_said.false) in
+    let none : none_said f (range kinds.year 2) ≡ true = not-false _ (sym c.any_said.ensures ∙ c.if-any_said.false) in
     rw (rows f, none) c.any_said-2.ensures

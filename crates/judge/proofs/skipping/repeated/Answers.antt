@@ -1,6 +1,5 @@
 -- `judge::skipping::repeated` meets its contract. Assumes nothing.
 use native.Mathlib.Omega.{arith}
-use borrow.Author.Rules.{rules}
 use Rattle.judge.specs.Private.{first_of, repeated_found}
 use Rattle.judge.proofs.skipping.repeated.Goals as goal
 

@@ -1,7 +1,6 @@
 -- `judge::skipping::search_date` meets its contract. Assumes nothing.
-use borrow.Author.Rules.{rules}
 use Prim.Native.Nat.{ℕ, ◌-◌}
-use mathlib.Core.Bool.{true}
+use mathlib.Core.Bool.{Bool, true}
 use mathlib.Core.Path.{◌≡◌, sym, ap, ◌∙◌}
 use native.Mathlib.Omega.{arith}
 use borrow.Author.Tests.{eqb-true, eqb-false}
@@ -9,62 +8,42 @@ use lib.Dec.{eqb}
 use Rattle.calendar.specs.Calendar.{date, date_fault, day_number}
 use Rattle.calendar.specs.Dates.{from_fields}
 use Rattle.calendar.specs.declared.Date.{Date}
+use Rattle.calendar.specs.declared.FromFields.TheVariants.{Valid}
 use Rattle.kinds.specs.Kinds as kinds
 use Rattle.kinds.specs.Kinds.{day_kinds}
 use Rattle.agreement.specs.Agreement.{said, date_agrees}
 use Rattle.agreement.specs.declared.Facts.{Facts}
 use Rattle.laws.specs.Lists.{range}
 use Rattle.calendar.proofs.Dates.{fields_bad, fields_valid}
-use Rattle.judge.proofs.Complete.{Whole, whole, no_date, date_agrees_lem, date_differs}
+use Rattle.judge.proofs.Complete.{whole, no_date, date_agrees_lem, date_differs}
 use Rattle.judge.proofs.skipping.search_date.Goals as goal
-use Rattle.judge.proofs.skipping.search_date.Goals.{After-date_kinds_agree, After-from_fields, In-Valid-2}
 
--- the facts, and that the date was said
-abbrev f : After-from_fields → Facts
-f c = c.args.facts
+module _ (f : Facts) where
+  abbrev y : ℕ
+  y = said f kinds.year - 1
 
-said-whole : (c : After-from_fields) → Whole (f c)
-said-whole c = whole (f c) c.requires
+  abbrev m : ℕ
+  m = said f kinds.month - 1
+
+  abbrev d : ℕ
+  d = said f kinds.day - 1
+
+  -- what is known of the date that was said, where it is one
+  module _ (x : Date) (e : from_fields y m d ≡ Valid x) where
+    is-valid : (eqb (date_fault y m d) 0 ≡ true) × (date y m d ≡ x)
+    is-valid = fields_valid y m d x e
+
+    no_fault : date_fault y m d ≡ 0
+    no_fault = eqb-true (date_fault y m d) 0 is-valid.0
+
+    agrees-there : {b : Bool} → b ≡ date_agrees f x → b ≡ date_agrees f (date y m d)
+    agrees-there e = e ∙ ap (date_agrees f) (sym is-valid.1)
+
+    number-there : day_number x.year x.month x.day ≡ day_number y m d
+    number-there = ap (λ (x : Date). day_number x.year x.month x.day) (sym is-valid.1)
 
 fields-alike : {a a' b b' c c' : ℕ} → a ≡ a' → b ≡ b' → c ≡ c' → from_fields (a - 1) (b - 1) (c - 1) ≡ from_fields (a' - 1) (b' - 1) (c' - 1)
 fields-alike e g h = rw (e, g, h)
-
-fields : (c : After-from_fields)
-    → c.from_fields.result ≡ from_fields (said (f c) kinds.year - 1) (said (f c) kinds.month - 1) (said (f c) kinds.day - 1)
-fields c =
-    c.from_fields.ensures
-    ∙ fields-alike c.said_of-year.ensures c.said_of-month.ensures c.said_of-day.ensures
-
--- the date that they make
-abbrev from : In-Valid-2 → After-from_fields
-from c = c.before.before
-
-module _ (c : In-Valid-2) where
-  abbrev y : ℕ
-  y = said (f (from c)) kinds.year - 1
-
-  abbrev m : ℕ
-  m = said (f (from c)) kinds.month - 1
-
-  abbrev d : ℕ
-  d = said (f (from c)) kinds.day - 1
-
-  abbrev its-date : Date
-  its-date = c.in-Valid.date
-
-  is-valid : (eqb (date_fault y m d) 0 ≡ true) × (date y m d ≡ its-date)
-  is-valid = fields_valid y m d its-date (sym (fields (from c)) ∙ c.in-Valid.is)
-
-  no_fault : date_fault y m d ≡ 0
-  no_fault = eqb-true (date_fault y m d) 0 is-valid.0
-
--- its test
-tested : (c : After-date_kinds_agree) → let t = c in
-    c.date_kinds_agree.result ≡ date_agrees (f (from (goal.at.After-date_kinds_agree c).In-Valid-2)) (date (y t) (m t) (d t))
-unfolding date_agrees day_kinds range
-tested c =
-    let t = c in
-    c.date_kinds_agree.ensures ∙ unfold date_agrees day_kinds in ap (date_agrees (f (from (goal.at.After-date_kinds_agree c).In-Valid-2))) (sym (is-valid t).1)
 
 pub overflow_sub-year : goal.overflow_sub-year
 overflow_sub-year c = omega (arith, (whole _ c.requires).some_year, c.said_of-year.ensures)
@@ -77,17 +56,29 @@ overflow_sub-day c = omega (arith, (whole _ c.requires).some_day, c.said_of-day.
 
 pub returns-in_default : goal.returns-in_default
 returns-in_default c =
-    let e = c in
-    no_date (f (goal.at.returns-in_default c).After-from_fields) (said-whole (goal.at.returns-in_default c).After-from_fields) (eqb-false _ 0 (fields_bad _ _ _ _ (sym (fields (goal.at.returns-in_default c).After-from_fields) ∙ c.in_default.is)).0)
+    let f = c.args.facts in
+    let e = c.from_fields.ensures ∙ fields-alike c.said_of-year.ensures c.said_of-month.ensures c.said_of-day.ensures in
+    no_date f (whole f c.requires) (eqb-false _ 0 (fields_bad _ _ _ _ (sym e ∙ c.in_default.is)).0)
 
 pub returns-then-date_kinds_agree : goal.returns-then-date_kinds_agree
+unfolding date_agrees day_kinds range
 returns-then-date_kinds_agree c =
-    let a = c in
-    let t = c in
-    let n = c.day_number.ensures ∙ ap (λ (x : Date). day_number x.year x.month x.day) (sym (is-valid t).1) in
-    rw n (date_agrees_lem (f (from (goal.at.returns-then-date_kinds_agree c).In-Valid-2)) (said-whole (from (goal.at.returns-then-date_kinds_agree c).In-Valid-2)) (no_fault t) (sym (tested (goal.at.returns-then-date_kinds_agree c).After-date_kinds_agree) ∙ c.if-date_kinds_agree.true))
+    let f = c.args.facts in
+    let x = c.in-Valid.date in
+    let e : from_fields (y f) (m f) (d f) ≡ Valid x =
+    sym (c.from_fields.ensures ∙ fields-alike c.said_of-year.ensures c.said_of-month.ensures c.said_of-day.ensures)
+    ∙ c.in-Valid.is
+    in
+    rw (c.day_number.ensures ∙ number-there f x e)
+    (date_agrees_lem f (whole f c.requires) (no_fault f x e) (sym (agrees-there f x e c.date_kinds_agree.ensures) ∙ c.if-date_kinds_agree.true))
 
 pub returns : goal.returns
+unfolding date_agrees day_kinds range
 returns c =
-    let t = c in
-    date_differs (f (from (goal.at.returns c).In-Valid-2)) (said-whole (from (goal.at.returns c).In-Valid-2)) (no_fault t) (sym (tested (goal.at.returns c).After-date_kinds_agree) ∙ c.if-date_kinds_agree.false)
+    let f = c.args.facts in
+    let x = c.in-Valid.date in
+    let e : from_fields (y f) (m f) (d f) ≡ Valid x =
+    sym (c.from_fields.ensures ∙ fields-alike c.said_of-year.ensures c.said_of-month.ensures c.said_of-day.ensures)
+    ∙ c.in-Valid.is
+    in
+    date_differs f (whole f c.requires) (no_fault f x e) (sym (agrees-there f x e c.date_kinds_agree.ensures) ∙ c.if-date_kinds_agree.false)

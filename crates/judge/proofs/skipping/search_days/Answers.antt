@@ -20,7 +20,6 @@ repeated-requires c = rw c.search_years-2.ensures (first_small c.args.facts)
 
 pub returns : goal.returns
 returns c =
-    let e = c in
-    let f = e.args.facts in
-    let unnamed : named f ≡ false = sym e.named.ensures ∙ e.if-named.false in
+    let f = c.args.facts in
+    let unnamed : named f ≡ false = sym c.named.ensures ∙ c.if-named.false in
     c.repeated.ensures ∙ ap repeated_found c.search_years-2.ensures ∙ repeats f unnamed

@@ -1,5 +1,4 @@
 -- `judge::spans::month_days` meets its contract. Assumes nothing.
-use borrow.Author.Rules.{rules}
 use Rattle.judge.specs.Private.{month_day_span}
 use Rattle.judge.proofs.spans.month_days.Goals as goal
 

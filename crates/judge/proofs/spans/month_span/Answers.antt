@@ -1,5 +1,4 @@
 -- `judge::spans::month_span` meets its contract. Assumes nothing.
-use borrow.Author.Rules.{rules}
 use mathlib.Core.Path.{sym, ◌∙◌}
 use borrow.Author.Tests.{not-true, not-false}
 use Rattle.judge.specs.Private.{month_span}

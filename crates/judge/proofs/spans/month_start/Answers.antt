@@ -2,7 +2,6 @@
 use Prim.Native.Nat.{◌+◌, ◌-◌}
 use mathlib.Core.Path.{◌≡◌, ap, ◌∙◌}
 use native.Mathlib.Omega.{arith}
-use borrow.Author.Rules.{rules}
 use Rattle.calendar.specs.Calendar.{sum, month_length, day_of_year}
 use Rattle.calendar.specs.declared.Date.{Date}
 use Rattle.calendar.proofs.Months.{months_small}

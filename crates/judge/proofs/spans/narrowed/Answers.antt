@@ -1,5 +1,4 @@
 -- `judge::spans::narrowed` meets its contract. Assumes nothing.
-use borrow.Author.Rules.{rules}
 use borrow.Author.Tests.{eq-eqb, ne_eqb}
 use Rattle.judge.specs.Private.{narrowed}
 use Rattle.judge.proofs.spans.narrowed.Goals as goal

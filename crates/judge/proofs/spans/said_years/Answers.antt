@@ -1,5 +1,4 @@
 -- `judge::spans::said_years` meets its contract. Assumes nothing.
-use borrow.Author.Rules.{rules}
 use Rattle.judge.specs.Private.{said_years}
 use Rattle.judge.proofs.spans.said_years.Goals as goal
 

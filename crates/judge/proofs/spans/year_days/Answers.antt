@@ -1,5 +1,4 @@
 -- `judge::spans::year_days` meets its contract. Assumes nothing.
-use borrow.Author.Rules.{rules}
 use Rattle.judge.specs.Private.{year_days}
 use Rattle.judge.proofs.spans.year_days.Goals as goal
 

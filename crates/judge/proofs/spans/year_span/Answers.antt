@@ -1,5 +1,4 @@
 -- `judge::spans::year_span` meets its contract. Assumes nothing.
-use borrow.Author.Rules.{rules}
 use Rattle.judge.specs.Private.{year_span}
 use Rattle.judge.proofs.spans.year_span.Goals as goal
 

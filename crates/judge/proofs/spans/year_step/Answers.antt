@@ -1,5 +1,4 @@
 -- `judge::spans::year_step` meets its contract. Assumes nothing.
-use borrow.Author.Rules.{rules}
 use mathlib.Core.Path.{sym, ◌∙◌}
 use borrow.Author.Tests.{eq-eqb, ne_eqb}
 use Rattle.judge.specs.Private.{year_step}

@@ -1,15 +1,9 @@
 -- `judge::testing::any_said` meets its contract. Assumes nothing.
-use Prim.Native.Nat.{ℕ, ◌≤◌, ◌+◌, ◌-◌}
-use mathlib.Core.Bool.{Bool, not}
-use mathlib.Core.List.{List}
-use mathlib.Core.Path.{ap, ◌≡◌, refl, sym, ◌∙◌}
+use mathlib.Core.Bool.{not}
+use mathlib.Core.Path.{ap, refl, sym, ◌∙◌}
 use native.Mathlib.Omega.{arith}
 use borrow.Author.Tests.{eq-eqb, ne_eqb}
-use lib.Dec.{eqb}
-use lib.ListN.{get_or}
-use Rattle.laws.specs.Lists.{every, range}
 use Rattle.agreement.proofs.Every.{every_turn, every_stop, every_done}
-use Rattle.judge.proofs.testing.any_said.Invariants.{unsaid}
 use Rattle.judge.proofs.testing.any_said.Goals as goal
 
 pub loop-kind-init : goal.loop-kind-init

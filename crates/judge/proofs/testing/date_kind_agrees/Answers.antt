@@ -1,5 +1,4 @@
 -- `judge::testing::date_kind_agrees` meets its contract. Assumes nothing.
-use borrow.Author.Rules.{rules}
 use borrow.Author.Tests.{ne_eqb}
 use Rattle.agreement.specs.Agreement.{agrees}
 use Rattle.judge.proofs.testing.date_kind_agrees.Goals as goal

@@ -1,18 +1,8 @@
 -- `judge::testing::date_kinds_agree` meets its contract. Assumes nothing.
-use Prim.Native.Nat.{ℕ, ◌≤◌, ◌+◌, ◌-◌}
-use mathlib.Core.Bool.{Bool}
-use mathlib.Core.List.{List}
-use mathlib.Core.Path.{◌≡◌, refl, sym, ◌∙◌}
+use mathlib.Core.Path.{refl, sym, ◌∙◌}
 use native.Mathlib.Omega.{arith}
-use borrow.Author.Rules.{rules}
 use borrow.Author.Tests.{not-true, not-false}
-use lib.ListN.{get_or}
-use Rattle.agreement.specs.Agreement.{agrees}
-use Rattle.values.specs.Values.{date_value}
-use Rattle.calendar.specs.declared.Date.{Date}
-use Rattle.laws.specs.Lists.{every, range}
 use Rattle.agreement.proofs.Every.{every_turn, every_stop, every_done}
-use Rattle.judge.proofs.testing.date_kinds_agree.Invariants.{test}
 use Rattle.judge.proofs.testing.date_kinds_agree.Goals as goal
 
 pub loop-kind-init : goal.loop-kind-init

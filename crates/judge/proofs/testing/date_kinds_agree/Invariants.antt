@@ -1,16 +1,12 @@
 use Prim.Native.Nat.{ℕ, ◌≤◌, ◌+◌, ◌-◌}
 use mathlib.Core.Bool.{Bool}
 use mathlib.Core.List.{List}
-use mathlib.Core.Path.{◌≡◌, refl, sym, ◌∙◌}
-use native.Mathlib.Omega.{arith}
-use borrow.Author.Rules.{rules}
-use borrow.Author.Tests.{not-true, not-false}
+use mathlib.Core.Path.{◌≡◌}
 use lib.ListN.{get_or}
 use Rattle.agreement.specs.Agreement.{agrees}
 use Rattle.values.specs.Values.{date_value}
 use Rattle.calendar.specs.declared.Date.{Date}
 use Rattle.laws.specs.Lists.{every, range}
-use Rattle.agreement.proofs.Every.{every_turn, every_stop, every_done}
 use Rattle.judge.proofs.testing.date_kinds_agree.Given as goal
 
 -- the test of a kind

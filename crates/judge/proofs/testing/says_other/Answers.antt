@@ -1,5 +1,4 @@
 -- `judge::testing::says_other` meets its contract. Assumes nothing.
-use borrow.Author.Rules.{rules}
 use borrow.Author.Tests.{ne_eqb}
 use Rattle.agreement.specs.Agreement.{agrees}
 use Rattle.judge.proofs.testing.says_other.Goals as goal
