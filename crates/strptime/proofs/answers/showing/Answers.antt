@@ -2,12 +2,8 @@
 use mathlib.Core.Path.{refl}
 use Rattle.strptime.specs.Answers.{showing, examining}
 use Rattle.matching.specs.Steps.{no_forms}
-use Rattle.strptime.proofs.answers.showing.Statement.{statement}
-use Rattle.strptime.proofs.answers.showing.Tie as tie
+use Rattle.strptime.proofs.answers.showing.Goals as goal
 
-returns : tie.Need-returns
+pub returns : goal.returns
 unfolding showing no_forms examining
 returns c = refl
-
-pub showing-spec : {M : Type 1} → statement M
-showing-spec = tie.close (tie.spec returns)
