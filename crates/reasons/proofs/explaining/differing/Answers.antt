@@ -1,0 +1,16 @@
+-- `reasons::explaining::differing` meets its contract. Assumes nothing.
+use borrow.Author.Tests.{eq-eqb, ne_eqb}
+use Rattle.reasons.specs.Reasons.{differing}
+use Rattle.reasons.proofs.explaining.differing.Goals as goal
+
+pub returns-then-a-b : goal.returns-then-a-b
+unfolding differing
+returns-then-a-b c = rw (ne_eqb _ _ c.if-a-b.true)
+
+pub returns-then-a-b-2 : goal.returns-then-a-b-2
+unfolding differing
+returns-then-a-b-2 c = rw (eq-eqb _ _ c.if-a-b.false, ne_eqb _ _ c.if-a-b-2.true)
+
+pub returns : goal.returns
+unfolding differing
+returns c = rw (eq-eqb _ _ c.if-a-b.false, eq-eqb _ _ c.if-a-b-2.false)

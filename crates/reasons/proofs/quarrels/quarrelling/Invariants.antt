@@ -1,0 +1,17 @@
+use Prim.Native.Nat.{◌+◌, ◌-◌, ◌≤◌}
+use mathlib.Core.Path.{◌≡◌, sym, ◌∙◌}
+use native.Mathlib.Omega.{arith}
+use Rattle.laws.specs.Lists.{range}
+use Rattle.reasons.specs.Quarrels.{quarrelling, all_tried}
+use Rattle.reasons.specs.Private.{last_kind}
+use Rattle.reasons.proofs.Ranges.{kinds_row, last_few, first_most}
+use Rattle.reasons.proofs.Trying.{row_more, row_done}
+use Rattle.reasons.proofs.quarrels.quarrelling.Given as goal
+
+abbrev pub invariant-loop-kind : goal.invariant-loop-kind
+invariant-loop-kind l =
+    (l.last ≡ last_kind l.about) × (l.kind ≤ l.last + 1)
+    × (all_tried l.about (range l.kind (l.last + 1 - l.kind)) l.left ≡ quarrelling l.about l.initial.left)
+
+abbrev pub decreases-loop-kind : goal.decreases-loop-kind
+decreases-loop-kind l = l.last + 1 - l.kind
