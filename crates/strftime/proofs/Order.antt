@@ -43,18 +43,18 @@ use Rattle.strftime.specs.declared.Written.TheVariants.{Done, FormatTooLong, Bad
 
 -- the answer is a, and the buffer is left as c
 abbrev pub Gives : Writing → List ℕ → Result → Type 0
-Gives a c w = (a ≡ w.answer) × (c ≡ w.buffer)
+Gives a c w = record { result_value : a ≡ w.answer; out_after : c ≡ w.buffer }
 
 -- ---- the bytes to put: 4 and 0
 
 module _ (s b : List ℕ) where
   pub too_small : {n : ℕ} → n ≡ length s → length b < n → Gives (writing_of (BufferTooSmall n)) b (put s b)
   unfolding put refused writing_of
-  too_small e h = rw (← e, lt-leb _ (length b) h) (refl, refl)
+  too_small e h = rw (← e, lt-leb _ (length b) h) (record { result_value = refl; out_after = refl })
 
   pub fits : {n : ℕ} {c : List ℕ} → length s ≤ length b → Puts s b 0 c n → Gives (writing_of (Done n)) c (put s b)
   unfolding put writing_of
-  fits h p = rw (le-leb (length s) (length b) h, p.ends, zero-add (length s)) (refl, p.stores)
+  fits h p = rw (le-leb (length s) (length b) h, p.ends, zero-add (length s)) (record { result_value = refl; out_after = p.stores })
 
 -- ---- a format: 1 and 3
 
@@ -147,7 +147,7 @@ counted r es w e = rw e at w
 module _ (es b : List ℕ) (m : Moment) {l : Lack} (e : l ≡ lacking m.offset es) where
   pub no_offset : {p : ℕ} → l ≡ ZoneOffset p → Gives (writing_of (NoOffset p)) b (offered es b m)
   unfolding offered refused writing_of
-  no_offset q = rw (← e, q) (refl, refl)
+  no_offset q = rw (← e, q) (record { result_value = refl; out_after = refl })
 
   pub lacks_nothing : {a : Writing} {c : List ℕ} → l ≡ Nothing → Gives a c (put (text m es) b) → Gives a c (offered es b m)
   unfolding offered
@@ -179,11 +179,11 @@ module _ (t : Fields) {r : MomentFields}
   module _ (f b : List ℕ) where
     pub too_long_lem : longest < length f → Gives (writing_of FormatTooLong) b (writing f t b)
     unfolding writing refused writing_of
-    too_long_lem h = rw (lt-leb (length f) longest h) (refl, refl)
+    too_long_lem h = rw (lt-leb (length f) longest h) (record { result_value = refl; out_after = refl })
 
     pub bad_moment : {n : ℕ} → length f ≤ longest → r ≡ Bad n → Gives (writing_of (BadMoment n)) b (writing f t b)
     unfolding writing for_moment refused writing_of
-    bad_moment h q = rw (le-leb (length f) longest h, with-fields (by_format f b) b q) (refl, refl)
+    bad_moment h q = rw (le-leb (length f) longest h, with-fields (by_format f b) b q) (record { result_value = refl; out_after = refl })
 
     pub good_moment : {m : Moment} {a : Writing} {c : List ℕ} → r ≡ Valid m → Gives a c (moment_writing f m b) → Gives a c (writing f t b)
     unfolding writing for_moment moment_writing
@@ -194,7 +194,7 @@ module _ (t : Fields) {r : MomentFields}
   module _ (es b : List ℕ) where
     pub bad_fields : {n : ℕ} → r ≡ Bad n → Gives (writing_of (BadMoment n)) b (elements_writing es t b)
     unfolding elements_writing for_moment refused writing_of
-    bad_fields q = rw (with-fields (by_elements es b) b q) (refl, refl)
+    bad_fields q = rw (with-fields (by_elements es b) b q) (record { result_value = refl; out_after = refl })
 
     module _ {m : Moment} (q : r ≡ Valid m) (k : length es ≡ elements_in Reader most_elements es) where
       pub plain_elements : {a : Writing} {c : List ℕ} → Gives a c (put (text m es) b) → Gives a c (elements_writing es t b)
@@ -207,7 +207,9 @@ module _ (t : Fields) {r : MomentFields}
       pub bad_entry : good < length es → Gives (writing_of (BadConversion good)) b (elements_writing es t b)
       unfolding elements_writing for_moment by_elements refused writing_of
       bad_entry h =
-          rw (with-fields (by_elements es b) b q, ← k, ne_eqb good (length es) (λ (e : good ≡ length es). omega arith)) (refl, refl)
+          rw
+          (with-fields (by_elements es b) b q, ← k, ne_eqb good (length es) (λ (e : good ≡ length es). omega arith))
+          (record { result_value = refl; out_after = refl })
 
       pub all_elements : {a : Writing} {c : List ℕ} → length es ≤ good → Gives a c (offered es b m)
           → Gives a c (elements_writing es t b)

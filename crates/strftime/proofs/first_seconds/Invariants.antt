@@ -1,10 +1,7 @@
 use Prim.Native.Nat.{◌-◌, ◌≤◌}
-use mathlib.Core.Path.{◌≡◌, refl, sym, ap, ◌∙◌}
-use native.Mathlib.Omega.{arith}
+use mathlib.Core.Path.{◌≡◌}
 use lib.ListN.{length, drop}
 use Rattle.strftime.specs.Writing.{first_seconds}
-use Rattle.strftime.specs.declared.Lack.TheVariants.{ZoneOffset}
-use Rattle.strftime.proofs.Offsets.{no_more, seconds_here, seconds_later}
 use Rattle.strftime.proofs.first_seconds.Given as goal
 
 abbrev pub invariant-loop-i : goal.invariant-loop-i

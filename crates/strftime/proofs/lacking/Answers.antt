@@ -1,5 +1,4 @@
 -- `strftime::lacking` meets its contract.
-use borrow.Author.Rules.{rules}
 use Rattle.strftime.specs.Writing.{lacking}
 use Rattle.strftime.proofs.lacking.Goals as goal
 

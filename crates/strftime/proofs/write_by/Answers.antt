@@ -2,7 +2,6 @@
 use Prim.Native.Nat.{◌≤◌}
 use mathlib.Core.Path.{refl, sym}
 use native.Mathlib.Omega.{arith}
-use borrow.Author.Rules.{rules}
 use lib.ListN.{length}
 use lib.Seq.{length-take-le}
 use Rattle.format.specs.Opening.{most_elements}
@@ -21,15 +20,13 @@ slice_bounds-write_any-end c = sym (length-take-le _ _ (there c).0)
 
 pub write_any-requires : goal.write_any-requires
 write_any-requires c =
-    let o = c in
-    let n = length-take-le o.in-Done.count o.args.elements.now (there (goal.at.write_any-requires c).In-Done).0 in
-    record { elements_len_bound = omega (arith, (there (goal.at.write_any-requires c).In-Done).1, n); moment = o.requires.moment }
+    let n = length-take-le c.in-Done.count c.args.elements.now (there (goal.at.write_any-requires c).In-Done).0 in
+    record { elements_len_bound = omega (arith, (there (goal.at.write_any-requires c).In-Done).1, n); moment = c.requires.moment }
 
 pub returns-in-Done : goal.returns-in-Done
 unfolding opened_writing
 returns-in-Done c =
-    let w = c in
-    rw w.in-Done.is w.write_any.ensures
+    rw c.in-Done.is c.write_any.ensures
 
 pub returns-in-TooLong : goal.returns-in-TooLong
 unfolding opened_writing refused writing_of

@@ -6,56 +6,47 @@ use Rattle.format.specs.declared.opening.Side.TheVariants.{Writer, Reader}
 use Rattle.format.proofs.Entries.{counted_few, counted_all}
 use Rattle.strftime.proofs.Lengths.{text_most}
 use Rattle.strftime.proofs.Order.{is_moment, bad_fields, bad_entry, plain_elements, all_elements}
-use borrow.Author.Rules.{rules}
 use Rattle.strftime.proofs.write_elements.Goals as goal
 
 pub write_opened-requires : goal.write_opened-requires
 write_opened-requires c =
-    let e = c in
-    let m = c in
     let es = c.args.elements.now in
-    let i = is_moment _ m.moment_of.ensures m.in-Valid.is in
-    let q = sym e.elements_in.ensures ∙ c.if-elements_in-elements.true in
-    let long = text_most m.in-Valid.moment i es (counted_all Reader most_elements es q) in
-    (omega (arith, counted_few Reader most_elements es, q), (omega (arith, long), i))
+    let i = is_moment _ c.moment_of.ensures c.in-Valid.is in
+    let q = sym c.elements_in.ensures ∙ c.if-elements_in-elements.true in
+    let long = text_most c.in-Valid.moment i es (counted_all Reader most_elements es q) in
+    record {
+      elements_len_bound = omega (arith, counted_few Reader most_elements es, q);
+      elements_len_bound_2 = omega (arith, long);
+      moment = i;
+    }
 
 pub overflow_mul-elements : goal.overflow_mul-elements
 overflow_mul-elements c =
-    let e = c in
     let es = c.args.elements.now in
-    omega (arith, counted_few Reader most_elements es, e.elements_in.ensures, c.if-elements_in-elements.true)
+    omega (arith, counted_few Reader most_elements es, c.elements_in.ensures, c.if-elements_in-elements.true)
 
 pub returns-then-elements_in-elements : goal.returns-then-elements_in-elements
 returns-then-elements_in-elements c =
-    let w = c in
-    let m = c in
-    plain_elements _ m.moment_of.ensures _ _ m.in-Valid.is
-    (sym w.if-elements_in-elements.true ∙ w.elements_in.ensures)
-    c.write_opened.ensures
+    let all = sym c.if-elements_in-elements.true ∙ c.elements_in.ensures in
+    plain_elements _ c.moment_of.ensures _ _ c.in-Valid.is all c.write_opened.ensures
 
 pub returns-then-good-elements : goal.returns-then-good-elements
 returns-then-good-elements c =
-    let m = c in
-    let a = m.args in
-    bad_entry a.fields m.moment_of.ensures a.elements.now a.out.now m.in-Valid.is
-    c.elements_in-good.ensures (omega arith)
+    let a = c.args in
+    bad_entry a.fields c.moment_of.ensures a.elements.now a.out.now c.in-Valid.is c.elements_in-good.ensures (omega arith)
 
 pub write_any-requires : goal.write_any-requires
 write_any-requires c =
-    let e = c in
-    let m = c in
-    let es = c.args.elements.now in
-    let i = is_moment _ m.moment_of.ensures m.in-Valid.is in
-    record { elements_len_bound = omega (arith, counted_few Writer most_elements es, e.elements_in-good.ensures); moment = i }
+    let few = counted_few Writer most_elements c.args.elements.now in
+    record {
+      elements_len_bound = omega (arith, few, c.elements_in-good.ensures);
+      moment = is_moment _ c.moment_of.ensures c.in-Valid.is;
+    }
 
 pub returns-in-Valid : goal.returns-in-Valid
 returns-in-Valid c =
-    let e = c in
-    let m = c in
-    all_elements _ m.moment_of.ensures _ _ m.in-Valid.is e.elements_in-good.ensures
-    (omega arith) c.write_any.ensures
+    all_elements _ c.moment_of.ensures _ _ c.in-Valid.is c.elements_in-good.ensures (omega arith) c.write_any.ensures
 
 pub returns : goal.returns
 returns c =
-    let both = bad_fields _ c.moment_of.ensures _ _ c.in-Bad.is in
-    record { result_value = both.0; out_after = both.1 }
+    bad_fields _ c.moment_of.ensures _ _ c.in-Bad.is

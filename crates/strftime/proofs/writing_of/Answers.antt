@@ -1,6 +1,5 @@
 -- `strftime::writing_of` meets its contract.
 use Rattle.strftime.specs.Writing.{writing_of}
-use borrow.Author.Rules.{rules}
 use Rattle.strftime.proofs.writing_of.Goals as goal
 
 pub returns-in-Done : goal.returns-in-Done

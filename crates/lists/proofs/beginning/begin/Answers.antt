@@ -25,7 +25,7 @@ slice_bounds-open-end c = sym (length-take-le _ _ (ends c))
 formats : (c : After-open-opened) →
     let a = c.args in
     let f = take (line_length a.input.now) a.input.now in
-    (c.open-opened.result ≡ opened Reader f) × (c.open-opened.new.1.1.0 ≡ opened_into Reader f a.elements.now)
+    (c.open-opened.result ≡ opened Reader f) × (c.open-opened.new.out ≡ opened_into Reader f a.elements.now)
 formats c =
     let l = c in
     let s = l.args.input.now in
@@ -41,8 +41,8 @@ returns-then-input-gt-LONGEST_INPUT c =
     let t = lt-leb (length s) longest_input (omega arith) in
     record { opens = (formats (goal.at.returns-then-input-gt-LONGEST_INPUT c).After-open-opened).0; stores = (formats (goal.at.returns-then-input-gt-LONGEST_INPUT c).After-open-opened).1; puts = rw t p.put_bytes-count.ensures; goes = rw t }
 
-pub add-t15 : goal.add-t15
-add-t15 c = omega (arith, ends c.before.before.before.before.before.before.before.before.before.before)
+pub overflow_add-result : goal.overflow_add-result
+overflow_add-result c = omega (arith, ends (goal.at.overflow_add-result c).After-line_end-end)
 
 pub returns : goal.returns
 returns c =

@@ -18,7 +18,7 @@ ten : (c : After-digit_count-count) → c.digit_count-count.result ≤ 10
 ten c = rw c.digit_count-count.ensures (plain_most 10 c.args.n (lit≤ tt) (omega arith))
 
 -- and these are written
-digits_are : (c : After-write_number) → c.write_number.new.0 ≡ plain c.args.n
+digits_are : (c : After-write_number) → c.write_number.new.out ≡ plain c.args.n
 digits_are c =
     let d = c in
     let n = d.args.n in
@@ -31,22 +31,22 @@ pub slice_bounds-write_number-end : goal.slice_bounds-write_number-end
 slice_bounds-write_number-end c = sym (length-take-le _ _ (ten (goal.at.slice_bounds-write_number-end c).After-digit_count-count))
 
 -- there are as many as were counted
-as_many : (c : After-write_number) → length c.write_number.new.0 ≡ c.digit_count-count.result
+as_many : (c : After-write_number) → length c.write_number.new.out ≡ c.digit_count-count.result
 as_many c = ap length (digits_are c) ∙ sym c.digit_count-count.ensures
 
 pub slice_bounds-digits-end-2 : goal.slice_bounds-digits-end-2
 slice_bounds-digits-end-2 c =
     let w = c in
-    first_fits w.write_number.new.0 (drop w.digit_count-count.result (replicate 10 0)) (as_many (goal.at.slice_bounds-digits-end-2 c).After-write_number)
+    first_fits w.write_number.new.out (drop w.digit_count-count.result (replicate 10 0)) (as_many (goal.at.slice_bounds-digits-end-2 c).After-write_number)
 
 pub slice_bounds-put_bytes-end : goal.slice_bounds-put_bytes-end
 slice_bounds-put_bytes-end c =
     let w = c in
     let rest : List ℕ = drop w.digit_count-count.result (replicate 10 0) in
-    sym (length-take-le _ _ (first_fits w.write_number.new.0 rest (as_many (goal.at.slice_bounds-put_bytes-end c).After-write_number)))
+    sym (length-take-le _ _ (first_fits w.write_number.new.out rest (as_many (goal.at.slice_bounds-put_bytes-end c).After-write_number)))
 
 pub returns : goal.returns
 returns c =
     let w = c in
-    rw (take_at w.write_number.new.0 _ w.digit_count-count.result (as_many (goal.at.returns c).After-write_number), digits_are (goal.at.returns c).After-write_number)
+    rw (take_at w.write_number.new.out _ w.digit_count-count.result (as_many (goal.at.returns c).After-write_number), digits_are (goal.at.returns c).After-write_number)
     at c.put_bytes.ensures

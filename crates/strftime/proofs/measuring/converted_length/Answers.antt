@@ -6,33 +6,29 @@ use Rattle.conversions.specs.Pieces.{unstyled}
 use Rattle.converted.specs.Converted.{converted, formed}
 use Rattle.converted.proofs.Lengths.{by_form, plain_length, plain_name_length}
 use Rattle.strftime.proofs.Lengths.{room_of}
-use borrow.Author.Rules.{rules}
 use Rattle.strftime.proofs.measuring.converted_length.Goals as goal
 
 -- a number, whose width has room for it
 pub returns-in-Zeros : goal.returns-in-Zeros
 unfolding formed is_number
 returns-in-Zeros c =
-    let s = c in
     let f = c.in-Zeros.is in
-    let r = room_of s.args.c s.args.moment s.requires f refl refl in
-    rw (by_form unstyled s.args.c s.args.moment f refl) (plain_length 48 _ _ r.0 (omega (arith, r.1)))
+    let r = room_of c.args.c c.args.moment c.requires f refl refl in
+    rw (by_form unstyled c.args.c c.args.moment f refl) (plain_length 48 _ _ r.0 (omega (arith, r.1)))
 
 pub returns-in-Blanks : goal.returns-in-Blanks
 unfolding formed is_number
 returns-in-Blanks c =
-    let s = c in
     let f = c.in-Blanks.is in
-    let r = room_of s.args.c s.args.moment s.requires f refl refl in
-    rw (by_form unstyled s.args.c s.args.moment f refl) (plain_length 32 _ _ r.0 (omega (arith, r.1)))
+    let r = room_of c.args.c c.args.moment c.requires f refl refl in
+    rw (by_form unstyled c.args.c c.args.moment f refl) (plain_length 32 _ _ r.0 (omega (arith, r.1)))
 
 pub returns-in-FromSunday : goal.returns-in-FromSunday
 unfolding formed is_number
 returns-in-FromSunday c =
-    let s = c in
     let f = c.in-FromSunday.is in
-    let r = room_of s.args.c s.args.moment s.requires f refl refl in
-    rw (by_form unstyled s.args.c s.args.moment f refl) (plain_length 48 _ _ r.0 (omega (arith, r.1)))
+    let r = room_of c.args.c c.args.moment c.requires f refl refl in
+    rw (by_form unstyled c.args.c c.args.moment f refl) (plain_length 48 _ _ r.0 (omega (arith, r.1)))
 
 pub returns-in-Short : goal.returns-in-Short
 unfolding formed

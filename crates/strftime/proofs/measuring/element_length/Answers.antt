@@ -3,7 +3,6 @@ use mathlib.Core.Path.{sym, ap, ◌∙◌}
 use native.Mathlib.Omega.{arith}
 use lib.ListN.{length}
 use Rattle.strftime.proofs.Lengths.{element_byte, element_plain, element_styled, has_room}
-use borrow.Author.Rules.{rules}
 use Rattle.strftime.proofs.measuring.element_length.Goals as goal
 
 pub returns-then-e-lt256 : goal.returns-then-e-lt256
@@ -11,8 +10,7 @@ returns-then-e-lt256 c = rw (element_byte c.args.moment c.args.e (omega arith))
 
 pub converted_length-requires : goal.converted_length-requires
 converted_length-requires c =
-    let s = c in
-    rw c.conversion_of.ensures (has_room s.args.moment s.requires _)
+    rw c.conversion_of.ensures (has_room c.args.moment c.requires _)
 
 pub returns-then-e-lt-PLAIN : goal.returns-then-e-lt-PLAIN
 returns-then-e-lt-PLAIN c =

@@ -1,9 +1,7 @@
 -- `strftime::measuring::measure` meets its contract. The invariant: n bytes are what the first i elements write.
-use Prim.Native.Nat.{◌-◌}
 use native.Mathlib.Omega.{arith}
-use lib.ListN.{length}
 use Rattle.strftime.proofs.Lengths.{text_any}
-use Rattle.strftime.proofs.Loops.{Measured, nothing_measured, measured_next, all_measured}
+use Rattle.strftime.proofs.Loops.{nothing_measured, measured_next, all_measured}
 use Rattle.strftime.proofs.measuring.measure.Goals as goal
 
 pub loop-i-init : goal.loop-i-init
@@ -14,9 +12,8 @@ element_length-n-requires c = c.requires.moment
 
 pub overflow_add-n : goal.overflow_add-n
 overflow_add-n c =
-    let s = c in
     let l = measured_next c.loop-i.invariant (omega arith) c.element_length-n.ensures in
-    omega (arith, l.count, text_any s.args.moment s.requires.moment s.args.elements.now, s.requires.elements_len_bound)
+    omega (arith, l.count, text_any c.args.moment c.requires.moment c.args.elements.now, c.requires.elements_len_bound)
 
 pub loop-i-preserved : goal.loop-i-preserved
 loop-i-preserved c = measured_next c.loop-i.invariant (omega arith) c.element_length-n.ensures

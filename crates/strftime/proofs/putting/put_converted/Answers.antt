@@ -12,7 +12,6 @@ use Rattle.names.specs.declared.names.Case.TheVariants.{AsIs, Small}
 use Rattle.converted.specs.Converted.{formed, converted}
 use Rattle.converted.proofs.Lengths.{by_form, plain_length, plain_name_length, number_plain, name_plain}
 use Rattle.strftime.proofs.Lengths.{room_of}
-use borrow.Author.Rules.{rules}
 use Rattle.strftime.proofs.putting.put_converted.Goals as goal
 use Rattle.strftime.proofs.putting.put_converted.Goals.{After-value-value}
 
@@ -34,28 +33,25 @@ module _ (c : After-value-value) {f : Form} (e : c.args.c.form ≡ f) where
 pub put_number-requires : goal.put_number-requires
 unfolding formed is_number
 put_number-requires c =
-    let l = c in
     let f = c.in-Zeros.is in
     let d = digits (goal.at.put_number-requires c).After-value-value f refl in
-    let e = plain_length 48 l.args.c.width l.value-value.result d.0 (omega (arith, d.1)) in
+    let e = plain_length 48 c.args.c.width c.value-value.result d.0 (omega (arith, d.1)) in
     rw (← e) at (room (goal.at.put_number-requires c).After-value-value f)
 
 pub put_number-requires-in-Blanks : goal.put_number-requires-in-Blanks
 unfolding formed is_number
 put_number-requires-in-Blanks c =
-    let l = c in
     let f = c.in-Blanks.is in
     let d = digits (goal.at.put_number-requires-in-Blanks c).After-value-value f refl in
-    let e = plain_length 32 l.args.c.width l.value-value.result d.0 (omega (arith, d.1)) in
+    let e = plain_length 32 c.args.c.width c.value-value.result d.0 (omega (arith, d.1)) in
     rw (← e) at (room (goal.at.put_number-requires-in-Blanks c).After-value-value f)
 
 pub put_number-requires-in-FromSunday : goal.put_number-requires-in-FromSunday
 unfolding formed is_number
 put_number-requires-in-FromSunday c =
-    let l = c in
     let f = c.in-FromSunday.is in
     let d = digits (goal.at.put_number-requires-in-FromSunday c).After-value-value f refl in
-    let e = plain_length 48 l.args.c.width (l.value-value.result % 7) d.0 (omega (arith, d.1)) in
+    let e = plain_length 48 c.args.c.width (c.value-value.result % 7) d.0 (omega (arith, d.1)) in
     rw (← e) at (room (goal.at.put_number-requires-in-FromSunday c).After-value-value f)
 
 pub put_short-requires : goal.put_short-requires
@@ -84,63 +80,54 @@ put_seconds-requires c = room (goal.at.put_seconds-requires c).After-value-value
 pub returns-in-Zeros : goal.returns-in-Zeros
 unfolding formed is_number
 returns-in-Zeros c =
-    let m = c in
-    let l = c in
-    let f = m.in-Zeros.is in
+    let f = c.in-Zeros.is in
     let d = digits (goal.at.returns-in-Zeros c).After-value-value f refl in
-    let e = number_plain 48 l.args.c.width l.value-value.result d.0 (omega (arith, d.1)) in
+    let e = number_plain 48 c.args.c.width c.value-value.result d.0 (omega (arith, d.1)) in
     rw (written (goal.at.returns-in-Zeros c).After-value-value f, e) c.put_number.ensures
 
 pub returns-in-Blanks : goal.returns-in-Blanks
 unfolding formed is_number
 returns-in-Blanks c =
-    let m = c in
-    let l = c in
-    let f = m.in-Blanks.is in
+    let f = c.in-Blanks.is in
     let d = digits (goal.at.returns-in-Blanks c).After-value-value f refl in
-    let e = number_plain 32 l.args.c.width l.value-value.result d.0 (omega (arith, d.1)) in
+    let e = number_plain 32 c.args.c.width c.value-value.result d.0 (omega (arith, d.1)) in
     rw (written (goal.at.returns-in-Blanks c).After-value-value f, e) c.put_number-in-Blanks.ensures
 
 pub returns-in-FromSunday : goal.returns-in-FromSunday
 unfolding formed is_number
 returns-in-FromSunday c =
-    let m = c in
-    let l = c in
-    let f = m.in-FromSunday.is in
+    let f = c.in-FromSunday.is in
     let d = digits (goal.at.returns-in-FromSunday c).After-value-value f refl in
-    let e = number_plain 48 l.args.c.width (l.value-value.result % 7) d.0 (omega (arith, d.1)) in
+    let e = number_plain 48 c.args.c.width (c.value-value.result % 7) d.0 (omega (arith, d.1)) in
     rw (written (goal.at.returns-in-FromSunday c).After-value-value f, e) c.put_number-in-FromSunday.ensures
 
 pub returns-in-Short : goal.returns-in-Short
 unfolding formed
 returns-in-Short c =
-    let l = c in
-    rw (written (goal.at.returns-in-Short c).After-value-value l.in-Short.is, name_plain _ _) c.put_short.ensures
+    rw (written (goal.at.returns-in-Short c).After-value-value c.in-Short.is, name_plain _ _) c.put_short.ensures
 
 pub returns-in-Full : goal.returns-in-Full
 unfolding formed
 returns-in-Full c =
-    let l = c in
-    rw (written (goal.at.returns-in-Full c).After-value-value l.in-Full.is, name_plain _ _) c.put_full.ensures
+    rw (written (goal.at.returns-in-Full c).After-value-value c.in-Full.is, name_plain _ _) c.put_full.ensures
 
 pub returns-in-Lower : goal.returns-in-Lower
 unfolding formed
 returns-in-Lower c =
-    let l = c in
-    rw (written (goal.at.returns-in-Lower c).After-value-value l.in-Lower.is, name_plain _ _) c.put_full-in-Lower.ensures
+    rw (written (goal.at.returns-in-Lower c).After-value-value c.in-Lower.is, name_plain _ _) c.put_full-in-Lower.ensures
 
 pub returns-in-Zone : goal.returns-in-Zone
 unfolding formed
 returns-in-Zone c =
-    let l = c in
-    rw (written (goal.at.returns-in-Zone c).After-value-value l.in-Zone.is) c.put_zone.ensures
+    rw (written (goal.at.returns-in-Zone c).After-value-value c.in-Zone.is) c.put_zone.ensures
 
 pub returns-in-Seconds : goal.returns-in-Seconds
 unfolding formed
 returns-in-Seconds c =
-    let l = c in
-    rw (written (goal.at.returns-in-Seconds c).After-value-value l.in-Seconds.is) c.put_seconds.ensures
+    rw (written (goal.at.returns-in-Seconds c).After-value-value c.in-Seconds.is) c.put_seconds.ensures
 
 pub returns-in-Unknown : goal.returns-in-Unknown
 unfolding formed
-returns-in-Unknown c = rw (written (goal.at.returns-in-Unknown c).After-value-value c.in-Unknown.is) record { ends = sym (add-zero _); stores = refl }
+returns-in-Unknown c =
+    rw (written (goal.at.returns-in-Unknown c).After-value-value c.in-Unknown.is)
+    record { ends = sym (add-zero _); stores = refl }

@@ -6,7 +6,6 @@ use Rattle.conversions.specs.Pieces.{unstyled}
 use Rattle.converted.specs.Converted.{converted}
 use Rattle.strftime.specs.Writing.{element}
 use Rattle.strftime.proofs.Lengths.{element_byte, element_plain, element_styled, has_room}
-use borrow.Author.Rules.{rules}
 use Rattle.strftime.proofs.putting.put_element.Goals as goal
 use Rattle.strftime.proofs.putting.put_element.Goals.{After-conversion_of, After-conversion_of-2}
 
@@ -23,8 +22,7 @@ styled-one c = element_styled _ _ (omega arith) c.conversion_of-2.ensures c.styl
 
 pub bounds-out-at : goal.bounds-out-at
 bounds-out-at c =
-    let s = c in
-    omega (arith, s.requires.e_in_bounds, ap length (element_byte s.args.moment s.args.e (omega arith)))
+    omega (arith, c.requires.e_in_bounds, ap length (element_byte c.args.moment c.args.e (omega arith)))
 
 pub returns-then-e-lt256 : goal.returns-then-e-lt256
 returns-then-e-lt256 c =
@@ -33,8 +31,10 @@ returns-then-e-lt256 c =
 
 pub put_converted-requires : goal.put_converted-requires
 put_converted-requires c =
-    let s = c in
-    record { moment_in_bounds = rw (plain_one c) at s.requires.e_in_bounds; has_room = rw c.conversion_of.ensures (has_room s.args.moment s.requires.moment _) }
+    record {
+      moment_in_bounds = rw (plain_one c) at c.requires.e_in_bounds;
+      has_room = rw c.conversion_of.ensures (has_room c.args.moment c.requires.moment _);
+    }
 
 pub returns-then-e-lt-PLAIN : goal.returns-then-e-lt-PLAIN
 returns-then-e-lt-PLAIN c = rw (plain_one (goal.at.returns-then-e-lt-PLAIN c).After-conversion_of) c.put_converted.ensures

@@ -1,7 +1,6 @@
 use Prim.Native.Nat.{◌-◌}
-use native.Mathlib.Omega.{arith}
 use lib.ListN.{length}
-use Rattle.strftime.proofs.Loops.{Putting, nothing_put, room, put_next, all_put}
+use Rattle.strftime.proofs.Loops.{Putting}
 use Rattle.strftime.proofs.putting.put_elements.Given as goal
 
 abbrev pub invariant-loop-done : goal.invariant-loop-done

@@ -1,7 +1,6 @@
 -- `strftime::putting::put_fill` meets its contract. The invariant: the rest of the fill, stored at the place reached, gives the whole.
-use Prim.Native.Nat.{◌-◌}
 use native.Mathlib.Omega.{arith}
-use Rattle.strftime.proofs.Parts.{Filling, fill_start, fill_next, fill_end}
+use Rattle.strftime.proofs.Parts.{fill_start, fill_next, fill_end}
 use Rattle.strftime.proofs.putting.put_fill.Goals as goal
 
 pub loop-k-init : goal.loop-k-init

@@ -1,6 +1,5 @@
 use Prim.Native.Nat.{◌-◌}
-use native.Mathlib.Omega.{arith}
-use Rattle.strftime.proofs.Parts.{Filling, fill_start, fill_next, fill_end}
+use Rattle.strftime.proofs.Parts.{Filling}
 use Rattle.strftime.proofs.putting.put_fill.Given as goal
 
 abbrev pub invariant-loop-k : goal.invariant-loop-k

@@ -1,7 +1,6 @@
 -- `strftime::putting::put_number` meets its contract.
 use mathlib.Core.Path.{refl}
 use Rattle.strftime.proofs.Parts.{puts_number}
-use borrow.Author.Rules.{rules}
 use Rattle.strftime.proofs.putting.put_number.Goals as goal
 
 pub returns : goal.returns

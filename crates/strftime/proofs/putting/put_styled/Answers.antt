@@ -6,7 +6,6 @@ use lib.ListN.{length}
 use Rattle.conversions.specs.declared.conversions.Form.{Form}
 use Rattle.converted.specs.Converted.{formed, converted}
 use Rattle.converted.proofs.Lengths.{by_form}
-use borrow.Author.Rules.{rules}
 use Rattle.strftime.proofs.putting.put_styled.Goals as goal
 use Rattle.strftime.proofs.putting.put_styled.Goals.{After-value-value}
 
@@ -54,51 +53,45 @@ put_seconds-requires c = room (goal.at.put_seconds-requires c).After-value-value
 pub returns-in-Zeros : goal.returns-in-Zeros
 unfolding formed
 returns-in-Zeros c =
-    let l = c in
-    rw (written (goal.at.returns-in-Zeros c).After-value-value l.in-Zeros.is) c.put_styled_number.ensures
+    rw (written (goal.at.returns-in-Zeros c).After-value-value c.in-Zeros.is) c.put_styled_number.ensures
 
 pub returns-in-Blanks : goal.returns-in-Blanks
 unfolding formed
 returns-in-Blanks c =
-    let l = c in
-    rw (written (goal.at.returns-in-Blanks c).After-value-value l.in-Blanks.is) c.put_styled_number-in-Blanks.ensures
+    rw (written (goal.at.returns-in-Blanks c).After-value-value c.in-Blanks.is) c.put_styled_number-in-Blanks.ensures
 
 pub returns-in-FromSunday : goal.returns-in-FromSunday
 unfolding formed
 returns-in-FromSunday c =
-    let l = c in
-    rw (written (goal.at.returns-in-FromSunday c).After-value-value l.in-FromSunday.is) c.put_styled_number-in-FromSunday.ensures
+    rw (written (goal.at.returns-in-FromSunday c).After-value-value c.in-FromSunday.is) c.put_styled_number-in-FromSunday.ensures
 
 pub returns-in-Short : goal.returns-in-Short
 unfolding formed
 returns-in-Short c =
-    let l = c in
-    rw (written (goal.at.returns-in-Short c).After-value-value l.in-Short.is) c.put_styled_short.ensures
+    rw (written (goal.at.returns-in-Short c).After-value-value c.in-Short.is) c.put_styled_short.ensures
 
 pub returns-in-Full : goal.returns-in-Full
 unfolding formed
 returns-in-Full c =
-    let l = c in
-    rw (written (goal.at.returns-in-Full c).After-value-value l.in-Full.is) c.put_styled_full.ensures
+    rw (written (goal.at.returns-in-Full c).After-value-value c.in-Full.is) c.put_styled_full.ensures
 
 pub returns-in-Lower : goal.returns-in-Lower
 unfolding formed
 returns-in-Lower c =
-    let l = c in
-    rw (written (goal.at.returns-in-Lower c).After-value-value l.in-Lower.is) c.put_styled_full-in-Lower.ensures
+    rw (written (goal.at.returns-in-Lower c).After-value-value c.in-Lower.is) c.put_styled_full-in-Lower.ensures
 
 pub returns-in-Zone : goal.returns-in-Zone
 unfolding formed
 returns-in-Zone c =
-    let l = c in
-    rw (written (goal.at.returns-in-Zone c).After-value-value l.in-Zone.is) c.put_zone.ensures
+    rw (written (goal.at.returns-in-Zone c).After-value-value c.in-Zone.is) c.put_zone.ensures
 
 pub returns-in-Seconds : goal.returns-in-Seconds
 unfolding formed
 returns-in-Seconds c =
-    let l = c in
-    rw (written (goal.at.returns-in-Seconds c).After-value-value l.in-Seconds.is) c.put_seconds.ensures
+    rw (written (goal.at.returns-in-Seconds c).After-value-value c.in-Seconds.is) c.put_seconds.ensures
 
 pub returns-in-Unknown : goal.returns-in-Unknown
 unfolding formed
-returns-in-Unknown c = rw (written (goal.at.returns-in-Unknown c).After-value-value c.in-Unknown.is) record { ends = sym (add-zero _); stores = refl }
+returns-in-Unknown c =
+    rw (written (goal.at.returns-in-Unknown c).After-value-value c.in-Unknown.is)
+    record { ends = sym (add-zero _); stores = refl }

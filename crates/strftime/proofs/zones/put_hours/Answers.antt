@@ -1,7 +1,6 @@
 -- `strftime::zones::put_hours` meets its contract.
 use Prim.Native.Nat.{◌/◌}
 use native.Mathlib.Omega.{arith}
-use borrow.Author.Rules.{rules}
 use Rattle.laws.proofs.Stores.{then}
 use Rattle.text.proofs.ReadBack.{filled_length}
 use Rattle.converted.specs.Zones.{hours_minutes}
@@ -10,9 +9,8 @@ use Rattle.strftime.proofs.zones.put_hours.Goals as goal
 
 pub put_number-requires : goal.put_number-requires
 put_number-requires c =
-    let s = c in
     let p = c.put_number-middle.ensures in
-    omega (arith, p.ends, kept p, filled_length 48 2 (s.args.minutes / 60), s.requires.at_in_bounds)
+    omega (arith, p.ends, kept p, filled_length 48 2 (c.args.minutes / 60), c.requires.at_in_bounds)
 
 pub returns : goal.returns
 unfolding hours_minutes

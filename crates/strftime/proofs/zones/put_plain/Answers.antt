@@ -1,9 +1,7 @@
 -- `strftime::zones::put_plain` meets its contract.
-use borrow.Author.Rules.{rules}
 use Rattle.text.proofs.Fill.{plain_places}
 use Rattle.strftime.proofs.zones.put_plain.Goals as goal
 
 pub returns : goal.returns
 returns c =
-    let d = c in
-    rw (d.digit_count.ensures, plain_places) at c.put_number.ensures
+    rw (c.digit_count.ensures, plain_places) at c.put_number.ensures

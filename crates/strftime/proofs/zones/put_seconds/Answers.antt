@@ -2,18 +2,15 @@
 use mathlib.Core.Path.{refl, sym, ap}
 use native.Mathlib.Nat.{add-zero}
 use native.Mathlib.Omega.{arith}
-use borrow.Author.Rules.{rules}
 use lib.ListN.{length}
 use Rattle.converted.proofs.Offsets.{epoch_unsaid, epoch_said, still_small}
 use Rattle.strftime.proofs.zones.put_seconds.Goals as goal
 
 pub put_whole-requires : goal.put_whole-requires
 put_whole-requires c =
-    let o = c in
-    let s = c in
     let r = c.seconds.ensures in
-    let e = epoch_said s.args.moment o.in-Minutes.is c.in-Minutes.known_told-1-own.given.0.1 r.value r.small in
-    record { z_bound = still_small c.seconds.result r.small; z_in_bounds = omega (arith, s.requires, ap length e) }
+    let e = epoch_said c.args.moment c.in-Minutes.is (omega arith) r.value r.small in
+    record { z_bound = still_small c.seconds.result r.small; z_in_bounds = omega (arith, c.requires, ap length e) }
 
 pub returns-in-Unsaid : goal.returns-in-Unsaid
 returns-in-Unsaid c =
@@ -22,9 +19,6 @@ returns-in-Unsaid c =
 
 pub returns-in-Minutes : goal.returns-in-Minutes
 returns-in-Minutes c =
-    let a = c in
-    let o = c in
-    let s = c in
-    let r = a.seconds.ensures in
-    rw (epoch_said s.args.moment o.in-Minutes.is a.in-Minutes.known_told-1-own.given.0.1 r.value r.small)
+    let r = c.seconds.ensures in
+    rw (epoch_said c.args.moment c.in-Minutes.is (omega arith) r.value r.small)
     c.put_whole.ensures

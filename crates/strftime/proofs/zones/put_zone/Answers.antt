@@ -10,14 +10,16 @@ use Rattle.converted.proofs.Offsets.{zone_unsaid, zone_said}
 use Rattle.strftime.proofs.zones.put_zone.Goals as goal
 
 pub overflow_cast-minutes : goal.overflow_cast-minutes
-overflow_cast-minutes c = fits (widened c.in-Minutes.minutes c.in-Minutes.known_told-1-own.given.0.1) (lit< tt)
+overflow_cast-minutes c = fits (widened c.in-Minutes.minutes (search rules)) (lit< tt)
 
 pub put_east-requires : goal.put_east-requires
 put_east-requires c =
-    let o = c in
-    let s = c in
-    let n = kept (widened o.in-Minutes.minutes c.in-Minutes.known_told-1-own.given.0.1) (lit< tt) in
-    rw n.same (record { minutes_bound = omega (arith, n.most); minutes_in_bounds = omega (arith, s.requires, ap length (zone_said s.args.moment o.in-Minutes.is)) })
+    let n = kept (widened c.in-Minutes.minutes (search rules)) (lit< tt) in
+    rw n.same
+    (record {
+      minutes_bound = omega (arith, n.most);
+      minutes_in_bounds = omega (arith, c.requires, ap length (zone_said c.args.moment c.in-Minutes.is));
+    })
 
 pub returns-in-Unsaid : goal.returns-in-Unsaid
 returns-in-Unsaid c =
@@ -26,8 +28,5 @@ returns-in-Unsaid c =
 
 pub returns-in-Minutes : goal.returns-in-Minutes
 returns-in-Minutes c =
-    let a = c in
-    let o = c in
-    let s = c in
-    let n = kept (widened o.in-Minutes.minutes a.in-Minutes.known_told-1-own.given.0.1) (lit< tt) in
-    rw (zone_said s.args.moment o.in-Minutes.is) (rw n.same at c.put_east.ensures)
+    let n = kept (widened c.in-Minutes.minutes (search rules)) (lit< tt) in
+    rw (zone_said c.args.moment c.in-Minutes.is) (rw n.same at c.put_east.ensures)
