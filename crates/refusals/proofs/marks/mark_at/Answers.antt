@@ -1,0 +1,13 @@
+-- `refusals::marks::mark_at` meets its contract. Assumes nothing.
+use mathlib.Core.Path.{sym, ◌∙◌}
+use Rattle.refusals.specs.Marks.{mark_at}
+use borrow.Author.Rules.{rules}
+use Rattle.refusals.proofs.marks.mark_at.Goals as goal
+
+pub returns-then-is_marked : goal.returns-then-is_marked
+unfolding mark_at
+returns-then-is_marked c = rw (sym c.is_marked.ensures ∙ c.if-is_marked.true)
+
+pub returns : goal.returns
+unfolding mark_at
+returns c = rw (sym c.is_marked.ensures ∙ c.if-is_marked.false)

@@ -1,0 +1,14 @@
+-- `refusals::sentences::put_mismatch` meets its contract. Assumes nothing.
+use borrow.Author.Tests.{lt-ltb, le-ltb}
+use Rattle.laws.specs.Bytes.{bytes}
+use Rattle.refusals.specs.Sentences.{mismatch}
+use borrow.Author.Rules.{rules}
+use Rattle.refusals.proofs.sentences.put_mismatch.Goals as goal
+
+pub returns-then-place-text : goal.returns-then-place-text
+unfolding mismatch bytes
+returns-then-place-text c = rw (lt-ltb _ _ c.if-place-text.true) c.put_bytes.ensures
+
+pub returns : goal.returns
+unfolding mismatch bytes
+returns c = rw (le-ltb _ _ c.if-place-text.false) c.put_bytes-2.ensures

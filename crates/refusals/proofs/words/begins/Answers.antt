@@ -1,0 +1,14 @@
+-- `refusals::words::begins` meets its contract. Assumes nothing.
+use borrow.Author.Tests.{eq-eqb, ne_eqb}
+use Rattle.matching.specs.Extents.{nowhere}
+use Rattle.refusals.specs.Words.{begins}
+use borrow.Author.Rules.{rules}
+use Rattle.refusals.proofs.words.begins.Goals as goal
+
+pub returns-then-extent-offset : goal.returns-then-extent-offset
+unfolding begins nowhere
+returns-then-extent-offset c = rw (ne_eqb _ _ c.if-extent-offset.true)
+
+pub returns : goal.returns
+unfolding begins nowhere
+returns c = rw (eq-eqb _ _ c.if-extent-offset.false)
