@@ -3,9 +3,7 @@
 use Prim.Native.Nat.{ℕ, zero, suc, ◌+◌}
 use mathlib.Core.List.{List, [], ◌∷◌}
 use mathlib.Core.Path.{◌≡◌, refl, ap}
-use denote.Enum.Declared.{tag_of}
 use lib.ListN.{get_or, replicate}
-use types.Run.{OneOf, miss}
 use Rattle.conversions.specs.Conversions.{among}
 use Rattle.kinds.specs.Kinds.{kinds}
 use Rattle.lists.specs.Putting.{each}
@@ -17,7 +15,6 @@ use Rattle.strptime.specs.declared.Answer.{Answer}
 use Rattle.strptime.specs.declared.Answer.TheVariants.{Done, FormatTooLong, TextTooLong, BadConversion}
 use Rattle.strptime.specs.declared.Answer.TheVariants.{NoMatch, OutOfRange, Contradiction}
 use Rattle.strptime.specs.declared.Answer.TheVariants.{NoDay, NoHour, OpenDay, OpenHour, OverBudget}
-use Rattle.strptime.specs.contracts.Answer.{the_type}
 use Rattle.refusals.specs.Marks.{marked, covers, is_marked, last_mark, mark_at, marks_to, marks_line}
 use Rattle.refusals.proofs.Over.{some_alike, most_alike}
 
@@ -51,18 +48,21 @@ module _ (xs ys : List Extent) (e : (k : ℕ) → get_or xs k nowhere ≡ get_or
   same_line = rw (same-last, same-marks (last_mark ys))
 
 -- ---- answers whose place is not marked
-pub by_words : (r : Answer) (words : List Extent) → OneOf (0 ∷ 1 ∷ 2 ∷ 3 ∷ 7 ∷ 8 ∷ 9 ∷ 10 ∷ 11 ∷ []) (tag_of the_type r)
+pub by_words : (r : Answer) (words : List Extent)
+    → ((p : ℕ) → r ≡ NoMatch p → ⊥)
+    → ((p : ℕ) → r ≡ OutOfRange p → ⊥)
+    → ((p : ℕ) → r ≡ Contradiction p → ⊥)
     → marked (reading_of r) words ≡ words
 unfolding marked reader.computes among
-by_words (Done p d h m s o fs n) w k = refl
-by_words FormatTooLong w k = refl
-by_words TextTooLong w k = refl
-by_words (BadConversion p) w k = refl
-by_words (NoMatch p) w k = absurd (miss (0 ∷ 1 ∷ 2 ∷ 3 ∷ 7 ∷ 8 ∷ 9 ∷ 10 ∷ 11 ∷ []) 4 tt k)
-by_words (OutOfRange p) w k = absurd (miss (0 ∷ 1 ∷ 2 ∷ 3 ∷ 7 ∷ 8 ∷ 9 ∷ 10 ∷ 11 ∷ []) 5 tt k)
-by_words (Contradiction p) w k = absurd (miss (0 ∷ 1 ∷ 2 ∷ 3 ∷ 7 ∷ 8 ∷ 9 ∷ 10 ∷ 11 ∷ []) 6 tt k)
-by_words (OverBudget b) w k = refl
-by_words (NoDay n) w k = refl
-by_words (NoHour n) w k = refl
-by_words (OpenDay a b n) w k = refl
-by_words (OpenHour a b n) w k = refl
+by_words (Done p d h m s o fs n) words no0 no1 no2 = refl
+by_words FormatTooLong words no0 no1 no2 = refl
+by_words TextTooLong words no0 no1 no2 = refl
+by_words (BadConversion p) words no0 no1 no2 = refl
+by_words (NoMatch p) words no0 no1 no2 = absurd (no0 p refl)
+by_words (OutOfRange p) words no0 no1 no2 = absurd (no1 p refl)
+by_words (Contradiction p) words no0 no1 no2 = absurd (no2 p refl)
+by_words (OverBudget b) words no0 no1 no2 = refl
+by_words (NoDay n) words no0 no1 no2 = refl
+by_words (NoHour n) words no0 no1 no2 = refl
+by_words (OpenDay a b n) words no0 no1 no2 = refl
+by_words (OpenHour a b n) words no0 no1 no2 = refl

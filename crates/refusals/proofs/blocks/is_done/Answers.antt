@@ -9,4 +9,4 @@ unfolding reader.computes
 returns-in-Done c = rw c.in-Done.is
 
 pub returns-in_default : goal.returns-in_default
-returns-in_default c = not_done c.args.answer c.in_default.in_default-own.keys2
+returns-in_default c = not_done c.args.answer c.in_default.not-Done

@@ -33,6 +33,3 @@ returns c =
 
 pub shape_of-out : goal.shape_of-out
 shape_of-out c = kept_length (returns c)
-
-pub returns : goal.returns
-returns c = returns c

@@ -45,4 +45,4 @@ returns-in-Contradiction c =
 pub returns-in_default : goal.returns-in_default
 returns-in_default c =
     let m = c in
-    rw (by_words m.args.answer _ m.in_default.in_default-own.keys4) c.put_marks_line-in_default.ensures
+    rw (by_words m.args.answer _ c.in_default.not-NoMatch c.in_default.not-OutOfRange c.in_default.not-Contradiction) c.put_marks_line-in_default.ensures

@@ -21,10 +21,10 @@ returns-then-not-begins c =
 -- the words are some
 begun : (c : Else-not-begins) →
     let a = c.args in
-    (get_or a.t4 a.kind nowhere).from < (get_or a.t4 a.kind nowhere).next
+    (get_or a.words a.kind nowhere).from < (get_or a.words a.kind nowhere).next
 begun c =
     let a = c.args in
-    some_words a.t4 a.offset a.kind (sym c.begins.ensures ∙ not-false _ c.if-not-begins.false-raw)
+    some_words a.words a.offset a.kind (sym c.begins.ensures ∙ not-false _ c.if-not-begins.false-raw)
 
 pub slice_bounds-put_phrase-count : goal.slice_bounds-put_phrase-count
 unfolding nowhere

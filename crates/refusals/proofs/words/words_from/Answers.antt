@@ -18,7 +18,7 @@ pub counted-count-requires : goal.counted-count-requires
 counted-count-requires c =
     let a = c.args in
     let l = c.loop-kind in
-    omega (arith, l.invariant.1, tally_most (λ k. begins_from (get_or a.t1 k nowhere) a.offset) l.kind)
+    omega (arith, l.invariant.1, tally_most (λ k. begins_from (get_or a.words k nowhere) a.offset) l.kind)
 
 pub loop-kind-preserved : goal.loop-kind-preserved
 unfolding nowhere

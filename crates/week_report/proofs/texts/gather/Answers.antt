@@ -46,7 +46,7 @@ take_text-n-requires c =
     let at-loop = c in
     let start = c in
     let v = at-loop.loop-next.invariant in
-    let p = start.requires in record { n_bound = (omega (arith, v.ahead, p.0), rw (read (goal.at.take_text-n-requires c).After-reading_of) (read_below _ _ _)); counts_len = (v.long ∙ p.1.0, omega (arith, v.ahead, p.0)) }
+    let p = start.requires in record { n_bound = (omega (arith, v.ahead, p.input_len_bound), rw (read (goal.at.take_text-n-requires c).After-reading_of) (read_below _ _ _)); counts_len = (v.long ∙ p.counts_len.0, omega (arith, v.ahead, p.input_len_bound)) }
 
 pub overflow_add-next : goal.overflow_add-next
 overflow_add-next c =

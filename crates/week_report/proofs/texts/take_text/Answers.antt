@@ -12,7 +12,7 @@ count_number-requires c =
     let start = c in
     let given = sym given-by-then.given_by.ensures ∙ number-then.in-Out.is in
     let p = start.requires in
-    (omega (arith, number_below start.args.reading p.0.1 given, p.1.0), p.1.1)
+    (omega (arith, number_below start.args.reading p.n_bound.1 given, p.counts_len.0), p.counts_len.1)
 
 pub returns-in-Sheet : goal.returns-in-Sheet
 returns-in-Sheet c =
