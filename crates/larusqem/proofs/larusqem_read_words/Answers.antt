@@ -1,0 +1,19 @@
+-- `larusqem::larusqem_read_words` meets its contract: the reader's answer, whose place fits 32 bits.
+use mathlib.Core.Path.{ap, ◌∙◌}
+use native.Mathlib.Omega.{arith}
+use Rattle.strptime.proofs.Places.{elements_place_fits}
+use Rattle.larusqem.specs.Packed.{packed_reading}
+use Rattle.larusqem.specs.Words.{words_of}
+use borrow.Author.Rules.{rules}
+use Rattle.larusqem.proofs.Ways.{budget_fits}
+use Rattle.larusqem.proofs.larusqem_read_words.Goals as goal
+
+pub tell-requires : goal.tell-requires
+tell-requires c =
+    let d = c in
+    rw (c.read_elements.ensures, d.engine_of.ensures) (elements_place_fits _ (budget_fits _ _ (omega arith)) _ _)
+
+pub returns : goal.returns
+returns c =
+    let r = rw c.engine_of.ensures at c.read_elements.ensures in
+    record { value = c.tell.ensures.value ∙ ap packed_reading r; words_after = c.tell.ensures.words_after ∙ ap words_of r }

@@ -1,0 +1,18 @@
+use Prim.Native.Nat.{◌+◌, ◌-◌, ◌*◌, ◌≤◌}
+use mathlib.Core.List.{◌∷◌}
+use mathlib.Core.Path.{◌≡◌, refl, sym, ◌∙◌}
+use native.Mathlib.Omega.{arith}
+use lib.Seq.{sets}
+use Rattle.laws.specs.Lists.{range}
+use Rattle.matching.specs.Extents.{nowhere}
+use Rattle.larusqem_reasons.specs.Reasons.{told, extent_words}
+use Rattle.larusqem_reasons.proofs.Extents.{tell_more, tell_done}
+use Rattle.larusqem_reasons.proofs.extent_words.Given as goal
+
+abbrev pub invariant-loop-kind : goal.invariant-loop-kind
+invariant-loop-kind l =
+    (l.kind ≤ told)
+    × (sets l.words (2 * l.kind + 1) (extent_words l.extents (range l.kind (told - l.kind))) ≡ 0 ∷ extent_words l.extents (range 0 told))
+
+abbrev pub decreases-loop-kind : goal.decreases-loop-kind
+decreases-loop-kind l = told - l.kind

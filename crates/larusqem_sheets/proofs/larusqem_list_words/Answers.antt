@@ -1,0 +1,16 @@
+-- `larusqem_sheets::larusqem_list_words` meets its contract. Assumes nothing.
+use Rattle.larusqem_sheets.specs.Sheets.{judged}
+use borrow.Author.Rules.{rules}
+use Rattle.larusqem_sheets.proofs.larusqem_list_words.Goals as goal
+
+pub returns-then-is_held : goal.returns-then-is_held
+unfolding judged
+returns-then-is_held c =
+    let h = c in
+    rw (← h.wide.ensures.0, ← h.wide-2.ensures.0, ← h.is_held.ensures, c.if-is_held.true)
+
+pub returns : goal.returns
+unfolding judged
+returns c =
+    let h = c in
+    rw (← h.wide.ensures.0, ← h.wide-2.ensures.0, ← h.is_held.ensures, c.if-is_held.false)
