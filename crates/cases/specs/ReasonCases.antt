@@ -10,10 +10,8 @@ use Rattle.judge.specs.declared.Engine.TheVariants.{Skipping, Within}
 use Rattle.kinds.specs.Kinds.{year, month, day, weekday, hour, hour_of_twelve, half_of_day}
 use Rattle.laws.specs.Bytes.{bytes}
 use Rattle.matching.specs.Extents.{nowhere, first_said}
-use Rattle.matching.specs.declared.extents.Extent.{Extent}
 use Rattle.reasons.specs.Reasons.{explained_by}
 use Rattle.reasons.specs.declared.About.TheVariants.{Day as TheDay, Hour as TheHour}
-use Rattle.reasons.specs.declared.Explained.{Explained}
 use Rattle.reasons.specs.declared.Part.TheVariants.{Year, Month, Day}
 use Rattle.reasons.specs.declared.Reason.{Reason}
 use Rattle.reasons.specs.declared.Reason.TheVariants.{NoReason, Quarrel, Differ, Hours}

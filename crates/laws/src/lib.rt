@@ -1,3 +1,2 @@
 // Laws that the proofs of several crates cite; no code.
 #![tactic(auto)]
-

@@ -1,7 +1,7 @@
 -- The answers that have no reason, and the reasons that name no words.
 -- Assumes nothing.
 use Prim.Native.Nat.{ℕ}
-use mathlib.Core.List.{List, [], ◌∷◌}
+use mathlib.Core.List.{List}
 use mathlib.Core.Path.{◌≡◌, refl}
 use Rattle.strptime.specs.Answers as reader
 use Rattle.strptime.specs.Answers.{reading_of}

@@ -1,6 +1,5 @@
 -- `calendar::count_after` meets its contract. Assumes nothing.
 use native.Mathlib.Omega.{arith}
-use borrow.Author.Rules.{rules}
 use Rattle.calendar.proofs.Weeks.{count_by_past}
 use Rattle.calendar.proofs.count_after.Goals as goal
 

@@ -5,7 +5,6 @@ use native.Mathlib.Omega.{arith}
 use borrow.Author.Tests.{le-leb, lt-leb}
 use Rattle.calendar.specs.Calendar.{sum}
 use Rattle.calendar.proofs.Months.{month_start_lem, month_sum_past, year_months}
-use borrow.Author.Rules.{rules}
 use Rattle.calendar.proofs.days_before_month.Goals as goal
 
 pub returns-then-month-lt1 : goal.returns-then-month-lt1

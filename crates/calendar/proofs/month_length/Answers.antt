@@ -1,6 +1,5 @@
 -- `calendar::month_length` meets its contract. Assumes nothing.
 use mathlib.Core.Path.{sym}
-use borrow.Author.Rules.{rules}
 use borrow.Author.Tests.{ne_eqb}
 use Rattle.calendar.specs.Calendar.{month_length, month_lengths}
 use Rattle.calendar.proofs.Months.{no_month}

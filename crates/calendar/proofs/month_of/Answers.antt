@@ -2,7 +2,6 @@
 use Prim.Native.Nat.{suc, ◌+◌, ◌-◌, ◌/◌, ◌≤◌, ◌<◌}
 use mathlib.Core.Path.{◌≡◌, ap}
 use native.Mathlib.Omega.{arith}
-use borrow.Author.Rules.{rules}
 use Rattle.calendar.specs.Calendar.{sum, month_length}
 use Rattle.calendar.proofs.Months.{month_right, month_short}
 use Rattle.calendar.proofs.month_of.Goals as goal

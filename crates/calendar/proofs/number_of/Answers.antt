@@ -1,7 +1,6 @@
 -- `calendar::number_of` meets its contract. Assumes nothing.
 use Prim.Native.Nat.{◌-◌}
 use native.Mathlib.Omega.{arith}
-use borrow.Author.Rules.{rules}
 use Rattle.calendar.specs.Calendar.{day_of_year, day_number}
 use Rattle.calendar.proofs.Months.{months_small}
 use Rattle.calendar.proofs.Weeks.{number_small}

@@ -1,6 +1,5 @@
 -- `calendar::thursday_of` meets its contract. Assumes nothing.
 use native.Mathlib.Omega.{arith}
-use borrow.Author.Rules.{rules}
 use Rattle.calendar.specs.Calendar.{thursday}
 use Rattle.calendar.proofs.thursday_of.Goals as goal
 

@@ -1,5 +1,4 @@
 -- `calendar::year_length` meets its contract. Assumes nothing.
-use borrow.Author.Rules.{rules}
 use Rattle.calendar.specs.Calendar.{year_length}
 use Rattle.calendar.proofs.year_length.Goals as goal
 

@@ -1,7 +1,6 @@
 -- `calendar::year_near` meets its contract. Assumes nothing.
 use mathlib.Core.Path.{sym}
 use native.Mathlib.Omega.{arith}
-use borrow.Author.Rules.{rules}
 use Rattle.calendar.proofs.Years.{year_within}
 use Rattle.calendar.proofs.year_near.Goals as goal
 

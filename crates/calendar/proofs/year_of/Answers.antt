@@ -2,7 +2,6 @@
 use Prim.Native.Nat.{suc, ◌+◌, ◌-◌, ◌*◌, ◌/◌}
 use mathlib.Core.Path.{refl}
 use native.Mathlib.Omega.{arith}
-use borrow.Author.Rules.{rules}
 use lib.Dec.{lit<}
 use Rattle.calendar.specs.Calendar.{year_of, period_of}
 use Rattle.calendar.proofs.Years.{guess_right, guess_short, days_before_is}

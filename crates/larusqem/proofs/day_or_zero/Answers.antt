@@ -1,5 +1,4 @@
 -- `larusqem::day_or_zero` meets its contract, by cases.
-use borrow.Author.Rules.{rules}
 use Rattle.larusqem.proofs.day_or_zero.Goals as goal
 
 pub returns-in-NoDate : goal.returns-in-NoDate

@@ -1,5 +1,4 @@
 -- `larusqem::fields_of` meets its contract.
-use borrow.Author.Rules.{rules}
 use Rattle.larusqem.proofs.fields_of.Goals as goal
 
 pub returns : goal.returns

@@ -1,7 +1,6 @@
 -- `larusqem::finish` meets its contract, word by word.
 use Rattle.strptime.specs.Answers.{finished, naming, examining}
 use Rattle.larusqem.specs.Words.{more, words_of}
-use borrow.Author.Rules.{rules}
 use Rattle.larusqem.proofs.finish.Goals as goal
 
 pub returns : goal.returns

@@ -1,7 +1,6 @@
 -- `larusqem::larusqem_date_word` meets its contract, by cases of what the number gives.
 use mathlib.Core.Path.{sym, ap, ◌∙◌}
 use Rattle.larusqem.specs.Dates.{date_word}
-use borrow.Author.Rules.{rules}
 use Rattle.larusqem.proofs.larusqem_date_word.Goals as goal
 
 pub returns-in-Day : goal.returns-in-Day

@@ -2,7 +2,6 @@
 use mathlib.Core.Path.{sym, ap, ◌∙◌}
 use Rattle.values.specs.Values.{day_number_of}
 use Rattle.larusqem.specs.Dates.{value_from}
-use borrow.Author.Rules.{rules}
 use Rattle.larusqem.proofs.larusqem_day_number.Goals as goal
 
 pub returns-in-Valid : goal.returns-in-Valid

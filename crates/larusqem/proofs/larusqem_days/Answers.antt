@@ -2,7 +2,6 @@
 use Rattle.calendar.specs.Dates.{ends}
 use mathlib.Core.Path.{ap}
 use Rattle.calendar.specs.declared.Ends.{Ends}
-use borrow.Author.Rules.{rules}
 use Rattle.larusqem.proofs.larusqem_days.Goals as goal
 
 pub returns : goal.returns

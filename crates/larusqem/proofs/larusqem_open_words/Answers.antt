@@ -2,7 +2,6 @@
 use native.Mathlib.Omega.{arith}
 use Rattle.format.proofs.Openings.{opened_done, opened_bad}
 use Rattle.larusqem.proofs.Ways.{all_fit, too_many, too_long_lem, bad_conversion_lem}
-use borrow.Author.Rules.{rules}
 use Rattle.larusqem.proofs.larusqem_open_words.Goals as goal
 
 pub packed-requires : goal.packed-requires

@@ -4,7 +4,6 @@ use native.Mathlib.Omega.{arith}
 use Rattle.strptime.proofs.Places.{place_fits}
 use Rattle.larusqem.specs.Packed.{packed_reading}
 use Rattle.larusqem.specs.Words.{words_of}
-use borrow.Author.Rules.{rules}
 use Rattle.larusqem.proofs.Ways.{budget_fits}
 use Rattle.larusqem.proofs.larusqem_strptime_words.Goals as goal
 

@@ -2,7 +2,6 @@
 use mathlib.Core.Path.{ap, ◌∙◌}
 use Rattle.strftime.proofs.Places.{elements_place}
 use Rattle.larusqem.specs.Packed.{packed_writing}
-use borrow.Author.Rules.{rules}
 use Rattle.larusqem.proofs.larusqem_write_words.Goals as goal
 
 pub packed_writing-requires : goal.packed_writing-requires

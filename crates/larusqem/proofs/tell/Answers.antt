@@ -1,6 +1,5 @@
 -- `larusqem::tell` meets its contract, by cases of the answer.
 use Rattle.strptime.specs.Answers.{showing, refused, finished, naming, examining, over_budget, reading_of}
-use borrow.Author.Rules.{rules}
 use Rattle.larusqem.proofs.tell.Goals as goal
 
 pub finish-requires : goal.finish-requires

@@ -2,7 +2,6 @@
 use mathlib.Core.Path.{sym, ap, ◌∙◌}
 use Rattle.values.specs.Values.{date_value}
 use Rattle.larusqem.specs.Dates.{value_from}
-use borrow.Author.Rules.{rules}
 use Rattle.larusqem.proofs.value_from.Goals as goal
 
 pub returns-in-Valid : goal.returns-in-Valid

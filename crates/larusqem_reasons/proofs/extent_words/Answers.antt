@@ -1,12 +1,9 @@
 -- `larusqem_reasons::extent_words` meets its contract. Assumes nothing.
-use Prim.Native.Nat.{◌+◌, ◌-◌, ◌*◌, ◌≤◌}
-use mathlib.Core.List.{◌∷◌}
-use mathlib.Core.Path.{◌≡◌, refl, sym, ◌∙◌}
+use mathlib.Core.Path.{refl, sym, ◌∙◌}
 use native.Mathlib.Omega.{arith}
-use lib.Seq.{sets}
 use Rattle.laws.specs.Lists.{range}
 use Rattle.matching.specs.Extents.{nowhere}
-use Rattle.larusqem_reasons.specs.Reasons.{told, extent_words}
+use Rattle.larusqem_reasons.specs.Reasons.{extent_words}
 use Rattle.larusqem_reasons.proofs.Extents.{tell_more, tell_done}
 use Rattle.larusqem_reasons.proofs.extent_words.Goals as goal
 

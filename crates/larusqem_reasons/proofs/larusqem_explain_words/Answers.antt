@@ -1,7 +1,6 @@
 -- `larusqem_reasons::larusqem_explain_words` meets its contract. Assumes nothing.
 use mathlib.Core.Path.{◌∙◌}
 use Rattle.reasons.proofs.Places.{explained_fits}
-use borrow.Author.Rules.{rules}
 use Rattle.larusqem_reasons.proofs.larusqem_explain_words.Goals as goal
 
 pub reason_words-requires : goal.reason_words-requires

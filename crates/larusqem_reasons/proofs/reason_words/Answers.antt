@@ -1,6 +1,5 @@
 -- `larusqem_reasons::reason_words` meets its contract. Assumes nothing.
 use Rattle.larusqem_reasons.specs.Reasons.{reason_words}
-use borrow.Author.Rules.{rules}
 use Rattle.larusqem_reasons.proofs.reason_words.Goals as goal
 
 pub returns : goal.returns

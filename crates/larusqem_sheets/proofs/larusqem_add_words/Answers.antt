@@ -1,6 +1,5 @@
 -- `larusqem_sheets::larusqem_add_words` meets its contract. Assumes nothing.
 use Rattle.larusqem_sheets.proofs.Counts.{count_small, weeks_small, index_small, told}
-use borrow.Author.Rules.{rules}
 use Rattle.larusqem_sheets.proofs.larusqem_add_words.Goals as goal
 
 pub overflow_cast-counts : goal.overflow_cast-counts

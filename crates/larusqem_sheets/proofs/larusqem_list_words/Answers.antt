@@ -1,6 +1,5 @@
 -- `larusqem_sheets::larusqem_list_words` meets its contract. Assumes nothing.
 use Rattle.larusqem_sheets.specs.Sheets.{judged}
-use borrow.Author.Rules.{rules}
 use Rattle.larusqem_sheets.proofs.larusqem_list_words.Goals as goal
 
 pub returns-then-is_held : goal.returns-then-is_held

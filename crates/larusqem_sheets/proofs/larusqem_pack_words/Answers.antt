@@ -2,7 +2,6 @@
 use Rattle.larusqem_sheets.specs.Sheets.{packed_number, packed_word}
 use Rattle.sheets.specs.Sheets.{packing}
 use mathlib.Core.Path.{refl, sym, ap, ◌∙◌}
-use borrow.Author.Rules.{rules}
 use Rattle.larusqem_sheets.proofs.larusqem_pack_words.Goals as goal
 
 pub returns-in-Word : goal.returns-in-Word

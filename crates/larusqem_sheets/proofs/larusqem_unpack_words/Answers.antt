@@ -1,7 +1,6 @@
 -- `larusqem_sheets::larusqem_unpack_words` meets its contract. Assumes nothing.
 use Rattle.larusqem_sheets.specs.Sheets.{unpacked_number, unpacked_words}
 use mathlib.Core.Path.{refl, sym, ◌∙◌}
-use borrow.Author.Rules.{rules}
 use Rattle.larusqem_sheets.proofs.larusqem_unpack_words.Goals as goal
 
 pub returns-in-Holds : goal.returns-in-Holds

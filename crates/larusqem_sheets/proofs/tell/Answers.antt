@@ -1,6 +1,5 @@
 -- `larusqem_sheets::tell` meets its contract. Assumes nothing.
 use Rattle.larusqem_sheets.specs.Sheets.{words_of}
-use borrow.Author.Rules.{rules}
 use Rattle.larusqem_sheets.proofs.tell.Goals as goal
 
 pub returns : goal.returns

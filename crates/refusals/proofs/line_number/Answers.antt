@@ -1,8 +1,6 @@
 -- `refusals::line_number` meets its contract. Assumes nothing.
-use Prim.Native.Nat.{◌-◌, ◌≤◌}
 use mathlib.Core.Path.{◌≡◌, sym, ◌∙◌}
 use native.Mathlib.Omega.{arith}
-use Rattle.refusals.specs.Blocks.{line_number}
 use Rattle.refusals.proofs.Numbering.{first_number, number_most, next_byte, past_end}
 use Rattle.refusals.proofs.line_number.Goals as goal
 

@@ -1,8 +1,6 @@
 use Prim.Native.Nat.{◌-◌, ◌≤◌}
-use mathlib.Core.Path.{◌≡◌, sym, ◌∙◌}
-use native.Mathlib.Omega.{arith}
+use mathlib.Core.Path.{◌≡◌}
 use Rattle.refusals.specs.Blocks.{line_number}
-use Rattle.refusals.proofs.Numbering.{first_number, number_most, next_byte, past_end}
 use Rattle.refusals.proofs.line_number.Given as goal
 
 abbrev pub invariant-loop-i : goal.invariant-loop-i

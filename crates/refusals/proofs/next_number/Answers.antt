@@ -1,7 +1,6 @@
 -- `refusals::next_number` meets its contract. Assumes nothing.
 use native.Mathlib.Numerals.{add-one}
 use borrow.Author.Tests.{eq-eqb, ne_eqb}
-use borrow.Author.Rules.{rules}
 use Rattle.refusals.proofs.next_number.Goals as goal
 
 pub returns-then-b-eq10 : goal.returns-then-b-eq10

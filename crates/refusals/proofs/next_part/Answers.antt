@@ -3,7 +3,6 @@ use native.Mathlib.Omega.{arith}
 use lib.ListN.{length}
 use Rattle.lists.proofs.Puts.{part_start}
 use Rattle.refusals.proofs.Whole.{too_long_lem}
-use borrow.Author.Rules.{rules}
 use Rattle.refusals.proofs.next_part.Goals as goal
 
 pub returns-then-input-gt-LONGEST_INPUT : goal.returns-then-input-gt-LONGEST_INPUT

@@ -6,7 +6,7 @@ use native.Mathlib.Omega.{arith}
 use lib.ListN.{length, take, drop}
 use Rattle.lists.specs.Answers.{opened_reading}
 use Rattle.lists.proofs.Figures.{place_fits}
-use Rattle.lists.proofs.Listing.{Listing, list_start, list_next}
+use Rattle.lists.proofs.Listing.{list_start, list_next}
 use Rattle.lists.proofs.Splitting.{within}
 use Rattle.report.specs.Report.{lines_by}
 use Rattle.report.proofs.Figures.{line_short}

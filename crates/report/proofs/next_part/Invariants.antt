@@ -1,14 +1,7 @@
-use Prim.Native.Nat.{◌-◌, ◌≤◌}
-use mathlib.Core.Path.{◌≡◌, ◌∙◌}
-use native.Mathlib.Omega.{arith}
-use lib.ListN.{length, take, drop}
-use Rattle.lists.specs.Answers.{opened_reading}
-use Rattle.lists.proofs.Figures.{place_fits}
-use Rattle.lists.proofs.Listing.{Listing, list_start, list_next}
-use Rattle.lists.proofs.Splitting.{within}
+use Prim.Native.Nat.{◌-◌}
+use lib.ListN.{length}
+use Rattle.lists.proofs.Listing.{Listing}
 use Rattle.report.specs.Report.{lines_by}
-use Rattle.report.proofs.Figures.{line_short}
-use Rattle.report.proofs.Whole.{next_answered}
 use Rattle.report.proofs.next_part.Given as goal
 
 abbrev pub invariant-loop-next : goal.invariant-loop-next

@@ -2,7 +2,6 @@
 use mathlib.Core.Path.{refl}
 use Rattle.sheets.specs.Sheets.{sheet_widths, sheet_from, sheet_of}
 use Rattle.sheets.specs.Packing.{bits, unpacked}
-use borrow.Author.Rules.{rules}
 use Rattle.sheets.proofs.date_of.Goals as goal
 
 pub returns : goal.returns

@@ -2,7 +2,6 @@
 use Rattle.sheets.specs.Sheets.{date_word}
 use Rattle.sheets.specs.Packing.{bits, packed}
 use native.Mathlib.Omega.{arith}
-use borrow.Author.Rules.{rules}
 use Rattle.sheets.proofs.date_word.Goals as goal
 
 pub returns : goal.returns

@@ -1,6 +1,5 @@
 -- `sheets::day_fields` meets its contract. Assumes nothing.
 use Rattle.sheets.specs.Sheets.{day_fields}
-use borrow.Author.Rules.{rules}
 use Rattle.sheets.proofs.day_fields.Goals as goal
 
 pub returns-in-NoDate : goal.returns-in-NoDate

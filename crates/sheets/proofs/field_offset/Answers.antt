@@ -2,7 +2,6 @@
 use Rattle.sheets.specs.Sheets.{field_offset}
 use native.Mathlib.Numerals.{add-one}
 use borrow.Author.Tests.{eq-eqb, ne_eqb}
-use borrow.Author.Rules.{rules}
 use Rattle.sheets.proofs.field_offset.Goals as goal
 
 pub returns-then-flag-eq0 : goal.returns-then-flag-eq0

@@ -1,6 +1,5 @@
 -- `sheets::fields_from` meets its contract. Assumes nothing.
 use Rattle.sheets.specs.Sheets.{fields_from}
-use borrow.Author.Rules.{rules}
 use Rattle.sheets.proofs.fields_from.Goals as goal
 
 pub returns : goal.returns

@@ -2,7 +2,6 @@
 use Rattle.sheets.specs.Private.{is_date}
 use Rattle.calendar.proofs.Dates.{fields_bad, fields_valid}
 use mathlib.Core.Path.{sym, ◌∙◌}
-use borrow.Author.Rules.{rules}
 use Rattle.sheets.proofs.is_date.Goals as goal
 
 pub returns-in-Bad : goal.returns-in-Bad

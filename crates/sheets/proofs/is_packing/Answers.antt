@@ -5,7 +5,6 @@ use Rattle.laws.proofs.Cases.{clash}
 use mathlib.Core.Path.{sym, ap, ◌∙◌}
 use borrow.Author.Tests.{not-true, not-false}
 use native.Mathlib.Omega.{arith}
-use borrow.Author.Rules.{rules}
 use Rattle.sheets.proofs.is_packing.Goals as goal
 
 pub returns-then-not-is_date : goal.returns-then-not-is_date

@@ -4,7 +4,6 @@ use Rattle.sheets.specs.Sheets.{word_from, next_week}
 use Rattle.calendar.proofs.Weeks.{number_small}
 use mathlib.Core.Path.{sym, ◌∙◌}
 use native.Mathlib.Omega.{arith}
-use borrow.Author.Rules.{rules}
 use Rattle.sheets.proofs.next_week.Goals as goal
 
 pub overflow_add-day_number : goal.overflow_add-day_number

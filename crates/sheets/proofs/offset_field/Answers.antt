@@ -3,7 +3,6 @@ use Rattle.sheets.proofs.Offsets.{wide, sum_fits, number_is, number_most}
 use Rattle.words.specs.Words.{offset_flag}
 use Rattle.sheets.specs.Sheets.{offset_field}
 use native.Mathlib.Omega.{arith}
-use borrow.Author.Rules.{rules}
 use Rattle.sheets.proofs.offset_field.Goals as goal
 
 pub overflow_cast-east : goal.overflow_cast-east

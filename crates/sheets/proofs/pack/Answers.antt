@@ -1,7 +1,6 @@
 -- `sheets::pack` meets its contract. Assumes nothing.
 use Rattle.sheets.proofs.Sheets.{judged_bad, judged_valid}
 use Rattle.sheets.specs.Sheets.{is_valid, packing, dated, packing_of}
-use borrow.Author.Rules.{rules}
 use Rattle.sheets.proofs.pack.Goals as goal
 
 pub word_of-requires : goal.word_of-requires

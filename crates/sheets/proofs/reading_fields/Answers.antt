@@ -1,6 +1,5 @@
 -- `sheets::reading_fields` meets its contract. Assumes nothing.
 use Rattle.sheets.specs.Sheets.{reading_fields}
-use borrow.Author.Rules.{rules}
 use Rattle.sheets.proofs.reading_fields.Goals as goal
 
 pub returns : goal.returns

@@ -1,6 +1,5 @@
 -- `sheets::said_field` meets its contract. Assumes nothing.
 use native.Mathlib.Omega.{arith}
-use borrow.Author.Rules.{rules}
 use Rattle.sheets.proofs.said_field.Goals as goal
 
 pub returns-in-Unsaid : goal.returns-in-Unsaid

@@ -1,7 +1,6 @@
 -- `sheets::sheet_of` meets its contract. Assumes nothing.
 use Rattle.sheets.specs.Sheets.{sheet_widths, sheet_from, sheet_of}
 use Rattle.sheets.specs.Packing.{bits, unpacked}
-use borrow.Author.Rules.{rules}
 use Rattle.sheets.proofs.sheet_of.Goals as goal
 
 pub returns : goal.returns

@@ -2,7 +2,6 @@
 use Rattle.sheets.specs.Sheets.{unpacking}
 use mathlib.Core.Path.{sym, ◌∙◌}
 use borrow.Author.Tests.{not-true, not-false}
-use borrow.Author.Rules.{rules}
 use Rattle.sheets.proofs.unpack.Goals as goal
 
 pub returns-then-not-is_packing : goal.returns-then-not-is_packing

@@ -1,7 +1,6 @@
 -- `sheets::week_of` meets its contract. Assumes nothing.
 use Rattle.sheets.specs.Sheets.{week_of_date, week_of}
 use mathlib.Core.Path.{ap, ◌∙◌}
-use borrow.Author.Rules.{rules}
 use Rattle.sheets.proofs.week_of.Goals as goal
 
 pub returns : goal.returns

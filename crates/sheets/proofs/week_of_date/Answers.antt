@@ -2,7 +2,6 @@
 use Rattle.sheets.specs.Sheets.{week_widths, week_of_date}
 use Rattle.sheets.specs.Packing.{bits, packed}
 use native.Mathlib.Omega.{arith}
-use borrow.Author.Rules.{rules}
 use Rattle.sheets.proofs.week_of_date.Goals as goal
 
 pub returns : goal.returns

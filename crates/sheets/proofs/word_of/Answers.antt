@@ -1,7 +1,6 @@
 -- `sheets::word_of` meets its contract. Assumes nothing.
 use Rattle.sheets.proofs.Sheets.{small, word_is}
 use native.Mathlib.Omega.{arith}
-use borrow.Author.Rules.{rules}
 use Rattle.sheets.proofs.word_of.Goals as goal
 
 pub overflow_add-to_hour : goal.overflow_add-to_hour

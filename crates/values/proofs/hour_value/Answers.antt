@@ -1,5 +1,4 @@
 -- `values::hour_value` meets its contract. Assumes nothing.
-use borrow.Author.Rules.{rules}
 use borrow.Author.Tests.{ne_eqb}
 use Rattle.values.specs.Values.{hour_value}
 use Rattle.values.proofs.hour_value.Goals as goal

@@ -1,5 +1,4 @@
 -- `words::offset_flag` meets its contract.
-use borrow.Author.Rules.{rules}
 use Rattle.words.specs.Words.{offset_flag}
 use Rattle.words.proofs.offset_flag.Goals as goal
 

@@ -1,6 +1,5 @@
 -- `words::offset_word` meets its contract.
 use mathlib.Core.Path.{ap, ◌∙◌}
-use borrow.Author.Rules.{rules}
 use mir.Facts.{to_z-of_z}
 use mir.Syntax.{w32}
 use Rattle.words.specs.Words.{word_of, offset_word}

@@ -1,6 +1,5 @@
 -- `words::signed_of` meets its contract.
 use native.Mathlib.Omega.{arith}
-use borrow.Author.Rules.{rules}
 use Rattle.words.proofs.Signed.{low_is, difference_fits, narrow_fits, high_is}
 use Rattle.words.proofs.signed_of.Goals as goal
 

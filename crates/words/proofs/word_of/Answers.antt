@@ -1,6 +1,5 @@
 -- `words::word_of` meets its contract.
 use native.Mathlib.Omega.{arith}
-use borrow.Author.Rules.{rules}
 use Rattle.words.proofs.Signed.{wide_fits, size_most, negative_some, negative_word, positive_word}
 use Rattle.words.proofs.word_of.Goals as goal
 

@@ -1,18 +1,11 @@
 -- `agreement::agreement::hour_agrees` meets its contract. Assumes nothing.
-use Prim.Native.Nat.{ℕ, ◌≤◌, ◌+◌, ◌-◌}
-use mathlib.Core.Bool.{Bool}
-use mathlib.Core.List.{List}
-use mathlib.Core.Path.{◌≡◌, refl, sym, ◌∙◌}
+use mathlib.Core.Path.{refl, sym, ◌∙◌}
 use native.Mathlib.Omega.{arith}
-use borrow.Author.Rules.{rules}
 use borrow.Author.Tests.{not-true, not-false}
-use lib.ListN.{get_or}
-use Rattle.agreement.specs.Agreement.{agrees, hour_agrees}
-use Rattle.values.specs.Values.{hour_value}
+use Rattle.agreement.specs.Agreement.{hour_agrees}
 use Rattle.kinds.specs.Kinds.{hour_kinds}
-use Rattle.laws.specs.Lists.{every, range}
+use Rattle.laws.specs.Lists.{range}
 use Rattle.agreement.proofs.Every.{every_turn, every_stop, every_done}
-use Rattle.agreement.proofs.agreement.hour_agrees.Invariants.{test}
 use Rattle.agreement.proofs.agreement.hour_agrees.Goals as goal
 
 pub loop-kind-init : goal.loop-kind-init

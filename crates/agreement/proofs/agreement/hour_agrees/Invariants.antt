@@ -1,16 +1,12 @@
 use Prim.Native.Nat.{ℕ, ◌≤◌, ◌+◌, ◌-◌}
 use mathlib.Core.Bool.{Bool}
 use mathlib.Core.List.{List}
-use mathlib.Core.Path.{◌≡◌, refl, sym, ◌∙◌}
-use native.Mathlib.Omega.{arith}
-use borrow.Author.Rules.{rules}
-use borrow.Author.Tests.{not-true, not-false}
+use mathlib.Core.Path.{◌≡◌}
 use lib.ListN.{get_or}
-use Rattle.agreement.specs.Agreement.{agrees, hour_agrees}
+use Rattle.agreement.specs.Agreement.{agrees}
 use Rattle.values.specs.Values.{hour_value}
 use Rattle.kinds.specs.Kinds.{hour_kinds}
 use Rattle.laws.specs.Lists.{every, range}
-use Rattle.agreement.proofs.Every.{every_turn, every_stop, every_done}
 use Rattle.agreement.proofs.agreement.hour_agrees.Given as goal
 
 -- the test of a kind

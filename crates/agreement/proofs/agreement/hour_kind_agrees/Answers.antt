@@ -1,5 +1,4 @@
 -- `agreement::agreement::hour_kind_agrees` meets its contract. Assumes nothing.
-use borrow.Author.Rules.{rules}
 use borrow.Author.Tests.{ne_eqb}
 use Rattle.agreement.specs.Agreement.{agrees}
 use Rattle.agreement.proofs.agreement.hour_kind_agrees.Goals as goal

@@ -1,5 +1,4 @@
 -- `agreement::search::hit` meets its contract. Assumes nothing.
-use borrow.Author.Rules.{rules}
 use Rattle.agreement.specs.Search.{hit}
 use Rattle.agreement.proofs.search.hit.Goals as goal
 

@@ -1,5 +1,4 @@
 -- `agreement::search::is_two` meets its contract. Assumes nothing.
-use borrow.Author.Rules.{rules}
 use Rattle.agreement.specs.Search.{is_two}
 use Rattle.agreement.proofs.search.is_two.Goals as goal
 

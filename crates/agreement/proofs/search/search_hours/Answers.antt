@@ -1,11 +1,7 @@
 -- `agreement::search::search_hours` meets its contract. Assumes nothing.
-use Prim.Native.Nat.{◌-◌}
-use mathlib.Core.Logic.{⊎_elim}
 use mathlib.Core.Path.{sym, ◌∙◌}
 use native.Mathlib.Omega.{arith}
-use borrow.Author.Rules.{rules}
-use Rattle.agreement.specs.Agreement.{hour_agrees}
-use Rattle.agreement.proofs.SoFar.{SoFar, so_far_none, so_far_hit, so_far_miss, so_far_end, so_far_two}
+use Rattle.agreement.proofs.SoFar.{so_far_none, so_far_hit, so_far_miss, so_far_end, so_far_two}
 use Rattle.agreement.proofs.search.search_hours.Goals as goal
 use Rattle.agreement.proofs.search.search_hours.Goals.{then-hour_agrees+else-is_two, else-hour_agrees}
 
@@ -17,7 +13,7 @@ loop-hour-preserved c =
     let s = c.loop-hour.invariant in
     let e = c.hour_agrees.ensures in
     elim c.if-hour_agrees.branch [
-        then-hour_agrees+else-is_two w ↦ rw (w.found-is, w.hit-found.ensures) (so_far_hit _ 0 24 _ _ s (omega arith) (sym e ∙ w.if-hour_agrees.true))
+      | then-hour_agrees+else-is_two w ↦ rw (w.found-is, w.hit-found.ensures) (so_far_hit _ 0 24 _ _ s (omega arith) (sym e ∙ w.if-hour_agrees.true))
       | else-hour_agrees w ↦ rw w.found-is (so_far_miss _ 0 24 _ _ s (omega arith) (sym e ∙ w.if-hour_agrees.false))
     ]
 

@@ -1,5 +1,4 @@
 -- `agreement::verdicts::verdict_of` meets its contract. Assumes nothing.
-use borrow.Author.Rules.{rules}
 use Rattle.agreement.specs.Verdicts.{verdict_of}
 use Rattle.agreement.proofs.verdicts.verdict_of.Goals as goal
 

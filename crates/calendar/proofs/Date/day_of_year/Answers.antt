@@ -1,7 +1,6 @@
 -- `calendar::Date::day_of_year` meets its contract. Assumes nothing.
 use Prim.Native.Nat.{◌-◌}
 use native.Mathlib.Omega.{arith}
-use borrow.Author.Rules.{rules}
 use Rattle.calendar.specs.Calendar.{day_of_year}
 use Rattle.calendar.proofs.Months.{months_small}
 use Rattle.calendar.proofs.Date.day_of_year.Goals as goal

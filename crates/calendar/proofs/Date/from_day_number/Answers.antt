@@ -1,6 +1,5 @@
 -- `calendar::Date::from_day_number` meets its contract. Assumes nothing.
 use native.Mathlib.Omega.{arith}
-use borrow.Author.Rules.{rules}
 use borrow.Author.Tests.{le-leb, lt-leb}
 use Rattle.calendar.specs.Calendar.{days, date_of, date_in}
 use Rattle.calendar.specs.Dates.{from_day_number}

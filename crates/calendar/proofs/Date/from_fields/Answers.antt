@@ -1,6 +1,5 @@
 -- `calendar::Date::from_fields` meets its contract. Assumes nothing.
 use native.Mathlib.Omega.{arith}
-use borrow.Author.Rules.{rules}
 use borrow.Author.Tests.{le-leb, lt-leb}
 use Rattle.calendar.specs.Calendar.{date_fault, month_length}
 use Rattle.calendar.specs.Dates.{from_fields}

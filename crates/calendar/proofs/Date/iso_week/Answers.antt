@@ -1,7 +1,6 @@
 -- `calendar::Date::iso_week` meets its contract. Assumes nothing.
 use mathlib.Core.Path.{ap, ◌∙◌}
 use native.Mathlib.Omega.{arith}
-use borrow.Author.Rules.{rules}
 use Rattle.calendar.specs.Calendar.{days_before, count_of, iso_year, iso_week}
 use Rattle.calendar.proofs.Years.{year_starts}
 use Rattle.calendar.proofs.Date.iso_week.Goals as goal

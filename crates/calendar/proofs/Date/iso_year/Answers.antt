@@ -1,6 +1,5 @@
 -- `calendar::Date::iso_year` meets its contract. Assumes nothing.
 use mathlib.Core.Path.{ap, ◌∙◌}
-use borrow.Author.Rules.{rules}
 use Rattle.calendar.specs.Calendar.{year_of, iso_year}
 use Rattle.calendar.proofs.Date.iso_year.Goals as goal
 

@@ -1,5 +1,4 @@
 -- `calendar::Date::monday_week` meets its contract. Assumes nothing.
-use borrow.Author.Rules.{rules}
 use Rattle.calendar.specs.Calendar.{count_of, monday_week}
 use Rattle.calendar.proofs.Date.monday_week.Goals as goal
 

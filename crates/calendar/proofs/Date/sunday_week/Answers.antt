@@ -1,5 +1,4 @@
 -- `calendar::Date::sunday_week` meets its contract. Assumes nothing.
-use borrow.Author.Rules.{rules}
 use Rattle.calendar.specs.Calendar.{count_of, sunday_week}
 use Rattle.calendar.proofs.Date.sunday_week.Goals as goal
 

@@ -1,5 +1,4 @@
 -- `conversions::following::begins_seconds` meets its contract: where nothing stands, 0 does, which is no s.
-use borrow.Author.Rules.{rules}
 use Rattle.conversions.proofs.Seconds.{none_unread}
 use Rattle.conversions.proofs.following.begins_seconds.Goals as goal
 

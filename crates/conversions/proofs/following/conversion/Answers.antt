@@ -1,6 +1,5 @@
 -- `conversions::following::conversion` meets its contract: the definition makes the same tests, and each set of the code is that
 -- of its letters.
-use borrow.Author.Rules.{rules}
 use mathlib.Core.Path.{sym}
 use borrow.Author.Tests.{ne_eqb}
 use Rattle.conversions.specs.Conversions.{computes as letters}

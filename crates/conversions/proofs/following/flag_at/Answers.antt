@@ -1,5 +1,4 @@
 -- `conversions::following::flag_at` meets its contract.
-use borrow.Author.Rules.{rules}
 use Rattle.conversions.proofs.Styles.{flag_none, flag_here, flag_absent}
 use Rattle.conversions.proofs.following.flag_at.Goals as goal
 

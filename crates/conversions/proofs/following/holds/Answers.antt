@@ -1,5 +1,4 @@
 -- `conversions::following::holds` meets its contract: the definition makes the same tests.
-use borrow.Author.Rules.{rules}
 use borrow.Author.Tests.{lt-ltb, le-ltb}
 use Rattle.conversions.specs.Private.{holds}
 use Rattle.conversions.proofs.following.holds.Goals as goal

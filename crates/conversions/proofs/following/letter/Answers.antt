@@ -1,7 +1,6 @@
 -- `conversions::following::letter` meets its contract: the definition makes the same tests, and each set of the code is that of
 -- the rows' letters.
 use mathlib.Core.Path.{◌≡◌}
-use borrow.Author.Rules.{rules}
 use borrow.Author.Tests.{ne_eqb}
 use Rattle.conversions.specs.Conversions.{is_conversion, is_composite, computes}
 use Rattle.conversions.specs.Pieces.{letter}

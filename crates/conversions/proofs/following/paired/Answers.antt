@@ -1,5 +1,4 @@
 -- `conversions::following::paired` meets its contract: the set answers for the letters that it is the set of.
-use borrow.Author.Rules.{rules}
 use mathlib.Core.Path.{sym}
 use Rattle.conversions.proofs.Pieces.{paired_none, paired_some}
 use Rattle.conversions.proofs.following.paired.Goals as goal

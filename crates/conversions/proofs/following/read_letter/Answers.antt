@@ -1,6 +1,5 @@
 -- `conversions::following::read_letter` meets its contract.
 use mathlib.Core.Path.{sym, ◌∙◌}
-use borrow.Author.Rules.{rules}
 use Rattle.conversions.proofs.Seconds.{letter_read, letter_unread}
 use Rattle.conversions.proofs.following.read_letter.Goals as goal
 

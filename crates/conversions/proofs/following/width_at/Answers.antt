@@ -1,6 +1,5 @@
 -- `conversions::following::width_at` meets its contract.
 use mathlib.Core.Path.{ap, refl}
-use borrow.Author.Rules.{rules}
 use Rattle.text.specs.Digits.{decimal, read_digits}
 use Rattle.text.specs.declared.digits.Digits.{Digits}
 use Rattle.conversions.proofs.Styles.{width_none, width_zero, width_digits}

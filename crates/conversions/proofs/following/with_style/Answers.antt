@@ -1,5 +1,4 @@
 -- `conversions::following::with_style` meets its contract: the definition makes the same tests.
-use borrow.Author.Rules.{rules}
 use Rattle.conversions.specs.Pieces.{with_style}
 use Rattle.conversions.proofs.following.with_style.Goals as goal
 

@@ -2,7 +2,6 @@
 use mathlib.Core.Path.{ap, ◌∙◌}
 use lib.ListN.{length}
 use Rattle.converted.proofs.Lengths.{named}
-use borrow.Author.Rules.{rules}
 use Rattle.converted.proofs.measuring.full_length.Goals as goal
 
 pub returns : goal.returns

@@ -1,5 +1,4 @@
 -- `converted::measuring::places_by` meets its contract: the definition makes the same test.
-use borrow.Author.Rules.{rules}
 use borrow.Author.Tests.{eq-eqb, ne_eqb}
 use Rattle.converted.specs.Converted.{places_by}
 use Rattle.converted.proofs.measuring.places_by.Goals as goal

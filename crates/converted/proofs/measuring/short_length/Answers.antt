@@ -1,7 +1,6 @@
 -- `converted::measuring::short_length` meets its contract.
 use native.Mathlib.Omega.{arith}
 use lib.ListN.{length-take}
-use borrow.Author.Rules.{rules}
 use Rattle.converted.proofs.measuring.short_length.Goals as goal
 
 pub returns-then-n-gt3 : goal.returns-then-n-gt3

@@ -1,7 +1,6 @@
 -- `converted::measuring::styled_length` meets its contract: one return for each form.
 use Prim.Native.Nat.{◌%◌}
 use mathlib.Core.Path.{◌≡◌}
-use borrow.Author.Rules.{rules}
 use Rattle.conversions.specs.declared.conversions.Form.{Form}
 use Rattle.names.specs.declared.names.Case.TheVariants.{AsIs, Small}
 use Rattle.converted.specs.Converted.{formed, converted}

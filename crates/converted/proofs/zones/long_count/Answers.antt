@@ -1,7 +1,6 @@
 -- `converted::zones::long_count` meets its contract.
 use Prim.Native.Nat.{◌/◌}
 use native.Mathlib.Omega.{arith}
-use borrow.Author.Rules.{rules}
 use lib.Dec.{lit≤}
 use Rattle.text.proofs.Fill.{plain_most}
 use Rattle.converted.proofs.Offsets.{long_length}

@@ -1,6 +1,5 @@
 -- `converted::zones::seconds_length` meets its contract.
 use mathlib.Core.Path.{sym, ap, ◌∙◌}
-use borrow.Author.Rules.{rules}
 use lib.ListN.{length}
 use Rattle.converted.proofs.Offsets.{epoch_unsaid, epoch_said, still_small}
 use Rattle.converted.proofs.zones.seconds_length.Goals as goal

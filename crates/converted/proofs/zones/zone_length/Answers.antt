@@ -1,6 +1,5 @@
 -- `converted::zones::zone_length` meets its contract.
 use mathlib.Core.Path.{sym}
-use borrow.Author.Rules.{rules}
 use Rattle.converted.specs.Zones.{zone}
 use Rattle.converted.proofs.Offsets.{east_length}
 use Rattle.converted.proofs.zones.zone_length.Goals as goal

@@ -1,7 +1,6 @@
 -- `converted::zones::zone_sign` meets its contract.
 use mathlib.Core.Path.{sym, ap, ◌∙◌}
 use mir.Facts.{to_z-of_z}
-use borrow.Author.Rules.{rules}
 use Rattle.values.specs.Offsets.{is_negative}
 use Rattle.converted.proofs.zones.zone_sign.Goals as goal
 

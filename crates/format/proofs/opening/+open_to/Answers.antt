@@ -1,10 +1,7 @@
 -- The proof of `open_to`, which calls itself: each way through the loop is a turn of `proofs/Turns.antt`. The measure is the remaining
 -- depth, and that of the loop what is left of the format.
-use Prim.Native.Nat.{ℕ, ◌+◌, ◌<◌, ◌≤◌, ◌-◌}
-use mathlib.Core.List.{[], ◌∷◌}
-use mathlib.Core.Path.{sym, ◌∙◌}
+use Prim.Native.Nat.{◌<◌}
 use native.Mathlib.Omega.{arith}
-use lib.ListN.{length}
 use lib.Seq.{length-take-le}
 use Rattle.format.specs.Opening.{longest, sign_at}
 use Rattle.format.proofs.Turns.{begins, finished, passes, stores_byte, stores_conversion, refuses, sign_within, modest}
@@ -70,12 +67,12 @@ pub returns-in_default : goal.returns-in_default
 returns-in_default t c =
     let o = c.open_to-inner in
     let g = opens_bad c.loop-i.invariant (omega arith) c.piece_at-piece.ensures
-        c.sign_at-at.ensures
-        c.in-Open.is
-        c.if-depth-eq0.false
-        c.own_format-own.ensures.2
-        (o.ensures.value, o.ensures.out_after)
-        c.in_default.not-Done in
+    c.sign_at-at.ensures
+    c.in-Open.is
+    c.if-depth-eq0.false
+    c.own_format-own.ensures.2
+    (o.ensures.value, o.ensures.out_after)
+    c.in_default.not-Done in
     record { value = g.0; out_after = g.1 }
 
 pub loop-i-preserved : goal.loop-i-preserved

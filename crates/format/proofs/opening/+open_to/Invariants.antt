@@ -1,4 +1,4 @@
-use Prim.Native.Nat.{ℕ, ◌-◌}
+use Prim.Native.Nat.{◌-◌}
 use lib.ListN.{length}
 use Rattle.format.proofs.Turns.{Going}
 use Rattle.format.proofs.opening.+open_to.Given as goal

@@ -1,10 +1,7 @@
 -- `format::opening::elements_in` meets its contract. The invariant: the entries passed and the elements from here on come to what
 -- is to be shown.
-use Prim.Native.Nat.{◌+◌, ◌-◌, min}
-use mathlib.Core.Path.{◌≡◌}
 use native.Mathlib.Omega.{arith}
-use lib.ListN.{length, drop}
-use Rattle.format.specs.Opening.{elements_in, most_elements}
+use Rattle.format.specs.Opening.{most_elements}
 use Rattle.format.proofs.Entries.{at_first, at_end, no_element, one_more}
 use Rattle.format.proofs.opening.elements_in.Goals as goal
 

@@ -1,9 +1,7 @@
 use Prim.Native.Nat.{◌+◌, ◌-◌, min}
 use mathlib.Core.Path.{◌≡◌}
-use native.Mathlib.Omega.{arith}
 use lib.ListN.{length, drop}
 use Rattle.format.specs.Opening.{elements_in, most_elements}
-use Rattle.format.proofs.Entries.{at_first, at_end, no_element, one_more}
 use Rattle.format.proofs.opening.elements_in.Given as goal
 
 abbrev pub invariant-loop-k : goal.invariant-loop-k

@@ -1,7 +1,6 @@
 -- `format::opening::is_element` meets its contract: the definition makes the same tests.
 use mathlib.Core.Path.{sym}
 use native.Mathlib.Omega.{arith}
-use borrow.Author.Rules.{rules}
 use Rattle.format.proofs.Entry.{byte_is, plain_is, not_read}
 use Rattle.format.proofs.opening.is_element.Goals as goal
 

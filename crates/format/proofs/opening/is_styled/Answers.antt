@@ -3,7 +3,6 @@
 use mathlib.Core.Bool.{Bool}
 use mathlib.Core.Path.{◌≡◌}
 use native.Mathlib.Omega.{arith}
-use borrow.Author.Rules.{rules}
 use Rattle.conversions.specs.Conversions.{is_conversion, computes}
 use Rattle.format.specs.Opening.{letter_of, is_taken, is_element}
 use Rattle.format.specs.declared.opening.Side.TheVariants.{Writer}

@@ -1,6 +1,5 @@
 -- `format::opening::is_taken` meets its contract: the set of the code is that of the rows' letters.
 use mathlib.Core.Path.{◌≡◌}
-use borrow.Author.Rules.{rules}
 use borrow.Author.Tests.{not-true, not-false}
 use Rattle.conversions.specs.Conversions.{is_conversion, computes}
 use Rattle.conversions.specs.Private.{holds}

@@ -1,11 +1,9 @@
 -- `format::opening::piece_at` meets its contract: the definition makes the same tests, and a letter right after % that is read is alike
 -- for both sides.
 use Prim.Native.Nat.{◌+◌}
-use mathlib.Core.List.{[], ◌∷◌}
 use mathlib.Core.Path.{◌≡◌, ◌∙◌}
 use native.Mathlib.Nat.{add-zero}
 use native.Mathlib.Omega.{arith}
-use borrow.Author.Rules.{rules}
 use borrow.Author.Tests.{eq-eqb, ne_eqb}
 use lib.ListN.{length, drop, length-drop}
 use lib.Seq.{get_or-drop}

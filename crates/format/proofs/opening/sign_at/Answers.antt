@@ -1,5 +1,4 @@
 -- `format::opening::sign_at` meets its contract: the definition has the same two cases.
-use borrow.Author.Rules.{rules}
 use Rattle.format.specs.Opening.{sign_at}
 use Rattle.format.proofs.opening.sign_at.Goals as goal
 

@@ -1,6 +1,5 @@
 -- `format::opening::signed` meets its contract: what the reader takes of a conversion can be told by its first byte.
 use mathlib.Core.Path.{sym, ◌∙◌}
-use borrow.Author.Rules.{rules}
 use borrow.Author.Tests.{not-true, not-false}
 use Rattle.format.specs.Opening.{signed}
 use Rattle.conversions.proofs.Seconds.{conversion_read, conversion_unread}

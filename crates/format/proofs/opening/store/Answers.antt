@@ -1,5 +1,4 @@
 -- `format::opening::store` meets its contract: past the end nothing changes.
-use borrow.Author.Rules.{rules}
 use mathlib.Core.Path.{sym}
 use lib.Seq.{set_out}
 use Rattle.format.proofs.opening.store.Goals as goal

@@ -1,5 +1,4 @@
 -- `judge::skipping::judge_skipping` meets its contract. Assumes nothing.
-use borrow.Author.Rules.{rules}
 use Rattle.judge.specs.Engines.{last_examined, skipping_count}
 use Rattle.judge.specs.Private.{skipping_judged}
 use Rattle.agreement.proofs.Through.{last_in}

@@ -1,5 +1,4 @@
 -- `judge::skipping::search_days` meets its contract. Assumes nothing.
-use borrow.Author.Rules.{rules}
 use mathlib.Core.Bool.{false}
 use mathlib.Core.Path.{◌≡◌, sym, ap, ◌∙◌}
 use Rattle.calendar.specs.Calendar.{days}

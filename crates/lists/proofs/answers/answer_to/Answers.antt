@@ -1,7 +1,6 @@
 -- `lists::answers::answer_to` meets its contract.
 use mathlib.Core.Path.{sym}
 use native.Mathlib.Omega.{arith}
-use borrow.Author.Rules.{rules}
 use lib.Seq.{length-take-le}
 use Rattle.lists.specs.Answers.{opened_reading}
 use Rattle.strptime.specs.Answers.{reading_of}

@@ -1,7 +1,6 @@
 -- `lists::answers::elements_of` meets its contract. Assumes nothing.
 use lib.ListN.{length-take}
 use Rattle.lists.specs.Answers.{opened_elements}
-use borrow.Author.Rules.{rules}
 use Rattle.lists.proofs.answers.elements_of.Goals as goal
 
 pub returns-in-Done : goal.returns-in-Done

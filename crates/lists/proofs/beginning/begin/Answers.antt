@@ -10,7 +10,6 @@ use Rattle.format.specs.Opening.{opened, opened_into}
 use Rattle.format.specs.declared.opening.Side.TheVariants.{Reader}
 use Rattle.lists.specs.Lines.{line_length, longest_input}
 use Rattle.lists.proofs.Splitting.{within}
-use borrow.Author.Rules.{rules}
 use Rattle.lists.proofs.beginning.begin.Goals as goal
 use Rattle.lists.proofs.beginning.begin.Goals.{After-line_end-end, After-open-opened}
 

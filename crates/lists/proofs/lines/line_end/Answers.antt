@@ -1,11 +1,8 @@
 -- `lists::lines::line_end` meets its contract. The invariant: the place reached and the line's bytes from there on come to what is to be
 -- shown.
-use Prim.Native.Nat.{◌+◌, ◌-◌}
-use mathlib.Core.Path.{◌≡◌, refl}
+use mathlib.Core.Path.{refl}
 use native.Mathlib.Numerals.{add-one}
 use native.Mathlib.Omega.{arith}
-use lib.ListN.{length, drop}
-use Rattle.lists.specs.Lines.{line_length}
 use Rattle.lists.proofs.Splitting.{end, stop, more}
 use Rattle.lists.proofs.lines.line_end.Goals as goal
 

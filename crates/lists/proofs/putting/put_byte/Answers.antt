@@ -1,6 +1,5 @@
 -- `lists::putting::put_byte` meets its contract. Assumes nothing.
 use Rattle.lists.proofs.Puts.{put_past}
-use borrow.Author.Rules.{rules}
 use Rattle.lists.proofs.putting.put_byte.Goals as goal
 
 pub returns-then-out-at : goal.returns-then-out-at

@@ -1,10 +1,7 @@
 -- `lists::putting::put_bytes` meets its contract. Assumes nothing.
-use Prim.Native.Nat.{◌-◌, ◌≤◌}
-use mathlib.Core.List.{[], ◌∷◌}
 use mathlib.Core.Path.{◌≡◌}
 use native.Mathlib.Omega.{arith}
-use lib.ListN.{length, get_or}
-use Rattle.lists.specs.Putting.{Put, each}
+use lib.ListN.{length}
 use Rattle.lists.proofs.Puts.{each_start, each_next, each_same, kept_length}
 use Rattle.lists.proofs.putting.put_bytes.Goals as goal
 

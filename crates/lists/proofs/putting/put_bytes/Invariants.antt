@@ -1,10 +1,7 @@
 use Prim.Native.Nat.{◌-◌, ◌≤◌}
 use mathlib.Core.List.{[], ◌∷◌}
-use mathlib.Core.Path.{◌≡◌}
-use native.Mathlib.Omega.{arith}
 use lib.ListN.{length, get_or}
 use Rattle.lists.specs.Putting.{Put, each}
-use Rattle.lists.proofs.Puts.{each_start, each_next, each_same, kept_length}
 use Rattle.lists.proofs.putting.put_bytes.Given as goal
 
 abbrev pub invariant-loop-i : goal.invariant-loop-i

@@ -2,7 +2,6 @@
 use Rattle.laws.specs.Bytes.{bytes}
 use Rattle.lists.specs.Putting.{date_shown}
 use Rattle.lists.proofs.Puts.{then}
-use borrow.Author.Rules.{rules}
 use Rattle.lists.proofs.putting.put_date.Goals as goal
 
 pub returns : goal.returns

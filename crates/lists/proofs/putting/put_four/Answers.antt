@@ -1,5 +1,4 @@
 -- `lists::putting::put_four` meets its contract. Assumes nothing.
-use borrow.Author.Rules.{rules}
 use Rattle.lists.proofs.putting.put_four.Goals as goal
 
 pub returns : goal.returns

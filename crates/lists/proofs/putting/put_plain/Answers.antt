@@ -9,7 +9,6 @@ use lib.Seq.{length-take-le, take_at}
 use Rattle.text.specs.Digits.{plain}
 use Rattle.lists.proofs.Puts.{first_fits}
 use Rattle.text.proofs.Fill.{plain_most, plain_places}
-use borrow.Author.Rules.{rules}
 use Rattle.lists.proofs.putting.put_plain.Goals as goal
 use Rattle.lists.proofs.putting.put_plain.Goals.{After-digit_count-count, After-write_number}
 

@@ -1,5 +1,4 @@
 -- `lists::putting::put_two` meets its contract. Assumes nothing.
-use borrow.Author.Rules.{rules}
 use Rattle.lists.proofs.putting.put_two.Goals as goal
 
 pub returns : goal.returns

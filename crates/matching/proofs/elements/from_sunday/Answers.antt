@@ -1,5 +1,4 @@
 -- `matching::elements::from_sunday` meets its contract. Assumes nothing.
-use borrow.Author.Rules.{rules}
 use borrow.Author.Tests.{ne_eqb}
 use Rattle.matching.specs.Elements.{from_sunday}
 use Rattle.matching.proofs.elements.from_sunday.Goals as goal

@@ -1,5 +1,4 @@
 -- `matching::elements::read_byte` meets its contract. Assumes nothing.
-use borrow.Author.Rules.{rules}
 use native.Mathlib.Omega.{arith}
 use Rattle.matching.proofs.Ways.{byte_space, byte_end, byte_other, byte_same}
 use Rattle.matching.proofs.elements.read_byte.Goals as goal

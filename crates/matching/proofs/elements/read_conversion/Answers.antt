@@ -1,5 +1,4 @@
 -- `matching::elements::read_conversion` meets its contract. Assumes nothing.
-use borrow.Author.Rules.{rules}
 use mathlib.Core.Path.{refl, ap, ◌∙◌}
 use Rattle.matching.specs.Elements.{from_sunday, read_form}
 use Rattle.matching.proofs.Ways.{by_form}

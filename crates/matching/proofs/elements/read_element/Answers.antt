@@ -1,5 +1,4 @@
 -- `matching::elements::read_element` meets its contract. Assumes nothing.
-use borrow.Author.Rules.{rules}
 use native.Mathlib.Omega.{arith}
 use borrow.Author.Tests.{lt-ltb, le-ltb}
 use Rattle.conversions.proofs.Small.{conversion_small}

@@ -1,6 +1,5 @@
 -- `matching::elements::read_number` meets its contract. Assumes nothing.
 use native.Mathlib.Omega.{arith}
-use borrow.Author.Rules.{rules}
 use Rattle.matching.proofs.Ways.{number_none, number_low, number_high, number_fact, number_end}
 use Rattle.matching.proofs.elements.read_number.Goals as goal
 

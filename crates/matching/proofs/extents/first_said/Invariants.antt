@@ -1,10 +1,7 @@
 use Prim.Native.Nat.{◌-◌, ◌≤◌}
-use mathlib.Core.Path.{◌≡◌, refl, sym, ◌∙◌}
-use native.Mathlib.Omega.{arith}
-use borrow.Author.Rules.{rules}
+use mathlib.Core.Path.{◌≡◌}
 use lib.ListN.{length, drop}
 use Rattle.matching.specs.Extents.{first_said}
-use Rattle.matching.proofs.FirstSaid.{said_nowhere, said_more, said_found, said_within}
 use Rattle.matching.proofs.extents.first_said.Given as goal
 
 abbrev pub invariant-loop-i : goal.invariant-loop-i

@@ -1,5 +1,4 @@
 -- `matching::extents::sought_in` meets its contract. Assumes nothing.
-use borrow.Author.Rules.{rules}
 use borrow.Author.Tests.{eq-eqb, ne_eqb}
 use Rattle.matching.specs.Private.{sought_in}
 use Rattle.matching.proofs.extents.sought_in.Goals as goal

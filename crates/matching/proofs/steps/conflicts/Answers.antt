@@ -1,6 +1,5 @@
 -- `strptime::reading::conflicts` meets its contract. Assumes nothing.
 use native.Mathlib.Numerals.{add-one}
-use borrow.Author.Rules.{rules}
 use borrow.Author.Tests.{ne_eqb}
 use Rattle.matching.proofs.steps.conflicts.Goals as goal
 

@@ -1,5 +1,4 @@
 -- `matching::steps::later` meets its contract. Assumes nothing.
-use borrow.Author.Rules.{rules}
 use Rattle.matching.specs.Steps.{later}
 use Rattle.matching.proofs.steps.later.Goals as goal
 

@@ -1,5 +1,4 @@
 -- `matching::steps::latest` meets its contract. Assumes nothing.
-use borrow.Author.Rules.{rules}
 use borrow.Author.Tests.{eq-eqb, ne_eqb}
 use Rattle.matching.specs.Steps.{latest}
 use Rattle.matching.proofs.steps.latest.Goals as goal

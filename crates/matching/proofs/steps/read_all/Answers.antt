@@ -1,10 +1,7 @@
 -- `matching::steps::read_all` meets its contract. Assumes nothing.
-use Prim.Native.Nat.{◌-◌, ◌≤◌}
-use mathlib.Core.Path.{◌≡◌, refl, sym, ◌∙◌}
+use mathlib.Core.Path.{refl, sym, ◌∙◌}
 use native.Mathlib.Omega.{arith}
-use borrow.Author.Rules.{rules}
-use lib.ListN.{length, drop}
-use Rattle.matching.specs.Steps.{here, both, unsaid, start, no_forms, read_all}
+use Rattle.matching.specs.Steps.{unsaid, start, no_forms}
 use Rattle.matching.proofs.Walk.{step_within, all_end, all_more, all_stop}
 use Rattle.matching.proofs.steps.read_all.Goals as goal
 

@@ -1,10 +1,7 @@
 use Prim.Native.Nat.{◌-◌, ◌≤◌}
-use mathlib.Core.Path.{◌≡◌, refl, sym, ◌∙◌}
-use native.Mathlib.Omega.{arith}
-use borrow.Author.Rules.{rules}
+use mathlib.Core.Path.{◌≡◌}
 use lib.ListN.{length, drop}
-use Rattle.matching.specs.Steps.{here, both, unsaid, start, no_forms, read_all}
-use Rattle.matching.proofs.Walk.{step_within, all_end, all_more, all_stop}
+use Rattle.matching.specs.Steps.{here, both, start, no_forms, read_all}
 use Rattle.matching.proofs.steps.read_all.Given as goal
 
 abbrev pub invariant-loop-i : goal.invariant-loop-i

@@ -1,7 +1,6 @@
 -- `matching::steps::step_on` meets its contract. Assumes nothing.
 use mathlib.Core.Path.{refl}
 use native.Mathlib.Omega.{arith}
-use borrow.Author.Rules.{rules}
 use Rattle.matching.specs.Steps.{met}
 use Rattle.matching.proofs.Sound.{fact_told}
 use Rattle.matching.proofs.Told.{Told, told_small}

@@ -1,6 +1,5 @@
 -- `matching::zones::offset_at` meets its contract. Assumes nothing.
 use native.Mathlib.Omega.{arith}
-use borrow.Author.Rules.{rules}
 use Rattle.matching.proofs.Zoned.{not_four, many_hours, many_minutes, offset_fact}
 use Rattle.matching.proofs.zones.offset_at.Goals as goal
 

@@ -1,5 +1,4 @@
 -- `matching::zones::offset_number` meets its contract. Assumes nothing.
-use borrow.Author.Rules.{rules}
 use Rattle.matching.proofs.Zoned.{minus_number, plus_number}
 use Rattle.matching.proofs.zones.offset_number.Goals as goal
 

@@ -1,6 +1,5 @@
 -- `matching::zones::read_zone` meets its contract. Assumes nothing.
 use native.Mathlib.Omega.{arith}
-use borrow.Author.Rules.{rules}
 use Rattle.matching.proofs.Zoned.{zone_end, no_sign, a_sign}
 use Rattle.matching.proofs.zones.read_zone.Goals as goal
 

@@ -1,6 +1,5 @@
 -- `names::names::capital` meets its contract: the two tests settle the definition's.
 use native.Mathlib.Omega.{arith}
-use borrow.Author.Rules.{rules}
 use borrow.Author.Tests.{le-leb, lt-leb}
 use Rattle.names.specs.Case.{capital}
 use Rattle.names.proofs.names.capital.Goals as goal

@@ -1,5 +1,4 @@
 -- `names::names::cased` meets its contract: its cases are the definition's.
-use borrow.Author.Rules.{rules}
 use Rattle.names.specs.Case.{cased}
 use Rattle.names.proofs.names.cased.Goals as goal
 

@@ -1,12 +1,9 @@
 -- `names::names::find` meets its contract. The invariant: the rows passed and the place among those from here on come to the place of all.
-use Prim.Native.Nat.{◌+◌, ◌-◌}
-use mathlib.Core.Path.{◌≡◌, sym, ◌∙◌}
+use mathlib.Core.Path.{sym, ◌∙◌}
 use mathlib.Core.List.{[], ◌∷◌}
 use native.Mathlib.Nat.{zero-add}
 use native.Mathlib.Numerals.{add-one}
 use native.Mathlib.Omega.{arith}
-use lib.ListN.{length, drop}
-use Rattle.names.specs.Rows.{place_of}
 use Rattle.names.proofs.Shorts.{none_left, this_row, a_later_row}
 use Rattle.names.proofs.names.find.Goals as goal
 

@@ -1,12 +1,8 @@
 use Prim.Native.Nat.{◌+◌, ◌-◌}
-use mathlib.Core.Path.{◌≡◌, sym, ◌∙◌}
+use mathlib.Core.Path.{◌≡◌}
 use mathlib.Core.List.{[], ◌∷◌}
-use native.Mathlib.Nat.{zero-add}
-use native.Mathlib.Numerals.{add-one}
-use native.Mathlib.Omega.{arith}
 use lib.ListN.{length, drop}
 use Rattle.names.specs.Rows.{place_of}
-use Rattle.names.proofs.Shorts.{none_left, this_row, a_later_row}
 use Rattle.names.proofs.names.find.Given as goal
 
 abbrev pub invariant-loop-i : goal.invariant-loop-i

@@ -1,11 +1,8 @@
 -- `names::names::first_middle` meets its contract. The invariant: the first form from here on is the first of all.
-use Prim.Native.Nat.{◌-◌}
-use mathlib.Core.Path.{◌≡◌, refl, sym, ◌∙◌}
+use mathlib.Core.Path.{refl, sym, ◌∙◌}
 use native.Mathlib.Numerals.{add-one}
 use native.Mathlib.Omega.{arith}
-use lib.ListN.{length, drop, length-take}
-use Rattle.names.specs.Names.{first_form}
-use Rattle.names.specs.Rows.{middles_in, Aligned}
+use lib.ListN.{drop, length-take}
 use Rattle.names.proofs.Middles.{ended, in_row, this_form, a_later_form}
 use Rattle.names.proofs.names.first_middle.Goals as goal
 use Rattle.names.proofs.names.first_middle.Goals.{After-row-1}

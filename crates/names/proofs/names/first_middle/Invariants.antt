@@ -1,11 +1,8 @@
 use Prim.Native.Nat.{◌-◌}
-use mathlib.Core.Path.{◌≡◌, refl, sym, ◌∙◌}
-use native.Mathlib.Numerals.{add-one}
-use native.Mathlib.Omega.{arith}
-use lib.ListN.{length, drop, length-take}
+use mathlib.Core.Path.{◌≡◌}
+use lib.ListN.{length, drop}
 use Rattle.names.specs.Names.{first_form}
 use Rattle.names.specs.Rows.{middles_in, Aligned}
-use Rattle.names.proofs.Middles.{ended, in_row, this_form, a_later_form}
 use Rattle.names.proofs.names.first_middle.Given as goal
 
 abbrev pub invariant-loop-j : goal.invariant-loop-j

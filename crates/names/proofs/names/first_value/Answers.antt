@@ -1,6 +1,5 @@
 -- `names::names::first_value` meets its contract.
 use native.Mathlib.Omega.{arith}
-use borrow.Author.Rules.{rules}
 use Rattle.names.specs.Naming.{first_value}
 use Rattle.names.proofs.names.first_value.Goals as goal
 

@@ -1,5 +1,4 @@
 -- `names::names::fold` meets its contract: the two tests settle the definition's.
-use borrow.Author.Rules.{rules}
 use borrow.Author.Tests.{le-leb, lt-leb}
 use Rattle.names.specs.Case.{fold}
 use Rattle.names.proofs.names.fold.Goals as goal

@@ -1,6 +1,5 @@
 -- `names::names::folded` meets its contract.
 use mathlib.Core.Path.{refl}
-use borrow.Author.Rules.{rules}
 use native.Mathlib.Omega.{arith}
 use lib.ListN.{drop, length-drop, get_or-eq_default}
 use lib.Seq.{get_or-drop}

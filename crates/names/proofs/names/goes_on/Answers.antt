@@ -1,11 +1,8 @@
 -- `names::names::goes_on` meets its contract. The invariant: what is left of the text goes on with what is left of the name exactly if the
 -- whole does.
-use Prim.Native.Nat.{◌-◌}
-use mathlib.Core.Path.{◌≡◌, refl, sym, ◌∙◌}
+use mathlib.Core.Path.{refl, sym, ◌∙◌}
 use native.Mathlib.Numerals.{add-one}
 use native.Mathlib.Omega.{arith}
-use lib.ListN.{length, drop}
-use Rattle.names.specs.Names.{goes_on}
 use Rattle.names.proofs.Rows.{all_same, at_end, differs, agrees}
 use Rattle.names.proofs.names.goes_on.Goals as goal
 

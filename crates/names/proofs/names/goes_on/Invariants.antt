@@ -1,10 +1,7 @@
 use Prim.Native.Nat.{◌-◌}
-use mathlib.Core.Path.{◌≡◌, refl, sym, ◌∙◌}
-use native.Mathlib.Numerals.{add-one}
-use native.Mathlib.Omega.{arith}
+use mathlib.Core.Path.{◌≡◌}
 use lib.ListN.{length, drop}
 use Rattle.names.specs.Names.{goes_on}
-use Rattle.names.proofs.Rows.{all_same, at_end, differs, agrees}
 use Rattle.names.proofs.names.goes_on.Given as goal
 
 abbrev pub invariant-loop-j : goal.invariant-loop-j

@@ -6,7 +6,6 @@ use lib.Seq.{drop-drop}
 use Rattle.names.specs.Names.{name_at}
 use Rattle.names.proofs.Goes.{is_short, room, parted}
 use Rattle.names.proofs.Rows.{held, after_first}
-use borrow.Author.Rules.{rules}
 use Rattle.names.proofs.names.in_full.Goals as goal
 
 pub returns-then-n-le3 : goal.returns-then-n-le3

@@ -2,7 +2,6 @@
 use mathlib.Core.Path.{refl}
 use borrow.Author.Tests.{ne_eqb, eq-eqb}
 use Rattle.names.specs.Rows.{same}
-use borrow.Author.Rules.{rules}
 use Rattle.names.proofs.names.is_short.Goals as goal
 
 pub returns-then-short-a : goal.returns-then-short-a

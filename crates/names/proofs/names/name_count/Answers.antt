@@ -1,5 +1,4 @@
 -- `names::names::name_count` meets its contract: each count is the length of its list of names.
-use borrow.Author.Rules.{rules}
 use Rattle.names.specs.Names.{computes}
 use Rattle.names.proofs.names.name_count.Goals as goal
 

@@ -1,7 +1,6 @@
 -- `names::names::name_length` meets its contract: each table of lengths is made of the names one by one.
 use Prim.Native.Nat.{◌<◌}
 use native.Mathlib.Omega.{arith}
-use borrow.Author.Rules.{rules}
 use lib.ListN.{length}
 use Rattle.names.specs.Names.{names_of, name_at, weekday_names, month_names, half_names, computes}
 use Rattle.names.proofs.Table.{entry, past, within}

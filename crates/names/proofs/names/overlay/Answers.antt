@@ -1,10 +1,7 @@
 -- `names::names::overlay` meets its contract. The invariant: to store the rest of the text from here on gives what is to be stored.
-use Prim.Native.Nat.{◌-◌}
-use mathlib.Core.Path.{◌≡◌, refl, ◌∙◌}
+use mathlib.Core.Path.{refl, ◌∙◌}
 use native.Mathlib.Omega.{arith}
-use lib.ListN.{length, drop, length-set}
-use lib.Seq.{sets}
-use Rattle.names.specs.Case.{cased}
+use lib.ListN.{length-set}
 use Rattle.names.proofs.Rows.{stored, full, ended}
 use Rattle.names.proofs.names.overlay.Goals as goal
 

@@ -1,10 +1,8 @@
 use Prim.Native.Nat.{◌-◌}
-use mathlib.Core.Path.{◌≡◌, refl, ◌∙◌}
-use native.Mathlib.Omega.{arith}
-use lib.ListN.{length, drop, length-set}
+use mathlib.Core.Path.{◌≡◌}
+use lib.ListN.{length, drop}
 use lib.Seq.{sets}
 use Rattle.names.specs.Case.{cased}
-use Rattle.names.proofs.Rows.{stored, full, ended}
 use Rattle.names.proofs.names.overlay.Given as goal
 
 abbrev pub invariant-loop-j : goal.invariant-loop-j

@@ -1,6 +1,5 @@
 -- `names::names::place_for` meets its contract: below the first value a difference is 0.
 use native.Mathlib.Omega.{arith}
-use borrow.Author.Rules.{rules}
 use Rattle.names.specs.Naming.{place_for}
 use Rattle.names.proofs.names.place_for.Goals as goal
 

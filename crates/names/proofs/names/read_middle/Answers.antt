@@ -2,7 +2,6 @@
 use mathlib.Core.Path.{refl}
 use Rattle.names.specs.Names.{first_form, computes}
 use Rattle.names.specs.Rows.{middles_in, in_rows}
-use borrow.Author.Rules.{rules}
 use Rattle.names.proofs.names.read_middle.Goals as goal
 
 pub first_middle-requires : goal.first_middle-requires

@@ -6,7 +6,6 @@ use Rattle.names.specs.Names.{read_name}
 use Rattle.names.specs.declared.names.NameForm.TheVariants.{Short}
 use Rattle.names.specs.declared.names.NameRead.TheVariants.{Found}
 use Rattle.names.proofs.Forms.{or_else, past, short_on, reads_full, by_others}
-use borrow.Author.Rules.{rules}
 use Rattle.names.proofs.names.read_name.Goals as goal
 use Rattle.names.proofs.names.read_name.Goals.{After-read_middle}
 

@@ -2,7 +2,6 @@
 use Prim.Native.Nat.{◌<◌}
 use mathlib.Core.List.{[]}
 use native.Mathlib.Omega.{arith}
-use borrow.Author.Rules.{rules}
 use Rattle.names.specs.Names.{names_of, name_at, weekday_names, month_names, half_names, computes}
 use Rattle.names.specs.Rows.{padded}
 use Rattle.names.proofs.Table.{entry, past, within}

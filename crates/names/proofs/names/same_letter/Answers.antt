@@ -1,5 +1,4 @@
 -- `names::names::same_letter` meets its contract, from what `fold` ensures of both letters.
-use borrow.Author.Rules.{rules}
 use Rattle.names.proofs.names.same_letter.Goals as goal
 
 pub returns : goal.returns

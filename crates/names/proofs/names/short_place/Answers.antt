@@ -1,6 +1,5 @@
 -- `names::names::short_place` meets its contract: the rows that it hands over hold the short forms of the table.
 use mathlib.Core.Path.{refl, ◌∙◌}
-use borrow.Author.Rules.{rules}
 use lib.ListN.{drop}
 use Rattle.names.specs.Case.{fold}
 use Rattle.names.specs.Names.{computes}

@@ -1,6 +1,5 @@
 -- `names::names::value_at` meets its contract.
 use native.Mathlib.Omega.{arith}
-use borrow.Author.Rules.{rules}
 use Rattle.names.specs.Naming.{value_at}
 use Rattle.names.proofs.names.value_at.Goals as goal
 

@@ -1,6 +1,5 @@
 -- `names::names::write_name` meets its contract: what the row and the length hold is the name.
 use native.Mathlib.Omega.{arith}
-use borrow.Author.Rules.{rules}
 use lib.ListN.{length-take}
 use Rattle.names.proofs.Rows.{held}
 use Rattle.names.proofs.names.write_name.Goals as goal

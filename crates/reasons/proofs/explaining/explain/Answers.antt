@@ -1,6 +1,5 @@
 -- `reasons::explaining::explain` meets its contract. Assumes nothing.
 use Rattle.reasons.specs.Reasons.{explained}
-use borrow.Author.Rules.{rules}
 use Rattle.reasons.proofs.explaining.explain.Goals as goal
 
 pub returns : goal.returns

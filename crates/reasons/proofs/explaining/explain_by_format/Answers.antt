@@ -5,7 +5,6 @@ use lib.Seq.{length-take-le}
 use Rattle.format.specs.declared.opening.Side.TheVariants.{Reader}
 use Rattle.format.proofs.Openings.{Opens, opened_done, stored}
 use Rattle.reasons.specs.Reasons.{format_elements}
-use borrow.Author.Rules.{rules}
 use Rattle.reasons.proofs.explaining.explain_by_format.Goals as goal
 use Rattle.reasons.proofs.explaining.explain_by_format.Goals.{In-Done}
 

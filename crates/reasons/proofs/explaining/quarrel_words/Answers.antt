@@ -2,7 +2,6 @@
 use Rattle.reasons.specs.Private.{word_in, words_in}
 use Rattle.reasons.specs.Quarrels.{is_named}
 use Rattle.reasons.specs.Reasons.{facts_in, quarrel_words}
-use borrow.Author.Rules.{rules}
 use Rattle.reasons.proofs.explaining.quarrel_words.Goals as goal
 
 pub returns : goal.returns

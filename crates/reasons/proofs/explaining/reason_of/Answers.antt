@@ -2,7 +2,6 @@
 use Rattle.strptime.specs.Answers as reader
 use Rattle.reasons.specs.Reasons as reasons
 use Rattle.reasons.proofs.Answers.{no_reason}
-use borrow.Author.Rules.{rules}
 use Rattle.reasons.proofs.explaining.reason_of.Goals as goal
 
 pub returns-in-NoDay : goal.returns-in-NoDay

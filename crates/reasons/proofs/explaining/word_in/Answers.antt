@@ -3,7 +3,6 @@ use native.Mathlib.Omega.{arith}
 use borrow.Author.Tests.{ne_eqb}
 use Rattle.reasons.specs.Private.{word_in}
 use Rattle.reasons.proofs.Ranges.{among_before, among_after, among_these}
-use borrow.Author.Rules.{rules}
 use Rattle.reasons.proofs.explaining.word_in.Goals as goal
 
 pub returns-then-kind-first_kind : goal.returns-then-kind-first_kind

@@ -3,7 +3,6 @@ use Rattle.laws.specs.Lists.{range}
 use Rattle.matching.specs.Extents.{nowhere}
 use Rattle.reasons.specs.Reasons.{words_for, no_words}
 use Rattle.reasons.proofs.Answers.{no_words_lem}
-use borrow.Author.Rules.{rules}
 use Rattle.reasons.proofs.explaining.words_for.Goals as goal
 
 pub returns-in-Quarrel : goal.returns-in-Quarrel

@@ -1,13 +1,9 @@
 -- `reasons::explaining::words_in` meets its contract. Assumes nothing.
-use Prim.Native.Nat.{◌-◌, ◌≤◌}
-use mathlib.Core.List.{map}
-use mathlib.Core.Path.{◌≡◌, refl, sym, ◌∙◌}
+use mathlib.Core.Path.{refl, sym, ◌∙◌}
 use native.Mathlib.Omega.{arith}
-use lib.Seq.{sets}
-use borrow.Author.Rules.{rules}
 use Rattle.kinds.specs.Kinds.{kinds}
 use Rattle.laws.specs.Lists.{range}
-use Rattle.reasons.specs.Private.{word_in, words_in}
+use Rattle.reasons.specs.Private.{words_in}
 use Rattle.reasons.proofs.Words.{fill_more, fill_done}
 use Rattle.reasons.proofs.explaining.words_in.Goals as goal
 

@@ -1,13 +1,10 @@
 use Prim.Native.Nat.{◌-◌, ◌≤◌}
 use mathlib.Core.List.{map}
-use mathlib.Core.Path.{◌≡◌, refl, sym, ◌∙◌}
-use native.Mathlib.Omega.{arith}
+use mathlib.Core.Path.{◌≡◌}
 use lib.Seq.{sets}
-use borrow.Author.Rules.{rules}
 use Rattle.kinds.specs.Kinds.{kinds}
 use Rattle.laws.specs.Lists.{range}
 use Rattle.reasons.specs.Private.{word_in, words_in}
-use Rattle.reasons.proofs.Words.{fill_more, fill_done}
 use Rattle.reasons.proofs.explaining.words_in.Given as goal
 
 abbrev pub invariant-loop-kind : goal.invariant-loop-kind

@@ -1,6 +1,5 @@
 -- `reasons::quarrels::first_kind` meets its contract. Assumes nothing.
 use Rattle.reasons.specs.Private.{first_kind}
-use borrow.Author.Rules.{rules}
 use Rattle.reasons.proofs.quarrels.first_kind.Goals as goal
 
 pub returns-in-Day : goal.returns-in-Day

@@ -1,6 +1,5 @@
 -- `reasons::quarrels::is_nothing` meets its contract. Assumes nothing.
 use Rattle.reasons.specs.Quarrels.{is_nothing}
-use borrow.Author.Rules.{rules}
 use Rattle.reasons.proofs.quarrels.is_nothing.Goals as goal
 
 pub returns-in-Nothing : goal.returns-in-Nothing

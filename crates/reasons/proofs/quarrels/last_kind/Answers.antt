@@ -1,6 +1,5 @@
 -- `reasons::quarrels::last_kind` meets its contract. Assumes nothing.
 use Rattle.reasons.specs.Private.{last_kind}
-use borrow.Author.Rules.{rules}
 use Rattle.reasons.proofs.quarrels.last_kind.Goals as goal
 
 pub returns-in-Day : goal.returns-in-Day

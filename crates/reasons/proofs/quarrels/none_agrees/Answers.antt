@@ -1,6 +1,5 @@
 -- `reasons::quarrels::none_agrees` meets its contract. Assumes nothing.
 use Rattle.reasons.specs.Quarrels.{none_agrees}
-use borrow.Author.Rules.{rules}
 use Rattle.reasons.proofs.quarrels.none_agrees.Goals as goal
 
 pub returns-in-Day : goal.returns-in-Day

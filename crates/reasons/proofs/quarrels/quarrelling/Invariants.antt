@@ -1,11 +1,8 @@
 use Prim.Native.Nat.{◌+◌, ◌-◌, ◌≤◌}
-use mathlib.Core.Path.{◌≡◌, sym, ◌∙◌}
-use native.Mathlib.Omega.{arith}
+use mathlib.Core.Path.{◌≡◌}
 use Rattle.laws.specs.Lists.{range}
 use Rattle.reasons.specs.Quarrels.{quarrelling, all_tried}
 use Rattle.reasons.specs.Private.{last_kind}
-use Rattle.reasons.proofs.Ranges.{kinds_row, last_few, first_most}
-use Rattle.reasons.proofs.Trying.{row_more, row_done}
 use Rattle.reasons.proofs.quarrels.quarrelling.Given as goal
 
 abbrev pub invariant-loop-kind : goal.invariant-loop-kind

@@ -2,7 +2,6 @@
 use mathlib.Core.Path.{sym, ap, ◌∙◌}
 use Rattle.reasons.specs.Quarrels.{none_agrees}
 use Rattle.reasons.proofs.Trying.{tried_unsaid, tried_out, tried_kept}
-use borrow.Author.Rules.{rules}
 use Rattle.reasons.proofs.quarrels.tried.Goals as goal
 
 pub returns-then-said-kind-eq0 : goal.returns-then-said-kind-eq0

@@ -1,7 +1,6 @@
 -- `reasons::quarrels::without` meets its contract. Assumes nothing.
 use mathlib.Core.Path.{refl}
 use Rattle.reasons.specs.Quarrels.{without}
-use borrow.Author.Rules.{rules}
 use Rattle.reasons.proofs.quarrels.without.Goals as goal
 
 pub returns : goal.returns

@@ -1,7 +1,6 @@
 -- `refusals::blocks::is_done` meets its contract. Assumes nothing.
 use Rattle.strptime.specs.Answers as reader
 use Rattle.refusals.proofs.Answers.{not_done}
-use borrow.Author.Rules.{rules}
 use Rattle.refusals.proofs.blocks.is_done.Goals as goal
 
 pub returns-in-Done : goal.returns-in-Done

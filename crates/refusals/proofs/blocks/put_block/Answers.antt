@@ -2,7 +2,6 @@
 use Rattle.laws.specs.Bytes.{bytes}
 use Rattle.lists.proofs.Puts.{then, kept_length}
 use Rattle.refusals.specs.Blocks.{block}
-use borrow.Author.Rules.{rules}
 use Rattle.refusals.proofs.blocks.put_block.Goals as goal
 
 pub returns-then-is_done : goal.returns-then-is_done

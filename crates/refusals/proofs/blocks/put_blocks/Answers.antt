@@ -1,12 +1,12 @@
 -- `refusals::blocks::put_blocks` meets its contract. Assumes nothing.
-use Prim.Native.Nat.{◌+◌, ◌-◌, ◌≤◌, ◌<◌}
+use Prim.Native.Nat.{◌-◌, ◌≤◌, ◌<◌}
 use mathlib.Core.Path.{◌≡◌}
 use native.Mathlib.Omega.{arith}
 use lib.ListN.{length, take, drop, length-take, length-drop}
 use Rattle.lists.specs.Lines.{lines, longest_input}
-use Rattle.lists.proofs.Listing.{Listing, list_start, list_next}
+use Rattle.lists.proofs.Listing.{list_start, list_next}
 use Rattle.lists.proofs.Splitting.{within}
-use Rattle.refusals.specs.Blocks.{blocks, opened_block, line_number, blocks_by}
+use Rattle.refusals.specs.Blocks.{blocks, opened_block, blocks_by}
 use Rattle.refusals.proofs.Lengths.{block_most}
 use Rattle.refusals.proofs.Numbering.{number_most, next_number}
 use Rattle.refusals.proofs.Whole.{left, next_block}

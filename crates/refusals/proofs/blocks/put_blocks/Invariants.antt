@@ -1,14 +1,9 @@
 use Prim.Native.Nat.{◌+◌, ◌-◌, ◌≤◌, ◌<◌}
 use mathlib.Core.Path.{◌≡◌}
-use native.Mathlib.Omega.{arith}
-use lib.ListN.{length, take, drop, length-take, length-drop}
-use Rattle.lists.specs.Lines.{lines, longest_input}
-use Rattle.lists.proofs.Listing.{Listing, list_start, list_next}
-use Rattle.lists.proofs.Splitting.{within}
+use lib.ListN.{length, drop}
+use Rattle.lists.specs.Lines.{lines}
+use Rattle.lists.proofs.Listing.{Listing}
 use Rattle.refusals.specs.Blocks.{blocks, opened_block, line_number, blocks_by}
-use Rattle.refusals.proofs.Lengths.{block_most}
-use Rattle.refusals.proofs.Numbering.{number_most, next_number}
-use Rattle.refusals.proofs.Whole.{left, next_block}
 use Rattle.refusals.proofs.blocks.put_blocks.Given as goal
 
 -- what is put and what is said of the texts that are left are what is to be said; the lines are counted while there is one

@@ -6,7 +6,6 @@ use Rattle.lists.proofs.Figures.{place_fits}
 use Rattle.lists.proofs.Formats.{elements_first}
 use Rattle.reasons.proofs.Places.{explained_inside}
 use Rattle.refusals.specs.Blocks.{opened_block}
-use borrow.Author.Rules.{rules}
 use Rattle.refusals.proofs.blocks.put_text.Goals as goal
 use Rattle.refusals.proofs.blocks.put_text.Goals.{After-elements_of-count}
 

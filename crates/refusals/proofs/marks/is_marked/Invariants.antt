@@ -1,13 +1,11 @@
 use Prim.Native.Nat.{◌-◌, ◌≤◌}
 use mathlib.Core.Bool.{false}
-use mathlib.Core.Path.{◌≡◌, refl, sym, ◌∙◌}
-use native.Mathlib.Omega.{arith}
+use mathlib.Core.Path.{◌≡◌}
 use lib.ListN.{get_or}
 use Rattle.kinds.specs.Kinds.{kinds}
 use Rattle.matching.specs.Extents.{nowhere}
-use Rattle.refusals.specs.Marks.{covers, is_marked}
+use Rattle.refusals.specs.Marks.{covers}
 use Rattle.refusals.specs.Over.{some}
-use Rattle.refusals.proofs.Over.{some_of, some_more}
 use Rattle.refusals.proofs.marks.is_marked.Given as goal
 
 abbrev pub invariant-loop-kind : goal.invariant-loop-kind

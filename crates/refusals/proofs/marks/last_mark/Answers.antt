@@ -1,8 +1,6 @@
 -- `refusals::marks::last_mark` meets its contract. Assumes nothing.
-use Prim.Native.Nat.{◌-◌, ◌≤◌}
 use mathlib.Core.Path.{◌≡◌, refl}
 use native.Mathlib.Omega.{arith}
-use lib.ListN.{get_or}
 use Rattle.kinds.specs.Kinds.{kinds}
 use Rattle.matching.specs.Extents.{nowhere}
 use Rattle.refusals.specs.Marks.{last_mark}

@@ -1,12 +1,9 @@
 use Prim.Native.Nat.{◌-◌, ◌≤◌}
-use mathlib.Core.Path.{◌≡◌, refl}
-use native.Mathlib.Omega.{arith}
+use mathlib.Core.Path.{◌≡◌}
 use lib.ListN.{get_or}
 use Rattle.kinds.specs.Kinds.{kinds}
 use Rattle.matching.specs.Extents.{nowhere}
-use Rattle.refusals.specs.Marks.{last_mark}
 use Rattle.refusals.specs.Over.{most}
-use Rattle.refusals.proofs.Over.{most_more}
 use Rattle.refusals.proofs.marks.last_mark.Given as goal
 
 abbrev pub invariant-loop-kind : goal.invariant-loop-kind

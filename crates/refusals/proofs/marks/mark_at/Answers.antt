@@ -1,7 +1,6 @@
 -- `refusals::marks::mark_at` meets its contract. Assumes nothing.
 use mathlib.Core.Path.{sym, ◌∙◌}
 use Rattle.refusals.specs.Marks.{mark_at}
-use borrow.Author.Rules.{rules}
 use Rattle.refusals.proofs.marks.mark_at.Goals as goal
 
 pub returns-then-is_marked : goal.returns-then-is_marked

@@ -1,7 +1,6 @@
 -- `refusals::marks::only` meets its contract. Assumes nothing.
 use Rattle.matching.specs.Extents.{nowhere}
 use Rattle.refusals.proofs.Marked.{only_one}
-use borrow.Author.Rules.{rules}
 use Rattle.refusals.proofs.marks.only.Goals as goal
 
 pub returns : goal.returns

@@ -6,7 +6,6 @@ use Rattle.matching.specs.Extents.{extent}
 use Rattle.strptime.specs.Answers as reader
 use Rattle.refusals.specs.Marks.{marked}
 use Rattle.refusals.proofs.Marked.{same_line, by_words}
-use borrow.Author.Rules.{rules}
 use Rattle.refusals.proofs.marks.put_marked.Goals as goal
 
 pub only-requires : goal.only-requires

@@ -1,10 +1,7 @@
 -- `refusals::marks::put_marks` meets its contract. Assumes nothing.
-use Prim.Native.Nat.{◌-◌, ◌≤◌}
 use mathlib.Core.Path.{◌≡◌}
 use native.Mathlib.Omega.{arith}
-use Rattle.lists.specs.Putting.{Put}
 use Rattle.lists.proofs.Puts.{each_start, each_next, kept_length}
-use Rattle.refusals.specs.Marks.{marks_to}
 use Rattle.refusals.proofs.marks.put_marks.Goals as goal
 
 pub loop-i-init : goal.loop-i-init

@@ -4,7 +4,6 @@ use borrow.Author.Tests.{ne_eqb}
 use Rattle.laws.specs.Bytes.{bytes}
 use Rattle.lists.proofs.Puts.{then}
 use Rattle.refusals.specs.Marks.{marks_line}
-use borrow.Author.Rules.{rules}
 use Rattle.refusals.proofs.marks.put_marks_line.Goals as goal
 
 pub returns-then-last-eq0 : goal.returns-then-last-eq0

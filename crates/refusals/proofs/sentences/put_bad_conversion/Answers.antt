@@ -2,7 +2,6 @@
 use Rattle.laws.specs.Bytes.{bytes}
 use Rattle.lists.proofs.Puts.{then}
 use Rattle.refusals.specs.Sentences.{bad_conversion}
-use borrow.Author.Rules.{rules}
 use Rattle.refusals.proofs.sentences.put_bad_conversion.Goals as goal
 
 pub returns : goal.returns

@@ -2,7 +2,6 @@
 use borrow.Author.Tests.{lt-ltb, le-ltb}
 use Rattle.laws.specs.Bytes.{bytes}
 use Rattle.refusals.specs.Sentences.{mismatch}
-use borrow.Author.Rules.{rules}
 use Rattle.refusals.proofs.sentences.put_mismatch.Goals as goal
 
 pub returns-then-place-text : goal.returns-then-place-text

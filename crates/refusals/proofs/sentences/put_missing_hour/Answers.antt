@@ -5,7 +5,6 @@ use native.Mathlib.Omega.{arith}
 use borrow.Author.Tests.{eq-eqb, ne_eqb}
 use Rattle.laws.specs.Bytes.{bytes}
 use Rattle.refusals.specs.Sentences.{missing_hour}
-use borrow.Author.Rules.{rules}
 use Rattle.refusals.proofs.sentences.put_missing_hour.Goals as goal
 
 pub returns-then-second-lt12 : goal.returns-then-second-lt12

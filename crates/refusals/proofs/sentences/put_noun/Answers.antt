@@ -1,7 +1,6 @@
 -- `refusals::sentences::put_noun` meets its contract. Assumes nothing.
 use Rattle.laws.specs.Bytes.{bytes}
 use Rattle.refusals.specs.Sentences.{noun}
-use borrow.Author.Rules.{rules}
 use Rattle.refusals.proofs.sentences.put_noun.Goals as goal
 
 pub returns-in-Day : goal.returns-in-Day

@@ -2,7 +2,6 @@
 use Rattle.laws.specs.Bytes.{bytes}
 use Rattle.lists.proofs.Puts.{then}
 use Rattle.refusals.specs.Sentences.{open_day}
-use borrow.Author.Rules.{rules}
 use Rattle.refusals.proofs.sentences.put_open_day.Goals as goal
 
 pub returns : goal.returns

@@ -1,7 +1,6 @@
 -- `refusals::sentences::put_part` meets its contract. Assumes nothing.
 use Rattle.laws.specs.Bytes.{bytes}
 use Rattle.refusals.specs.Sentences.{part_name}
-use borrow.Author.Rules.{rules}
 use Rattle.refusals.proofs.sentences.put_part.Goals as goal
 
 pub returns-in-Year : goal.returns-in-Year

@@ -4,7 +4,6 @@ use Rattle.reasons.specs.Reasons.{about}
 use Rattle.strptime.specs.Answers as reader
 use Rattle.refusals.specs.Sentences.{open_sentence, sentence}
 use Rattle.refusals.proofs.Answers.{unsaid}
-use borrow.Author.Rules.{rules}
 use Rattle.refusals.proofs.sentences.put_sentence.Goals as goal
 
 pub put_bad_conversion-requires : goal.put_bad_conversion-requires

@@ -1,10 +1,7 @@
 -- `refusals::shown::put_shown` meets its contract. Assumes nothing.
-use Prim.Native.Nat.{◌-◌, ◌≤◌}
-use mathlib.Core.List.{[], ◌∷◌}
 use mathlib.Core.Path.{◌≡◌}
 use native.Mathlib.Omega.{arith}
-use lib.ListN.{length, get_or}
-use Rattle.lists.specs.Putting.{Put, each}
+use lib.ListN.{length}
 use Rattle.lists.proofs.Puts.{each_start, each_next, each_all, kept_length}
 use Rattle.refusals.specs.Shown.{shown_byte, shown}
 use Rattle.refusals.proofs.shown.put_shown.Goals as goal

@@ -1,11 +1,8 @@
 use Prim.Native.Nat.{◌-◌, ◌≤◌}
 use mathlib.Core.List.{[], ◌∷◌}
-use mathlib.Core.Path.{◌≡◌}
-use native.Mathlib.Omega.{arith}
 use lib.ListN.{length, get_or}
 use Rattle.lists.specs.Putting.{Put, each}
-use Rattle.lists.proofs.Puts.{each_start, each_next, each_all, kept_length}
-use Rattle.refusals.specs.Shown.{shown_byte, shown}
+use Rattle.refusals.specs.Shown.{shown_byte}
 use Rattle.refusals.proofs.shown.put_shown.Given as goal
 
 abbrev pub invariant-loop-i : goal.invariant-loop-i

@@ -2,7 +2,6 @@
 use mathlib.Core.Path.{sym, ◌∙◌}
 use borrow.Author.Tests.{le-leb, lt-leb}
 use Rattle.refusals.specs.Shown.{shown_byte}
-use borrow.Author.Rules.{rules}
 use Rattle.refusals.proofs.shown.shown_byte.Goals as goal
 
 pub returns-then-is_space : goal.returns-then-is_space

@@ -2,7 +2,6 @@
 use borrow.Author.Tests.{eq-eqb, ne_eqb}
 use Rattle.matching.specs.Extents.{nowhere}
 use Rattle.refusals.specs.Words.{begins}
-use borrow.Author.Rules.{rules}
 use Rattle.refusals.proofs.words.begins.Goals as goal
 
 pub returns-then-extent-offset : goal.returns-then-extent-offset

@@ -1,6 +1,5 @@
 -- `refusals::words::counted` meets its contract. Assumes nothing.
 use native.Mathlib.Numerals.{add-one}
-use borrow.Author.Rules.{rules}
 use Rattle.refusals.proofs.words.counted.Goals as goal
 
 pub returns-then-passed : goal.returns-then-passed

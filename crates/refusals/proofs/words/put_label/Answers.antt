@@ -5,7 +5,6 @@ use lib.Seq.{length-take-le}
 use Rattle.laws.specs.Bytes.{bytes}
 use Rattle.refusals.specs.Words.{labels}
 use Rattle.refusals.proofs.Labels.{rows, lengths, row_fits, row_label, no_label}
-use borrow.Author.Rules.{rules}
 use Rattle.refusals.proofs.words.put_label.Goals as goal
 
 pub returns-then-kind-ge16 : goal.returns-then-kind-ge16

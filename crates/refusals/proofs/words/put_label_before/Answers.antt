@@ -4,7 +4,6 @@ use native.Mathlib.Omega.{arith}
 use lib.ListN.{get_or-eq_default}
 use Rattle.text.specs.Digits.{is_digit}
 use Rattle.refusals.specs.Words.{label_before}
-use borrow.Author.Rules.{rules}
 use Rattle.refusals.proofs.words.put_label_before.Goals as goal
 
 pub returns-then-word-eq0 : goal.returns-then-word-eq0

@@ -1,7 +1,6 @@
 -- `refusals::words::put_phrase` meets its contract. Assumes nothing.
 use Rattle.lists.proofs.Puts.{then}
 use Rattle.refusals.specs.Words.{phrase}
-use borrow.Author.Rules.{rules}
 use Rattle.refusals.proofs.words.put_phrase.Goals as goal
 
 pub returns : goal.returns

@@ -6,9 +6,8 @@ use borrow.Author.Tests.{not-true, not-false}
 use lib.ListN.{get_or}
 use Rattle.matching.specs.Extents.{nowhere}
 use Rattle.lists.proofs.Puts.{then}
-use Rattle.refusals.specs.Words.{begins, phrase_at}
+use Rattle.refusals.specs.Words.{phrase_at}
 use Rattle.refusals.proofs.Phrases.{some_words}
-use borrow.Author.Rules.{rules}
 use Rattle.refusals.proofs.words.put_phrase_at.Goals as goal
 use Rattle.refusals.proofs.words.put_phrase_at.Goals.{Else-not-begins}
 

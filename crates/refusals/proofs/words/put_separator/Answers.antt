@@ -2,7 +2,6 @@
 use borrow.Author.Tests.{ne_eqb}
 use Rattle.laws.specs.Bytes.{bytes}
 use Rattle.refusals.specs.Words.{separator}
-use borrow.Author.Rules.{rules}
 use Rattle.refusals.proofs.words.put_separator.Goals as goal
 
 pub returns-then-more-eq0 : goal.returns-then-more-eq0

@@ -1,12 +1,9 @@
 -- `refusals::words::put_word_list` meets its contract. Assumes nothing.
-use Prim.Native.Nat.{◌-◌, ◌≤◌}
 use mathlib.Core.Path.{◌≡◌}
 use native.Mathlib.Omega.{arith}
 use lib.ListN.{length}
-use Rattle.kinds.specs.Kinds.{kinds}
-use Rattle.lists.specs.Putting.{Put, each}
 use Rattle.lists.proofs.Puts.{each_start, each_next, kept_length}
-use Rattle.refusals.specs.Words.{phrase_at, word_list}
+use Rattle.refusals.specs.Words.{word_list}
 use Rattle.refusals.proofs.words.put_word_list.Goals as goal
 
 pub loop-offset-init : goal.loop-offset-init

@@ -1,11 +1,8 @@
 use Prim.Native.Nat.{◌-◌, ◌≤◌}
-use mathlib.Core.Path.{◌≡◌}
-use native.Mathlib.Omega.{arith}
 use lib.ListN.{length}
 use Rattle.kinds.specs.Kinds.{kinds}
 use Rattle.lists.specs.Putting.{Put, each}
-use Rattle.lists.proofs.Puts.{each_start, each_next, kept_length}
-use Rattle.refusals.specs.Words.{phrase_at, word_list}
+use Rattle.refusals.specs.Words.{phrase_at}
 use Rattle.refusals.proofs.words.put_word_list.Given as goal
 
 abbrev pub invariant-loop-offset : goal.invariant-loop-offset

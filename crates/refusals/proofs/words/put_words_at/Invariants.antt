@@ -1,9 +1,6 @@
 use Prim.Native.Nat.{◌-◌, ◌≤◌}
-use mathlib.Core.Path.{◌≡◌}
-use native.Mathlib.Omega.{arith}
 use Rattle.kinds.specs.Kinds.{kinds}
 use Rattle.lists.specs.Putting.{Put, each}
-use Rattle.lists.proofs.Puts.{each_start, each_next, kept_length}
 use Rattle.refusals.specs.Words.{phrase_at}
 use Rattle.refusals.proofs.words.put_words_at.Given as goal
 

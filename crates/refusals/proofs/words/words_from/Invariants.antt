@@ -1,12 +1,10 @@
 use Prim.Native.Nat.{◌-◌, ◌≤◌}
-use mathlib.Core.Path.{◌≡◌, refl, sym, ◌∙◌}
-use native.Mathlib.Omega.{arith}
+use mathlib.Core.Path.{◌≡◌}
 use lib.ListN.{get_or}
 use Rattle.kinds.specs.Kinds.{kinds}
 use Rattle.matching.specs.Extents.{nowhere}
 use Rattle.refusals.specs.Over.{tally}
-use Rattle.refusals.specs.Words.{begins_from, words_from}
-use Rattle.refusals.proofs.Over.{tally_more, tally_most}
+use Rattle.refusals.specs.Words.{begins_from}
 use Rattle.refusals.proofs.words.words_from.Given as goal
 
 abbrev pub invariant-loop-kind : goal.invariant-loop-kind

@@ -1,7 +1,6 @@
 -- `report::line::put_day` meets its contract. Assumes nothing.
 use Rattle.laws.specs.Bytes.{bytes}
 use Rattle.report.specs.Line.{day_shown}
-use borrow.Author.Rules.{rules}
 use Rattle.report.proofs.line.put_day.Goals as goal
 
 pub returns-in-NoDate : goal.returns-in-NoDate

@@ -2,7 +2,6 @@
 use Rattle.laws.specs.Bytes.{bytes}
 use Rattle.report.specs.Line.{moment_shown}
 use Rattle.lists.proofs.Puts.{then}
-use borrow.Author.Rules.{rules}
 use Rattle.report.proofs.line.put_moment.Goals as goal
 
 pub returns : goal.returns

@@ -2,7 +2,6 @@
 use Rattle.laws.specs.Bytes.{bytes}
 use Rattle.report.specs.Line.{said_shown}
 use Rattle.lists.proofs.Puts.{then}
-use borrow.Author.Rules.{rules}
 use Rattle.report.proofs.line.put_said.Goals as goal
 
 pub returns-in-Unsaid : goal.returns-in-Unsaid

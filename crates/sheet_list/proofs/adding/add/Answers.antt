@@ -1,7 +1,6 @@
 -- `sheet_list::adding::add` meets its contract. Assumes nothing.
 use native.Mathlib.Omega.{arith}
 use Rattle.laws.proofs.Cases.{clash}
-use borrow.Author.Rules.{rules}
 use Rattle.sheet_list.proofs.adding.add.Goals as goal
 
 pub add_sheet-requires : goal.add_sheet-requires

@@ -1,9 +1,7 @@
 -- `sheet_list::adding::add_all` meets its contract. Assumes nothing.
-use Rattle.sheet_list.proofs.Loop.{Adding, adding_start, adding_stops, adding_goes, adding_ends, words_then, table_then, index_then}
-use Rattle.sheet_list.specs.Adding.{held}
+use Rattle.sheet_list.proofs.Loop.{adding_start, adding_stops, adding_goes, adding_ends, words_then, table_then, index_then}
 use borrow.Author.Tests.{ltb-true}
 use native.Mathlib.Omega.{arith}
-use Prim.Native.Nat.{◌-◌}
 use Rattle.sheet_list.proofs.adding.add_all.Goals as goal
 
 pub loop-added-init : goal.loop-added-init

@@ -1,7 +1,5 @@
-use Rattle.sheet_list.proofs.Loop.{Adding, adding_start, adding_stops, adding_goes, adding_ends, words_then, table_then, index_then}
+use Rattle.sheet_list.proofs.Loop.{Adding}
 use Rattle.sheet_list.specs.Adding.{held}
-use borrow.Author.Tests.{ltb-true}
-use native.Mathlib.Omega.{arith}
 use Prim.Native.Nat.{◌-◌}
 use Rattle.sheet_list.proofs.adding.add_all.Given as goal
 

@@ -2,7 +2,6 @@
 use Rattle.sheet_list.proofs.Steps.{sheet_undated, sheet_bad, sheet_word}
 use Rattle.sheets.proofs.Sheets.{packing_word}
 use mathlib.Core.Path.{sym, ◌∙◌}
-use borrow.Author.Rules.{rules}
 use Rattle.sheet_list.proofs.adding.add_sheet.Goals as goal
 
 pub add_word-requires : goal.add_word-requires

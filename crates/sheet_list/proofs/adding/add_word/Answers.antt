@@ -4,7 +4,6 @@ use Rattle.sheet_list.proofs.Holding.{sound}
 use mathlib.Core.Path.{sym, ◌∙◌}
 use borrow.Author.Tests.{not-true, not-false}
 use native.Mathlib.Omega.{arith}
-use borrow.Author.Rules.{rules}
 use Rattle.sheet_list.proofs.adding.add_word.Goals as goal
 
 pub returns-then-not-is_sound : goal.returns-then-not-is_sound

@@ -8,7 +8,6 @@ use lib.Seq.{length-take-le}
 use mathlib.Core.Path.{sym, ap, ◌∙◌}
 use mathlib.Core.Bool.{not}
 use native.Mathlib.Omega.{arith}
-use borrow.Author.Rules.{rules}
 use Rattle.sheet_list.proofs.adding.is_full.Goals as goal
 
 pub returns-then-count-words : goal.returns-then-count-words

@@ -6,7 +6,6 @@ use Rattle.sheets.proofs.Order.{packing_week}
 use lib.ListN.{length, take}
 use mathlib.Core.Path.{ap, ◌∙◌}
 use native.Mathlib.Omega.{arith}
-use borrow.Author.Rules.{rules}
 use Rattle.sheet_list.proofs.adding.put_word.Goals as goal
 
 pub insert-requires : goal.insert-requires

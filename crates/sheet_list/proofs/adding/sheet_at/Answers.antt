@@ -3,7 +3,6 @@ use native.Mathlib.Omega.{arith}
 use mathlib.Core.Path.{◌≡◌}
 use Prim.Native.Nat.{◌+◌, ◌*◌}
 use Rattle.sheet_list.specs.Adding.{sheet_at}
-use borrow.Author.Rules.{rules}
 use Rattle.sheet_list.proofs.adding.sheet_at.Goals as goal
 
 pub returns : goal.returns

@@ -4,7 +4,6 @@ use lib.Seq.{length-take-le}
 use lib.ListN.{take}
 use mathlib.Core.Path.{sym}
 use native.Mathlib.Omega.{arith}
-use borrow.Author.Rules.{rules}
 use Rattle.sheet_list.proofs.ascending.insert.Goals as goal
 
 pub slice_bounds-rank-end-2 : goal.slice_bounds-rank-end-2

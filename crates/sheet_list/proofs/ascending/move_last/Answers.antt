@@ -1,7 +1,6 @@
 -- `sheet_list::ascending::move_last` meets its contract. Assumes nothing.
 use Rattle.sheet_list.proofs.Shifting.{start, move}
 use native.Mathlib.Omega.{arith}
-use borrow.Author.Rules.{rules}
 use Rattle.sheet_list.proofs.ascending.move_last.Goals as goal
 
 pub returns-then-count-eq1 : goal.returns-then-count-eq1

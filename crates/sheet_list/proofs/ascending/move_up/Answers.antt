@@ -1,10 +1,9 @@
 -- `sheet_list::ascending::move_up` meets its contract. Assumes nothing.
 use Rattle.sheet_list.proofs.Shifting.{move}
 use Rattle.sheet_list.specs.Private.{Moves}
-use lib.ListN.{length, length-set}
+use lib.ListN.{length-set}
 use native.Mathlib.Omega.{arith}
 use mathlib.Core.Path.{◌≡◌, refl, ◌∙◌}
-use Prim.Native.Nat.{◌-◌, ◌≤◌}
 use Rattle.sheet_list.proofs.ascending.move_up.Goals as goal
 
 pub loop-i-init : goal.loop-i-init

@@ -1,8 +1,6 @@
-use Rattle.sheet_list.proofs.Shifting.{move}
 use Rattle.sheet_list.specs.Private.{Moves}
-use lib.ListN.{length, length-set}
-use native.Mathlib.Omega.{arith}
-use mathlib.Core.Path.{◌≡◌, refl, ◌∙◌}
+use lib.ListN.{length}
+use mathlib.Core.Path.{◌≡◌}
 use Prim.Native.Nat.{◌-◌, ◌≤◌}
 use Rattle.sheet_list.proofs.ascending.move_up.Given as goal
 

@@ -3,7 +3,6 @@ use Rattle.sheet_list.proofs.Shifting.{shifted_length, done}
 use Rattle.sheet_list.specs.Private.{Moves}
 use lib.ListN.{length-set}
 use mathlib.Core.Path.{◌∙◌}
-use borrow.Author.Rules.{rules}
 use Rattle.sheet_list.proofs.ascending.put_at.Goals as goal
 
 pub shape_of-words : goal.shape_of-words

@@ -1,9 +1,6 @@
 -- `sheet_list::ascending::rank` meets its contract. Assumes nothing.
 use Rattle.sheet_list.proofs.Ranks.{below_most, not_lower, lower}
-use Rattle.sheet_list.specs.Ascending.{below}
-use lib.ListN.{length}
 use native.Mathlib.Omega.{arith}
-use Prim.Native.Nat.{◌-◌, ◌≤◌}
 use Rattle.sheet_list.proofs.ascending.rank.Goals as goal
 
 pub loop-low-init : goal.loop-low-init

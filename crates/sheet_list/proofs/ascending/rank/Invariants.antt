@@ -1,7 +1,5 @@
-use Rattle.sheet_list.proofs.Ranks.{below_most, not_lower, lower}
 use Rattle.sheet_list.specs.Ascending.{below}
 use lib.ListN.{length}
-use native.Mathlib.Omega.{arith}
 use Prim.Native.Nat.{◌-◌, ◌≤◌}
 use Rattle.sheet_list.proofs.ascending.rank.Given as goal
 

@@ -1,11 +1,8 @@
 -- `sheet_list::judging::is_list` meets its contract. Assumes nothing.
-use Rattle.sheet_list.proofs.Listing.{Listing, listing_start, listing_end, listing_falls, listing_breaks, listing_on}
-use lib.ListN.{length}
+use Rattle.sheet_list.proofs.Listing.{listing_start, listing_end, listing_falls, listing_breaks, listing_on}
 use mathlib.Core.Path.{sym, ◌∙◌}
-use borrow.Author.Rules.{rules}
 use borrow.Author.Tests.{not-true, not-false}
 use native.Mathlib.Omega.{arith}
-use Prim.Native.Nat.{◌-◌, ◌≤◌}
 use Rattle.sheet_list.proofs.judging.is_list.Goals as goal
 
 pub loop-i-init : goal.loop-i-init

@@ -1,9 +1,5 @@
-use Rattle.sheet_list.proofs.Listing.{Listing, listing_start, listing_end, listing_falls, listing_breaks, listing_on}
+use Rattle.sheet_list.proofs.Listing.{Listing}
 use lib.ListN.{length}
-use mathlib.Core.Path.{sym, ◌∙◌}
-use borrow.Author.Rules.{rules}
-use borrow.Author.Tests.{not-true, not-false}
-use native.Mathlib.Omega.{arith}
 use Prim.Native.Nat.{◌-◌, ◌≤◌}
 use Rattle.sheet_list.proofs.judging.is_list.Given as goal
 

@@ -10,7 +10,6 @@ use Prim.Native.Nat.{◌<◌}
 use mathlib.Core.Bool.{and-eq-true_iff}
 use mathlib.Core.Path.{sym, ap, ◌∙◌}
 use borrow.Author.Tests.{not-true, not-false}
-use borrow.Author.Rules.{rules}
 use Rattle.sheet_list.proofs.tallies.count_sheet.Goals as goal
 
 pub slice_bounds-is_counted-end : goal.slice_bounds-is_counted-end

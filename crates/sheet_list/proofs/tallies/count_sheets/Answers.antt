@@ -1,12 +1,10 @@
 -- `sheet_list::tallies::count_sheets` meets its contract. Assumes nothing.
 use Rattle.sheet_list.proofs.Tallying.{again, onward, tallied_start}
-use Rattle.sheet_list.specs.Private.{IsTallied}
 use Rattle.sheet_list.specs.Adding.{most_words}
 use lib.Seq.{take_all}
-use lib.ListN.{length, take}
+use lib.ListN.{take}
 use native.Mathlib.Omega.{arith}
 use mathlib.Core.Path.{◌≡◌, refl, sym, ◌∙◌}
-use Prim.Native.Nat.{◌-◌, ◌≤◌}
 use Rattle.sheet_list.proofs.tallies.count_sheets.Goals as goal
 
 pub loop-i-init : goal.loop-i-init

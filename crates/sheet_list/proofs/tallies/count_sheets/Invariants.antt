@@ -1,10 +1,6 @@
-use Rattle.sheet_list.proofs.Tallying.{again, onward, tallied_start}
 use Rattle.sheet_list.specs.Private.{IsTallied}
 use Rattle.sheet_list.specs.Adding.{most_words}
-use lib.Seq.{take_all}
 use lib.ListN.{length, take}
-use native.Mathlib.Omega.{arith}
-use mathlib.Core.Path.{◌≡◌, refl, sym, ◌∙◌}
 use Prim.Native.Nat.{◌-◌, ◌≤◌}
 use Rattle.sheet_list.proofs.tallies.count_sheets.Given as goal
 

@@ -4,7 +4,6 @@ use Rattle.sheets.proofs.Order.{packing_week}
 use native.Mathlib.Omega.{arith}
 use mathlib.Core.Path.{sym, ◌∙◌}
 use borrow.Author.Tests.{not-true, not-false}
-use borrow.Author.Rules.{rules}
 use Rattle.sheet_list.proofs.tallies.is_counted.Goals as goal
 
 pub returns-then-not-is_packing : goal.returns-then-not-is_packing

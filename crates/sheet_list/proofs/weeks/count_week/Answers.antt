@@ -7,7 +7,6 @@ use lib.ListN.{length, take, length-set}
 use mathlib.Core.Path.{sym, ap, ◌∙◌}
 use Prim.Native.Nat.{◌+◌, ◌*◌, ◌<◌}
 use native.Mathlib.Omega.{arith}
-use borrow.Author.Rules.{rules}
 use Rattle.sheet_list.proofs.weeks.count_week.Goals as goal
 
 pub slice_bounds-rank-end-2 : goal.slice_bounds-rank-end-2

@@ -1,7 +1,6 @@
 -- `sheet_list::weeks::has_week` meets its contract. Assumes nothing.
 use Rattle.sheet_list.proofs.Tables.{week_at}
 use mathlib.Core.Path.{◌∙◌}
-use borrow.Author.Rules.{rules}
 use Rattle.sheet_list.proofs.weeks.has_week.Goals as goal
 
 pub returns : goal.returns

@@ -1,14 +1,12 @@
 -- `sheet_list::weeks::is_table` meets its contract. Assumes nothing.
 use Rattle.sheet_list.proofs.Tables.{entry_is}
-use Rattle.sheet_list.proofs.Runs.{Walk, list_weekly, walk_end, walk_short, walk_differs, walk_on, run_some, run_within}
+use Rattle.sheet_list.proofs.Runs.{list_weekly, walk_end, walk_short, walk_differs, walk_on, run_some, run_within}
 use Rattle.sheets.proofs.Order.{packing_week}
 use Rattle.sheets.specs.Sheets.{is_packing, week_of}
 use Rattle.laws.proofs.Lists.{each}
-use lib.ListN.{length, get_or}
-use borrow.Author.Rules.{rules}
+use lib.ListN.{get_or}
 use native.Mathlib.Omega.{arith}
 use mathlib.Core.Path.{refl, sym, ◌∙◌}
-use Prim.Native.Nat.{◌-◌, ◌≤◌}
 use Rattle.sheet_list.proofs.weeks.is_table.Goals as goal
 
 pub loop-i-init : goal.loop-i-init

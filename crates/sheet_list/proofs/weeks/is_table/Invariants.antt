@@ -1,12 +1,5 @@
-use Rattle.sheet_list.proofs.Tables.{entry_is}
-use Rattle.sheet_list.proofs.Runs.{Walk, list_weekly, walk_end, walk_short, walk_differs, walk_on, run_some, run_within}
-use Rattle.sheets.proofs.Order.{packing_week}
-use Rattle.sheets.specs.Sheets.{is_packing, week_of}
-use Rattle.laws.proofs.Lists.{each}
-use lib.ListN.{length, get_or}
-use borrow.Author.Rules.{rules}
-use native.Mathlib.Omega.{arith}
-use mathlib.Core.Path.{refl, sym, ◌∙◌}
+use Rattle.sheet_list.proofs.Runs.{Walk}
+use lib.ListN.{length}
 use Prim.Native.Nat.{◌-◌, ◌≤◌}
 use Rattle.sheet_list.proofs.weeks.is_table.Given as goal
 

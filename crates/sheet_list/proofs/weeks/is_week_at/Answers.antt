@@ -3,7 +3,6 @@ use lib.ListN.{length}
 use Rattle.sheet_list.specs.Private.{is_week_at}
 use borrow.Author.Tests.{le-ltb, lt-ltb}
 use native.Mathlib.Omega.{arith}
-use borrow.Author.Rules.{rules}
 use Rattle.sheet_list.proofs.weeks.is_week_at.Goals as goal
 
 pub returns-then-table-at : goal.returns-then-table-at

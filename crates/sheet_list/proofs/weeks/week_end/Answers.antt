@@ -1,11 +1,10 @@
 -- `sheet_list::weeks::week_end` meets its contract. Assumes nothing.
-use Rattle.sheet_list.proofs.Runs.{Running, run_stops, run_goes, run_ends, later_week, that_week}
-use Rattle.sheets.specs.Sheets.{week_of, next_week}
-use lib.ListN.{length, get_or}
-use borrow.Author.Rules.{rules}
+use Rattle.sheet_list.proofs.Runs.{run_stops, run_goes, run_ends, later_week, that_week}
+use Rattle.sheets.specs.Sheets.{next_week}
+use lib.ListN.{get_or}
 use native.Mathlib.Omega.{arith}
 use mathlib.Core.Path.{refl}
-use Prim.Native.Nat.{◌-◌, ◌≤◌, ◌<◌}
+use Prim.Native.Nat.{◌≤◌, ◌<◌}
 use Rattle.sheet_list.proofs.weeks.week_end.Goals as goal
 
 pub loop-i-init : goal.loop-i-init

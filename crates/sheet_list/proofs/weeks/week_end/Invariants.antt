@@ -1,10 +1,7 @@
-use Rattle.sheet_list.proofs.Runs.{Running, run_stops, run_goes, run_ends, later_week, that_week}
-use Rattle.sheets.specs.Sheets.{week_of, next_week}
+use Rattle.sheet_list.proofs.Runs.{Running}
+use Rattle.sheets.specs.Sheets.{week_of}
 use lib.ListN.{length, get_or}
-use borrow.Author.Rules.{rules}
-use native.Mathlib.Omega.{arith}
-use mathlib.Core.Path.{refl}
-use Prim.Native.Nat.{◌-◌, ◌≤◌, ◌<◌}
+use Prim.Native.Nat.{◌-◌, ◌≤◌}
 use Rattle.sheet_list.proofs.weeks.week_end.Given as goal
 
 abbrev pub invariant-loop-i : goal.invariant-loop-i

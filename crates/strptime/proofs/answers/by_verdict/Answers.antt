@@ -1,5 +1,4 @@
 -- `strptime::answers::by_verdict` meets its contract. Assumes nothing.
-use borrow.Author.Rules.{rules}
 use mathlib.Core.Path.{sym, ◌∙◌}
 use Rattle.agreement.proofs.Demand.{day_judged}
 use Rattle.strptime.specs.Answers.{showing, refused, naming, examining, reading_of, with_day}

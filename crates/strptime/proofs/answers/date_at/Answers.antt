@@ -1,5 +1,4 @@
 -- `strptime::answers::date_at` meets its contract. Assumes nothing.
-use borrow.Author.Rules.{rules}
 use native.Mathlib.Omega.{arith}
 use Rattle.strptime.proofs.Days.{day_is, never_outside}
 use Rattle.strptime.proofs.answers.date_at.Goals as goal

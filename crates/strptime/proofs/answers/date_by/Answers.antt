@@ -1,5 +1,4 @@
 -- `strptime::answers::date_by` meets its contract. Assumes nothing.
-use borrow.Author.Rules.{rules}
 use mathlib.Core.Path.{sym, ◌∙◌}
 use Rattle.judge.proofs.Engines.{searched_verdict}
 use Rattle.strptime.specs.Answers.{showing, refused, naming, examining, over_budget, reading_of, with_searched, judged}

@@ -1,5 +1,4 @@
 -- `strptime::answers::done` meets its contract. Assumes nothing.
-use borrow.Author.Rules.{rules}
 use Rattle.strptime.specs.Answers.{reading_of, examining, done}
 use Rattle.strptime.proofs.answers.done.Goals as goal
 

@@ -1,5 +1,4 @@
 -- `strptime::answers::judged` meets its contract. Assumes nothing.
-use borrow.Author.Rules.{rules}
 use mathlib.Core.Path.{sym, ap, ◌∙◌}
 use Rattle.strptime.specs.Private.{with_dated}
 use Rattle.strptime.proofs.answers.judged.Goals as goal

@@ -1,6 +1,5 @@
 -- `strptime::answers::read_by` meets its contract. Assumes nothing.
 use mathlib.Core.Path.{refl}
-use borrow.Author.Rules.{rules}
 use Rattle.strptime.specs.Answers.{reading_of, concluded}
 use Rattle.strptime.proofs.Opens.{by_outcome}
 use Rattle.strptime.proofs.answers.read_by.Goals as goal

@@ -1,5 +1,4 @@
 -- `strptime::answers::read_elements` meets its contract. Assumes nothing.
-use borrow.Author.Rules.{rules}
 use mathlib.Core.Path.{◌∙◌}
 use Rattle.strptime.proofs.Opens.{entry_bad, entries_read}
 use Rattle.strptime.proofs.answers.read_elements.Goals as goal

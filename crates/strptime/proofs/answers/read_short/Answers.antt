@@ -1,5 +1,4 @@
 -- `strptime::answers::read_short` meets its contract. Assumes nothing.
-use borrow.Author.Rules.{rules}
 use mathlib.Core.Path.{◌∙◌}
 use native.Mathlib.Omega.{arith}
 use Rattle.strptime.specs.Answers.{reading_of}

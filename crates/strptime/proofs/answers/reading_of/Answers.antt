@@ -1,5 +1,4 @@
 -- `strptime::answers::reading_of` meets its contract. Assumes nothing.
-use borrow.Author.Rules.{rules}
 use Rattle.strptime.specs.Answers.{showing, refused, finished, naming, examining, over_budget, reading_of}
 use Rattle.strptime.proofs.answers.reading_of.Goals as goal
 

@@ -1,5 +1,4 @@
 -- `strptime::answers::refused` meets its contract. Assumes nothing.
-use borrow.Author.Rules.{rules}
 use Rattle.strptime.specs.Answers.{refused}
 use Rattle.strptime.proofs.answers.refused.Goals as goal
 

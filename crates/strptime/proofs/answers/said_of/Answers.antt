@@ -1,5 +1,4 @@
 -- `strptime::answers::said_of` meets its contract. Assumes nothing.
-use borrow.Author.Rules.{rules}
 use borrow.Author.Tests.{ne_eqb}
 use Rattle.strptime.specs.Answers.{said_of}
 use Rattle.strptime.proofs.answers.said_of.Goals as goal

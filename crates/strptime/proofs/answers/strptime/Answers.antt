@@ -1,6 +1,5 @@
 -- `strptime::answers::strptime` meets its contract. Assumes nothing.
 use native.Mathlib.Omega.{arith}
-use borrow.Author.Rules.{rules}
 use Rattle.strptime.proofs.answers.strptime.Goals as goal
 
 pub read_opened-requires : goal.read_opened-requires

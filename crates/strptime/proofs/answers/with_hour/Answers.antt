@@ -1,5 +1,4 @@
 -- `strptime::answers::with_hour` meets its contract. Assumes nothing.
-use borrow.Author.Rules.{rules}
 use Rattle.strptime.specs.Answers.{showing, refused, naming, examining, reading_of, with_hour}
 use Rattle.strptime.proofs.answers.with_hour.Goals as goal
 

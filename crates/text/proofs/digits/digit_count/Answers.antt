@@ -1,10 +1,6 @@
 -- `text::digits::digit_count` meets its contract. The invariant: what was counted and the digits that are left are one more than the
 -- number's digits; and what was counted is at most one more than what the rest has lost, so it fits.
-use Prim.Native.Nat.{◌+◌, ◌≤◌}
-use mathlib.Core.Path.{◌≡◌}
 use native.Mathlib.Omega.{arith}
-use lib.ListN.{length}
-use Rattle.text.specs.Digits.{plain}
 use Rattle.text.proofs.Fill.{length_one, length_more}
 use Rattle.text.proofs.digits.digit_count.Goals as goal
 

@@ -1,9 +1,7 @@
 use Prim.Native.Nat.{◌+◌, ◌≤◌}
 use mathlib.Core.Path.{◌≡◌}
-use native.Mathlib.Omega.{arith}
 use lib.ListN.{length}
 use Rattle.text.specs.Digits.{plain}
-use Rattle.text.proofs.Fill.{length_one, length_more}
 use Rattle.text.proofs.digits.digit_count.Given as goal
 
 abbrev pub invariant-loop-rest : goal.invariant-loop-rest

@@ -1,5 +1,4 @@
 -- `text::digits::leading_byte` meets its contract: its test is the definition's.
-use borrow.Author.Rules.{rules}
 use borrow.Author.Tests.{eq-eqb, ne_eqb}
 use Rattle.text.proofs.digits.leading_byte.Goals as goal
 

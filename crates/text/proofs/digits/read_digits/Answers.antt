@@ -1,12 +1,11 @@
 -- `text::digits::read_digits` meets its contract. The invariant: reading on from here, after the digits that spell the value,
 -- gives what is to be read; and the value is below 10 to the count, so it fits.
-use Prim.Native.Nat.{ℕ, ◌-◌, ◌^◌, ◌<◌, ◌≤◌, min}
-use mathlib.Core.Path.{◌≡◌, sym, ◌∙◌}
+use Prim.Native.Nat.{ℕ, ◌<◌, ◌≤◌}
+use mathlib.Core.Path.{sym, ◌∙◌}
 use native.Mathlib.Omega.{arith}
 use lib.Dec.{lit<}
-use lib.ListN.{get_or, drop}
-use Rattle.text.specs.Digits.{read_digits}
-use Rattle.text.proofs.Decimals.{read_on, from_none, full, end, stop, more, digit_range, grows, room}
+use lib.ListN.{get_or}
+use Rattle.text.proofs.Decimals.{from_none, full, end, stop, more, digit_range, grows, room}
 use Rattle.text.proofs.digits.read_digits.Goals as goal
 use Rattle.text.proofs.digits.read_digits.Goals.{Else-not-is_digit}
 

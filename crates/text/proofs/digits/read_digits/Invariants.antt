@@ -1,10 +1,8 @@
-use Prim.Native.Nat.{ℕ, ◌-◌, ◌^◌, ◌<◌, ◌≤◌, min}
-use mathlib.Core.Path.{◌≡◌, sym, ◌∙◌}
-use native.Mathlib.Omega.{arith}
-use lib.Dec.{lit<}
-use lib.ListN.{get_or, drop}
+use Prim.Native.Nat.{◌-◌, ◌^◌, ◌<◌, ◌≤◌, min}
+use mathlib.Core.Path.{◌≡◌}
+use lib.ListN.{drop}
 use Rattle.text.specs.Digits.{read_digits}
-use Rattle.text.proofs.Decimals.{read_on, from_none, full, end, stop, more, digit_range, grows, room}
+use Rattle.text.proofs.Decimals.{read_on}
 use Rattle.text.proofs.digits.read_digits.Given as goal
 
 abbrev pub invariant-loop-count : goal.invariant-loop-count

@@ -1,10 +1,8 @@
 -- `text::digits::write_leading` meets its contract. The invariant: the places before i, written before what stands from i on,
 -- give what is to be written.
-use Prim.Native.Nat.{◌≤◌}
 use mathlib.Core.Path.{◌≡◌, refl, ◌∙◌}
-use mathlib.Core.List.{◌++◌}
 use native.Mathlib.Omega.{arith}
-use lib.ListN.{length, drop, length-set}
+use lib.ListN.{length-set}
 use Rattle.text.specs.Digits.{leading}
 use Rattle.text.proofs.Decimals.{place}
 use Rattle.text.proofs.digits.write_leading.Goals as goal

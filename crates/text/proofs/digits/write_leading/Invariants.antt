@@ -1,10 +1,8 @@
 use Prim.Native.Nat.{◌≤◌}
-use mathlib.Core.Path.{◌≡◌, refl, ◌∙◌}
+use mathlib.Core.Path.{◌≡◌}
 use mathlib.Core.List.{◌++◌}
-use native.Mathlib.Omega.{arith}
-use lib.ListN.{length, drop, length-set}
+use lib.ListN.{length, drop}
 use Rattle.text.specs.Digits.{leading}
-use Rattle.text.proofs.Decimals.{place}
 use Rattle.text.proofs.digits.write_leading.Given as goal
 
 abbrev pub invariant-loop-i : goal.invariant-loop-i

@@ -1,7 +1,6 @@
 -- `text::digits::write_number` meets its contract: the last digit is stored, and then the places before it.
 use mathlib.Core.Path.{◌∙◌}
 use native.Mathlib.Omega.{arith}
-use borrow.Author.Rules.{rules}
 use lib.ListN.{length-set}
 use Rattle.text.proofs.Decimals.{nothing, whole}
 use Rattle.text.proofs.digits.write_number.Goals as goal

@@ -1,11 +1,8 @@
 -- `text::space::skip_space` meets its contract. The invariant: the place reached and the white space from there on come to what
 -- is to be shown.
-use Prim.Native.Nat.{◌+◌, ◌-◌}
-use mathlib.Core.Path.{◌≡◌, refl}
+use mathlib.Core.Path.{refl}
 use native.Mathlib.Numerals.{add-one}
 use native.Mathlib.Omega.{arith}
-use lib.ListN.{length, drop}
-use Rattle.text.specs.Space.{spaces}
 use Rattle.text.proofs.Spaces.{end, stop, more}
 use Rattle.text.proofs.space.skip_space.Goals as goal
 

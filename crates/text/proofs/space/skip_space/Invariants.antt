@@ -1,10 +1,7 @@
 use Prim.Native.Nat.{◌+◌, ◌-◌}
-use mathlib.Core.Path.{◌≡◌, refl}
-use native.Mathlib.Numerals.{add-one}
-use native.Mathlib.Omega.{arith}
+use mathlib.Core.Path.{◌≡◌}
 use lib.ListN.{length, drop}
 use Rattle.text.specs.Space.{spaces}
-use Rattle.text.proofs.Spaces.{end, stop, more}
 use Rattle.text.proofs.space.skip_space.Given as goal
 
 abbrev pub invariant-loop-i : goal.invariant-loop-i

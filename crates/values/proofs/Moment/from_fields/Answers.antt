@@ -1,7 +1,6 @@
 -- `values::Moment::from_fields` meets its contract. Assumes nothing.
 use mathlib.Core.Path.{sym, ap, ◌∙◌}
 use native.Mathlib.Omega.{arith}
-use borrow.Author.Rules.{rules}
 use borrow.Author.Tests.{le-leb, lt-leb, not-true, not-false}
 use Rattle.values.specs.Moments.{moment_fault, moment_of}
 use Rattle.values.specs.declared.MomentFields.TheVariants.{Bad}

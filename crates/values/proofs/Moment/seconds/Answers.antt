@@ -1,7 +1,6 @@
 -- `values::Moment::seconds` meets its contract. Assumes nothing.
 use mathlib.Core.Path.{◌∙◌}
 use native.Mathlib.Omega.{arith}
-use borrow.Author.Rules.{rules}
 use lib.Dec.{lit<}
 use Rattle.values.proofs.Seconds.{fits, kept, widened, days_near, day_seconds, hour_seconds, minutes_near, minute_seconds}
 use Rattle.values.proofs.Seconds.{to_hours, to_minutes, to_seconds, sum_is, small}

@@ -1,6 +1,5 @@
 -- `values::Moment::value` meets its contract. Assumes nothing.
 use native.Mathlib.Omega.{arith}
-use borrow.Author.Rules.{rules}
 use borrow.Author.Tests.{le-leb, lt-leb, ne_eqb}
 use Rattle.values.specs.Values.{value}
 use Rattle.values.proofs.Moment.value.Goals as goal

@@ -1,6 +1,5 @@
 -- `values::offsets::is_offset` meets its contract. Assumes nothing.
 use mathlib.Core.Path.{ap}
-use borrow.Author.Rules.{rules}
 use lib.Dec.{leb, lit<}
 use lib.IntN.{nat_abs}
 use Rattle.values.specs.Offsets.{is_offset}

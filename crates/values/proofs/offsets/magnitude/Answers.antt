@@ -5,7 +5,6 @@ use lib.Dec.{T}
 use lib.IntN.{nat_abs}
 use lib.Signed.{non_neg}
 use mir.Facts.{Fits-nat_abs}
-use borrow.Author.Rules.{rules}
 use Rattle.values.specs.Offsets.{is_negative}
 use Rattle.values.proofs.Signed.{same_bits, one_more_fits, turned_fits, turned_is, negative_abs, not_negative_is}
 use Rattle.values.proofs.offsets.magnitude.Goals as goal

@@ -1,7 +1,6 @@
 -- `week_report::counts::count_number` meets its contract. Assumes nothing.
 use Rattle.week_report.proofs.Tallying.{at_most_sum, one_more}
 use native.Mathlib.Omega.{arith}
-use borrow.Author.Rules.{rules}
 use Rattle.week_report.proofs.counts.count_number.Goals as goal
 
 pub overflow_add-counts : goal.overflow_add-counts

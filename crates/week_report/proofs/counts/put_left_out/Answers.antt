@@ -1,7 +1,6 @@
 -- `week_report::counts::put_left_out` meets its contract. Assumes nothing.
 use Rattle.week_report.specs.Private.{left_shown}
 use Rattle.lists.proofs.Puts.{then}
-use borrow.Author.Rules.{rules}
 use Rattle.week_report.proofs.counts.put_left_out.Goals as goal
 
 pub returns : goal.returns

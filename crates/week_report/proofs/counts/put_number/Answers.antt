@@ -2,7 +2,6 @@
 use Rattle.week_report.proofs.Showing.{no_line, some_line}
 use Rattle.lists.proofs.Puts.{then}
 use Rattle.laws.specs.Bytes.{bytes}
-use borrow.Author.Rules.{rules}
 use Rattle.week_report.proofs.counts.put_number.Goals as goal
 
 pub returns-then-n-eq0 : goal.returns-then-n-eq0

@@ -1,13 +1,9 @@
 -- `week_report::counts::put_numbers` meets its contract. Assumes nothing.
-use borrow.Author.Rules.{rules}
-use Rattle.week_report.specs.Weeks.{number_line}
 use Rattle.week_report.specs.Private.{numbers_shown}
 use Rattle.lists.proofs.Puts.{each_start, each_next, kept_length}
-use Rattle.lists.specs.Putting.{Put, each}
-use lib.ListN.{length, get_or}
+use lib.ListN.{length}
 use native.Mathlib.Omega.{arith}
 use mathlib.Core.Path.{◌≡◌}
-use Prim.Native.Nat.{◌-◌, ◌≤◌}
 use Rattle.week_report.proofs.counts.put_numbers.Goals as goal
 
 pub loop-i-init : goal.loop-i-init

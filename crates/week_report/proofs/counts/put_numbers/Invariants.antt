@@ -1,11 +1,6 @@
-use borrow.Author.Rules.{rules}
 use Rattle.week_report.specs.Weeks.{number_line}
-use Rattle.week_report.specs.Private.{numbers_shown}
-use Rattle.lists.proofs.Puts.{each_start, each_next, kept_length}
 use Rattle.lists.specs.Putting.{Put, each}
 use lib.ListN.{length, get_or}
-use native.Mathlib.Omega.{arith}
-use mathlib.Core.Path.{◌≡◌}
 use Prim.Native.Nat.{◌-◌, ◌≤◌}
 use Rattle.week_report.proofs.counts.put_numbers.Given as goal
 

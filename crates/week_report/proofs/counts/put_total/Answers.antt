@@ -2,7 +2,6 @@
 use Rattle.lists.proofs.Puts.{then}
 use Rattle.week_report.specs.Weeks.{total_line}
 use Rattle.laws.specs.Bytes.{bytes}
-use borrow.Author.Rules.{rules}
 use Rattle.week_report.proofs.counts.put_total.Goals as goal
 
 pub returns : goal.returns

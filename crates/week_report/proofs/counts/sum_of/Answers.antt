@@ -1,11 +1,8 @@
 -- `week_report::counts::sum_of` meets its contract. Assumes nothing.
-use borrow.Author.Rules.{rules}
 use Rattle.week_report.proofs.Tallying.{sum_next}
 use Rattle.week_report.specs.Private.{sum_of}
-use lib.ListN.{length, drop, drop_of_length-le}
+use lib.ListN.{drop_of_length-le}
 use native.Mathlib.Omega.{arith}
-use mathlib.Core.Path.{◌≡◌}
-use Prim.Native.Nat.{◌+◌, ◌-◌, ◌≤◌}
 use Rattle.week_report.proofs.counts.sum_of.Goals as goal
 
 pub loop-i-init : goal.loop-i-init

@@ -1,8 +1,5 @@
-use borrow.Author.Rules.{rules}
-use Rattle.week_report.proofs.Tallying.{sum_next}
 use Rattle.week_report.specs.Private.{sum_of}
-use lib.ListN.{length, drop, drop_of_length-le}
-use native.Mathlib.Omega.{arith}
+use lib.ListN.{length, drop}
 use mathlib.Core.Path.{◌≡◌}
 use Prim.Native.Nat.{◌+◌, ◌-◌, ◌≤◌}
 use Rattle.week_report.proofs.counts.sum_of.Given as goal

@@ -1,5 +1,5 @@
 -- `week_report::texts::gather` meets its contract. Assumes nothing.
-use Rattle.week_report.proofs.Gathering.{Gathering, gather_start, gather_next, gathered, read_below}
+use Rattle.week_report.proofs.Gathering.{gather_start, gather_next, gathered, read_below}
 use Rattle.lists.proofs.Splitting.{within}
 use Rattle.lists.specs.Answers.{opened_reading}
 use lib.ListN.{length, take, drop}

@@ -1,10 +1,7 @@
-use Rattle.week_report.proofs.Gathering.{Gathering, gather_start, gather_next, gathered, read_below}
-use Rattle.lists.proofs.Splitting.{within}
+use Rattle.week_report.proofs.Gathering.{Gathering}
 use Rattle.lists.specs.Answers.{opened_reading}
-use lib.ListN.{length, take, drop}
-use native.Mathlib.Omega.{arith}
-use mathlib.Core.Path.{◌≡◌, ◌∙◌}
-use Prim.Native.Nat.{◌-◌, ◌≤◌}
+use lib.ListN.{length}
+use Prim.Native.Nat.{◌-◌}
 use Rattle.week_report.proofs.texts.gather.Given as goal
 
 abbrev pub invariant-loop-next : goal.invariant-loop-next

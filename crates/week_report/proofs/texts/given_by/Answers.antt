@@ -3,7 +3,6 @@ use mathlib.Core.Path.{sym, ap, ◌∙◌}
 use Rattle.week_report.proofs.Gathering.{refused_out, read_gives}
 use Rattle.sheets.specs.Sheets.{packing}
 use Rattle.week_report.specs.Texts.{sheet_or_out}
-use borrow.Author.Rules.{rules}
 use Rattle.week_report.proofs.texts.given_by.Goals as goal
 
 pub returns-then-number-ne0 : goal.returns-then-number-ne0

@@ -2,7 +2,6 @@
 use Rattle.week_report.proofs.Gathering.{number_below, took_sheet, took_out}
 use mathlib.Core.Path.{sym, ◌∙◌}
 use native.Mathlib.Omega.{arith}
-use borrow.Author.Rules.{rules}
 use Rattle.week_report.proofs.texts.take_text.Goals as goal
 
 pub count_number-requires : goal.count_number-requires

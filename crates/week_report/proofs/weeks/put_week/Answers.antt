@@ -3,7 +3,6 @@ use Rattle.week_report.specs.Private.{tally_of}
 use Rattle.week_report.specs.Weeks.{week_line}
 use Rattle.lists.proofs.Puts.{then}
 use Rattle.laws.specs.Bytes.{bytes}
-use borrow.Author.Rules.{rules}
 use Rattle.week_report.proofs.weeks.put_week.Goals as goal
 
 pub returns : goal.returns

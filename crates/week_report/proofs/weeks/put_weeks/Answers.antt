@@ -1,13 +1,9 @@
 -- `week_report::weeks::put_weeks` meets its contract. Assumes nothing.
-use borrow.Author.Rules.{rules}
-use Rattle.week_report.specs.Weeks.{week_line}
-use Rattle.week_report.specs.Private.{tally_of, table_shown}
+use Rattle.week_report.specs.Private.{table_shown}
 use Rattle.lists.proofs.Puts.{each_start, each_next, kept_length}
-use Rattle.lists.specs.Putting.{Put, each}
-use lib.ListN.{length, get_or}
+use lib.ListN.{length}
 use native.Mathlib.Omega.{arith}
 use mathlib.Core.Path.{◌≡◌}
-use Prim.Native.Nat.{◌-◌, ◌≤◌}
 use Rattle.week_report.proofs.weeks.put_weeks.Goals as goal
 
 pub loop-i-init : goal.loop-i-init

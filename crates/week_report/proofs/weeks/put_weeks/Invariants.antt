@@ -1,11 +1,7 @@
-use borrow.Author.Rules.{rules}
 use Rattle.week_report.specs.Weeks.{week_line}
-use Rattle.week_report.specs.Private.{tally_of, table_shown}
-use Rattle.lists.proofs.Puts.{each_start, each_next, kept_length}
+use Rattle.week_report.specs.Private.{tally_of}
 use Rattle.lists.specs.Putting.{Put, each}
 use lib.ListN.{length, get_or}
-use native.Mathlib.Omega.{arith}
-use mathlib.Core.Path.{◌≡◌}
 use Prim.Native.Nat.{◌-◌, ◌≤◌}
 use Rattle.week_report.proofs.weeks.put_weeks.Given as goal
 
