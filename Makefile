@@ -20,7 +20,7 @@ endif
 fill = sed -e 's|@prefix@|$(PREFIX)|' -e 's|@includedir@|$(INCLUDEDIR)|' -e 's|@libdir@|$(LIBDIR)|' -e 's|@version@|$(version)|'
 
 .PHONY: all library programs install install-library install-programs uninstall test help FORCE
-# two provers would meet in target/
+# two provers would meet in crates/*/out
 .NOTPARALLEL:
 
 all: library programs
@@ -34,8 +34,10 @@ $(shared): $(static)
 	mkdir -p $(@D)
 	$(CC) -shared -Wl,-z,defs -Wl,-soname,$(soname) $(LDFLAGS) -Wl,--whole-archive $< -Wl,--no-whole-archive -o $@
 
+# a program is run once it is built: it says its version
 programs:
-	rt check $(programs)
+	mkdir -p target/bin
+	for program in $(programs); do (cd crates/$$program && rt run -- --version) && cp crates/$$program/out/$$program target/bin || exit; done
 
 install: install-library install-programs
 

@@ -15,8 +15,16 @@ fn main() {
         std::process::exit(1);
     }
     let archive = root.join(String::from_utf8_lossy(&made.stdout).trim());
-    for source in [&script, &archive, &root.join("crates.txt"), &root.join("crates")] {
+    for source in [&script, &archive, &root.join("crates.txt")] {
         println!("cargo:rerun-if-changed={}", source.display());
+    }
+    // not crates/*/out, which each proof writes
+    for folder in std::fs::read_dir(root.join("crates")).expect("no crates/").flatten() {
+        for part in ["src", "specs", "proofs"].map(|part| folder.path().join(part)) {
+            if part.exists() {
+                println!("cargo:rerun-if-changed={}", part.display());
+            }
+        }
     }
     println!("cargo:rustc-link-search=native={}", archive.parent().unwrap().display());
 }

@@ -155,6 +155,7 @@ def outputs(t):
     os.close(read)
     ignored = lambda: signal.signal(signal.SIGPIPE, signal.SIG_IGN)
     t.expect("a closed pipe", t.run(stdout=write, preexec_fn=ignored), None, t.not_written + b"Broken pipe")
+    t.expect("a closed pipe, with SIGPIPE as it comes", t.run(stdout=write), None, t.not_written + b"Broken pipe")
     os.close(write)
 
     def limited():

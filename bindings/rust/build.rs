@@ -60,8 +60,16 @@ fn installed() -> Option<PathBuf> {
 /// The folder of the repository's own library, proved anew where a source is newer.
 fn proved() -> Option<PathBuf> {
     let root = Path::new(env!("CARGO_MANIFEST_DIR")).ancestors().nth(2)?;
-    for source in ["tools/library", "crates.txt", "crates"] {
+    for source in ["tools/library", "crates.txt"] {
         println!("cargo:rerun-if-changed={}", root.join(source).display());
+    }
+    // not crates/*/out, which each proof writes
+    for folder in std::fs::read_dir(root.join("crates")).ok()?.flatten() {
+        for part in ["src", "specs", "proofs"].map(|part| folder.path().join(part)) {
+            if part.exists() {
+                println!("cargo:rerun-if-changed={}", part.display());
+            }
+        }
     }
     let mut script = Command::new(root.join("tools/library")).stdout(Stdio::piped()).stderr(Stdio::piped()).spawn().ok()?;
     // cargo holds back what a build script prints until it ends, and a proof takes minutes: what it says goes to the terminal at once

@@ -4,7 +4,6 @@
 #![tactic(auto)]
 
 use calendar::{Date, FromFields, FromNumber};
-use libc::STDOUT_FILENO;
 use text::write_number;
 
 // A digest starts at 0 and takes values one after the other, h to (h * P + v) mod M.
@@ -46,43 +45,39 @@ fn digest_day(h: u32, k: u32) -> u32 {
 // The digest of the days after day `past`, through day `last`.
 fn digest_days(past: u32, last: u32) -> u32 {
     let mut h = 0;
-    let mut k = past;
-    while k < last {
-        k += 1;
-        h = digest_day(h, k);
+    for k in past..last {
+        h = digest_day(h, k + 1);
     }
     h
 }
 
-fn print(bytes: &[u8]) {
-    io::write_all(STDOUT_FILENO, bytes);
+fn print(rt: &impl Print, bytes: &[u8]) {
+    let _ = rt.write_all(bytes);
 }
 
 // One line: the year in four digits, a blank, the digest in ten, a newline.
-fn print_line(year: u32, digest: u32) {
+fn print_line(rt: &impl Print, year: u32, digest: u32) {
     let mut four = [0u8; 4];
     write_number(&mut four, b'0', year);
-    print(&four);
-    print(b" ");
+    print(rt, &four);
+    print(rt, b" ");
     let mut ten = [0u8; 10];
     write_number(&mut ten, b'0', digest);
-    print(&ten);
-    print(b"\n");
+    print(rt, &ten);
+    print(rt, b"\n");
 }
 
 // The lines of all hundred centuries.
-fn print_centuries() {
+fn print_centuries(rt: &impl Print) {
     let mut past = 0;
-    let mut century: u32 = 0;
-    while century < 100 {
+    for century in 0..100u32 {
         let year = 100 * century + 99;
         let last = number_of(year, 12, 31);
-        print_line(year, digest_days(past, last));
+        print_line(rt, year, digest_days(past, last));
         past = last;
-        century += 1;
     }
 }
 
-fn main() {
-    print_centuries();
+fn main(rt: HostRuntime) {
+    print_centuries(&rt);
 }

@@ -2,46 +2,57 @@
 // not read to its end gets no report; what could not be done is said on standard error.
 #![tactic(auto)]
 
-use console::{Asked, print_help, print_version, what_is_asked};
-use libc::{STDERR_FILENO, STDIN_FILENO, STDOUT_FILENO};
+use console::{Asked, argument_count, fail, open, print_help, print_version, what_is_asked};
 use lists::{LONGEST_INPUT, PART};
+use std::env::Env;
+use std::io;
+use std::io::Read;
 use streams::{Got, read_all, write_all};
 use week_report::report;
 
-// Writes the report on `input`, and answers whether all of it was taken.
-fn write_report(input: &[u8]) -> bool {
+// Writes the report on `input`, and answers whether all of it was taken, or why not.
+fn write_report(rt: &HostRuntime, input: &[u8]) -> io::Result<()> {
     let mut out = [0; PART];
     let count = report(input, &mut out);
-    count <= write_all(STDOUT_FILENO, &out[..count])
+    write_all(rt, &mut rt.stdout(), &out[..count]).whole()
 }
 
-fn report_on(fd: i32) {
+#[tactic(auto, unfolding(streams::specs::Got::Within))]
+fn report_on<R: Read>(rt: &HostRuntime, list: &mut R) {
     // One byte more than the longest input decides whether there is more.
     let mut input = [0u8; LONGEST_INPUT + 1];
-    let Got::All(n) = read_all(fd, &mut input) else {
-        os::fail(b"week_counts: the list could not be read to its end");
-        return;
-    };
-    if !write_report(&input[..n]) {
-        os::fail(b"week_counts: the report could not be written whole");
+    match read_all(rt, list, &mut input) {
+        Got::All(n) => {
+            if let Err(why) = write_report(rt, &input[..n]) {
+                fail(
+                    rt,
+                    b"week_counts: the report could not be written whole",
+                    why,
+                );
+            }
+        }
+        Got::Failed(why) => fail(
+            rt,
+            b"week_counts: the list could not be read to its end",
+            why,
+        ),
     }
 }
 
-fn report_on_file(name: &[u8]) {
-    let fd = os::open_read(name);
-    if fd < 0 {
-        os::fail(b"week_counts: the file could not be opened");
-        return;
+fn report_on_file(rt: &HostRuntime, name: &[u8]) {
+    match open(rt, name) {
+        Ok(mut list) => report_on(rt, &mut list),
+        Err(why) => fail(rt, b"week_counts: the file could not be opened", why),
     }
-    report_on(fd);
 }
 
 const USAGE: [u8; 47] = *b"usage: week_counts [FILE] | --help | --version\n";
 
 const NOT_PRINTED: [u8; 48] = *b"week_counts: the text could not be written whole";
 
-fn help() {
+fn help(rt: &HostRuntime) {
     print_help(
+        rt,
         &USAGE,
         b"\n\
 Reads a list of texts, from FILE or standard input, and counts its sheets by\n\
@@ -60,19 +71,20 @@ README.md, or week_counts(1) and larusqem(3), have numbers and conversions.\n",
     );
 }
 
-fn refuse() {
-    write_all(STDERR_FILENO, &USAGE);
+fn refuse(rt: &HostRuntime) {
+    write_all(rt, &mut rt.stderr(), &USAGE);
 }
 
-fn main() {
-    let mut argument = io::buffer();
-    let n = os::arg(1, &mut argument);
-    let fetched = os::errno() == 0;
-    match what_is_asked(os::arg_count(), fetched, &argument[..n]) {
-        Asked::Standard => report_on(STDIN_FILENO),
-        Asked::File => report_on_file(&argument[..n]),
-        Asked::Help => help(),
-        Asked::Version => print_version(b"week_counts", &NOT_PRINTED),
-        Asked::Unknown => refuse(),
+fn main(rt: HostRuntime) {
+    let mut argument = [0u8; 4096];
+    let fetched = rt.arg(1, &mut argument);
+    let whole = fetched.is_ok();
+    let first = &argument[..fetched.unwrap_or(0)];
+    match what_is_asked(argument_count(&rt), whole, first) {
+        Asked::Standard => report_on(&rt, &mut rt.stdin()),
+        Asked::File => report_on_file(&rt, first),
+        Asked::Help => help(&rt),
+        Asked::Version => print_version(&rt, b"week_counts", &NOT_PRINTED),
+        Asked::Unknown => refuse(&rt),
     }
 }

@@ -6,18 +6,19 @@
 
 ghost use Rattle.std.specs.Prelude.{◌≤◌, ◌<◌, ◌^◌, length};
 
-use libc::STDOUT_FILENO;
+use streams::read_full;
 use strftime::{Fields, strftime, writing_of};
 use values::Offset;
 
 // A number, and the offset past it and the byte after it.
-#[derive(Clone, Copy)]
+#[derive(Drop)]
 struct Field {
     value: u32,
     next: usize,
 }
 
 // The number in decimal at `at`, modulo 2 to the 32.
+#[tactic(auto, unfolding(text::specs::Digits::is_digit))]
 fn read_field(line: &[u8], at: usize) -> Field
     requires { at ≤ length line.now }
     ensures { result.next ≤ length line.now }
@@ -42,7 +43,7 @@ fn read_field(line: &[u8], at: usize) -> Field
 }
 
 // An offset, and the offset in the line past it and the byte after it.
-#[derive(Clone, Copy)]
+#[derive(Drop)]
 struct OffsetField {
     offset: Offset,
     next: usize,
@@ -76,7 +77,7 @@ fn signed(sign: u8, minutes: u32) -> Offset
     }
 }
 
-fn write_case(line: &[u8]) {
+fn write_case(rt: &impl Print, line: &[u8]) {
     let year = read_field(line, 0);
     let month = read_field(line, year.next);
     let day = read_field(line, month.next);
@@ -97,31 +98,40 @@ fn write_case(line: &[u8]) {
     };
     let from = size.next;
     let mut buffer = [b'#'; 200];
-    let n = io::count(size.value as isize, &buffer);
-    write_answer(&line[from..], fields, &mut buffer[..n]);
+    let n = buffer.len().min(size.value as usize);
+    write_answer(rt, &line[from..], fields, &mut buffer[..n]);
 }
 
-fn write_answer(format: &[u8], fields: Fields, buffer: &mut [u8]) {
+fn write_answer(rt: &impl Print, format: &[u8], fields: Fields, buffer: &mut [u8]) {
     let writing = writing_of(strftime(format, fields, buffer));
-    io::print_decimal(STDOUT_FILENO, writing.number as u64);
-    io::write_all(STDOUT_FILENO, b" ");
-    io::print_decimal(STDOUT_FILENO, writing.place as u64);
-    io::write_all(STDOUT_FILENO, b" [");
-    io::write_all(STDOUT_FILENO, buffer);
-    io::write_all(STDOUT_FILENO, b"]\n");
+    let _ = print!(rt; "{} {} [", writing.number, writing.place);
+    let _ = rt.write_all(buffer);
+    let _ = rt.write_all(b"]\n");
 }
 
-fn write_cases(input: &[u8]) {
+// Where the line that begins at `at` ends.
+fn line_end(input: &[u8], at: usize) -> usize
+    requires { at ≤ length input.now }
+    ensures after { at ≤ result }
+    ensures within { result ≤ length input.now }
+{
+    match input[at..].iter().position(|b| *b == b'\n') {
+        Some(n) => at + n,
+        None => input.len(),
+    }
+}
+
+fn write_cases(rt: &impl Print, input: &[u8]) {
     let mut at = 0;
     while at < input.len() {
-        let end = bytes::scan::find(input, at, input.len(), b'\n');
-        write_case(&input[at..end]);
+        let end = line_end(input, at);
+        write_case(rt, &input[at..end]);
         at = end + 1;
     }
 }
 
-fn main() {
+fn main(rt: HostRuntime) {
     let mut input = [0u8; 400000];
-    let n = io::read_full(0, &mut input);
-    write_cases(&input[..n]);
+    let n = read_full(&rt, &mut rt.stdin(), &mut input);
+    write_cases(&rt, &input[..n]);
 }
