@@ -75,7 +75,7 @@ def sections():
 
 def crates():
     """Where crates.txt and the architecture's table differ."""
-    listed = {name: set(rest.split()) for name, rest in re.findall(r"(?m)^(\w+):(.*)$", content("crates.txt"))}
+    listed = {name: set(rest.split()) for name, rest in re.findall(r"(?m)^(\w+)(?: staticlib)?:(.*)$", content("crates.txt"))}
     rows = re.findall(r"(?m)^\| `(\w+)` \| [^|]* \|([^|]*)\|$", content("docs/ARCHITECTURE.md"))
     table = {name: set(re.findall(r"`(\w+)`", rest)) for name, rest in rows}
     names_of_both = sorted(listed.keys() | table.keys())

@@ -1,8 +1,8 @@
 #!/usr/bin/env python3
 """Brings the repository's own definitions and lemmas to today's spelling: python3 tools/port_names.py, once, after port.py
 
-`dayNumber` and `day-number` become `day_number`, wherever a file of definitions, proofs, code, documents or must-fail edits names them: names
-of this Rattle's source are in snake case. What the kit declares keeps its name. It stops, and changes nothing, where two names fall together.
+`dayNumber` and `day-number` become `day_number`, wherever definitions, proofs, clauses, documents or must-fail edits name them. What the
+kit declares keeps its name. `--look` changes nothing, and prints where two names of a file would fall together.
 """
 import collections
 import glob
@@ -10,7 +10,8 @@ import re
 import sys
 
 TOKEN = re.compile(r"[^\s(){}\[\]«».;,:\"`|#/]+")
-DECLARED = re.compile(r"^([ \t]*)((?:(?:unfoldable|abbrev|pub|record|data)[ \t]+)*)«?([^\s:(){}«».;,λ=]+)»?((?:[ \t]+[({].*?)?)[ \t]+:[ \t]", re.M)
+WORDS = r"((?:(?:unfoldable|abbrev|pub|record|data)[ \t]+)*)"
+DECLARED = re.compile(r"^([ \t]*)" + WORDS + r"«?([^\s:(){}«».;,λ=]+)»?((?:[ \t]+[({].*?)?)[ \t]+:[ \t]", re.M)
 OLD = re.compile(r"[a-z][A-Za-z0-9]*[A-Z][A-Za-z0-9]*|[a-zA-Z0-9'_]*[a-z0-9]-[A-Za-z0-9'_-]+")
 
 # names that port.py spelled so already, and that a definition takes now
@@ -31,7 +32,8 @@ def read(path):
 
 
 def snake(name):
-    name = re.sub(r"(?<=[a-z0-9])([A-Z])", lambda m: "_" + m.group(1).lower(), name) if re.match("[a-z]", name) and "-" not in name else name
+    if re.match("[a-z]", name) and "-" not in name:
+        name = re.sub(r"(?<=[a-z0-9])([A-Z])", lambda m: "_" + m.group(1).lower(), name)
     return name.replace("-", "_")
 
 
@@ -67,7 +69,13 @@ def declared_anywhere():
 def swap(text, names):
     # behind a dot the function's name is meant, not the lemma's
     kept = {"entry_place"}
-    return TOKEN.sub(lambda m: m.group(0) if m.group(0) in kept and text[m.start() - 1 : m.start()] == "." else names.get(m.group(0), m.group(0)), text)
+
+
+    def new(m):
+        behind_a_dot = text[m.start() - 1 : m.start()] == "."
+        return m.group(0) if behind_a_dot and m.group(0) in kept else names.get(m.group(0), m.group(0))
+
+    return TOKEN.sub(new, text)
 
 
 def of_antt(text, names):
@@ -131,7 +139,8 @@ def main():
     jobs = [(path, of_antt) for path in antt()]
     jobs += [(path, of_rattle) for path in sorted(glob.glob("crates/*/src/*.rt"))]
     jobs += [(path, of_edit) for path in sorted(glob.glob("crates/*/must-fail/*.edit"))]
-    jobs += [(path, of_document) for path in sorted(glob.glob("*.md") + glob.glob("docs/**/*.md", recursive=True) + glob.glob("bindings/rust/*.md"))]
+    documents = glob.glob("*.md") + glob.glob("docs/**/*.md", recursive=True) + glob.glob("bindings/rust/*.md")
+    jobs += [(path, of_document) for path in sorted(documents)]
     changed = 0
     for path, how in jobs:
         old = read(path)

@@ -153,7 +153,8 @@ pub record Parts (k y n m : ℕ) : Type 0 where
   pub month_start_lem : sum (month_length y) (m - 1) ≤ n
   pub day_high : n - sum (month_length y) (m - 1) ≤ 31
 
-pub parts : (k : ℕ) → 0 < k → k ≤ days → Parts k (year_of k) (k - days_before (year_of k)) (month_of (year_of k) (k - days_before (year_of k)))
+pub parts : (k : ℕ) → 0 < k → k ≤ days → Parts k (year_of k) (k - days_before (year_of k))
+    (month_of (year_of k) (k - days_before (year_of k)))
 unfolding day_number date_of date_in
 parts k h l =
     let f = number_of_date k h l in
@@ -199,8 +200,14 @@ month_order : (y m d m' d' : ℕ) → Valid y m d → 0 < d' → m < m' → day_
 unfolding day_of_year
 month_order y zero d m' d' v p h = absurd (omega (arith, v.month_low))
 month_order y (suc q) d m' d' v p h =
-    omega
-    (arith, v.day_high, sum_suc (month_length y) q, sum_mono (month_length y) (suc q) (m' - 1) (omega arith), ap (sum (month_length y)) start)
+    omega (
+      arith,
+      v.day_high,
+      sum_suc (month_length y) q,
+      sum_mono (month_length y) (suc q) (m' - 1) (omega arith),
+      ap
+          (sum (month_length y)) start,
+    )
   where
     start : suc q - 1 ≡ q
     start = omega arith

@@ -30,7 +30,8 @@ unfolding right lacks sum months month_lengths
 all_right true = tt
 all_right false = tt
 
-pub month_start_lem : (y m : ℕ) → 0 < m → m ≤ 12 → sum (month_length y) (m - 1) + cond (leb 3 m) (cond (leap y) 1 2) 0 ≡ (367 * m - 362) / 12
+pub month_start_lem : (y m : ℕ) → 0 < m → m ≤ 12 → sum (month_length y) (m - 1) + cond (leb 3 m) (cond (leap y) 1 2) 0
+    ≡ (367 * m - 362) / 12
 unfolding month_length months right lacks
 month_start_lem y m p h =
     let t = at (right (leap y)) 13 (all_right (leap y)) m (omega arith) in

@@ -56,5 +56,9 @@ number_small y m d p q = omega (arith, days_before_small y p, months_small y (m 
 pub iso_week_is : (k : ℕ) → iso_week k + (days_before (iso_year k) + 3) / 7 ≡ (thursday k + 3) / 7
 unfolding iso_week iso_year
 iso_week_is k =
-    omega
-    (arith, count_is 4 (year_of (thursday k)) (thursday k - days_before (year_of (thursday k))) (lit< tt) (lit≤ tt), year_starts (thursday k))
+    omega (
+      arith,
+      count_is 4 (year_of (thursday k)) (thursday k - days_before (year_of (thursday k))) (lit< tt) (lit≤ tt),
+      year_starts
+          (thursday k),
+    )

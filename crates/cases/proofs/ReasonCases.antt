@@ -31,7 +31,8 @@ use Rattle.cases.specs.ReasonCases.{reason_cases}
 use Rattle.cases.specs.Starred.{Case}
 
 pub all_explained : map (λ (c : Case). c.0) reason_cases ≡ map (λ (c : Case). c.1) reason_cases
-unfolding cases.computes bytes range flat_map fold cased digits plain is_digit digit_run decimal goes_on first_form read_name is_space spaces
+unfolding cases.computes bytes range flat_map fold cased digits plain is_digit digit_run decimal goes_on first_form read_name is_space
+    spaces
     calendar.computes moments.computes values.computes names.computes naming.computes conversions.computes opening.computes
     agreement.computes search.computes verdicts.computes engines.computes elements.computes extents.computes reading.computes
     quarrels.computes reasons.computes answers.computes offsets.computes

@@ -83,7 +83,8 @@ unfolding cases.computes digits.digits plain filled leading fill is_digit digit_
 all_written = refl
 
 pub reads_all : map (λ (c : Answer × Answer). c.0) read_cases ≡ map (λ (c : Answer × Answer). c.1) read_cases
-unfolding cases.computes fold is_digit digit_run decimal read_digits goes_on first_form read_name is_space spaces calendar.computes values.computes
+unfolding cases.computes fold is_digit digit_run decimal read_digits goes_on first_form read_name is_space spaces calendar.computes
+    values.computes
     names.computes naming.computes conversions.computes opening.computes agreement.computes search.computes verdicts.computes
     engines.computes elements.computes steps.computes answers.computes offsets.computes
 reads_all = refl

@@ -82,7 +82,8 @@ module _ (a : About) (e : Engine) (f s : List ℕ) (m : Matched f s) (fields : �
     unfolding nowhere
     left-named k l z =
         let x = left-stands k l in
-        let i : first_said k es s 0 ≡ nowhere = sym (left_word a es s k l) ∙ sym (ap (λ (w : List Extent). get_or w k nowhere) worded) ∙ z in
+        let i : first_said k es s 0 ≡ nowhere =
+        sym (left_word a es s k l) ∙ sym (ap (λ (w : List Extent). get_or w k nowhere) worded) ∙ z in
         omega (arith, x.spelled.some, ap (λ (y : Extent). y.next) (sym x.at ∙ i))
 
     is-left : (k : ℕ) → Named e f s k → Left a es s k

@@ -16,7 +16,8 @@ use Rattle.laws.specs.Bytes.{bytes}
 use Rattle.laws.specs.Lists.{every}
 use Rattle.laws.proofs.Cases.{either, picked, clash}
 use Rattle.conversions.specs.Conversions.{computes as rows-compute}
-use Rattle.format.specs.Opening.{Ended, Whole, BadAt, Opening, opening, open_to, open_from, composite_to, longest, is_byte, letter_of, after_sign}
+use Rattle.format.specs.Opening.{Ended, Whole, BadAt, Opening, opening, open_to, open_from, composite_to, longest, is_byte, letter_of}
+use Rattle.format.specs.Opening.{after_sign}
 use Rattle.conversions.specs.Pieces.{conversion, flag_run, width_run, style_from}
 use Rattle.format.specs.Opening.{conversion_at}
 use Rattle.conversions.specs.Pieces.{is_unstyled, takes_style, with_style, styled}

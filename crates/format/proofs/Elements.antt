@@ -17,7 +17,8 @@ use Rattle.laws.proofs.Lists.{each, every_of, every_append}
 use Rattle.conversions.specs.Conversions.{Row, among, rows, is_conversion, conversion_of, own_format, computes as rows-compute}
 use Rattle.conversions.specs.Pieces.{unstyled}
 use Rattle.format.specs.Opening.{Ended, Opening, longest, conversion_at, is_byte, is_plain, letter_of, after_sign}
-use Rattle.conversions.specs.Pieces.{conversion, flags, flag_run, width_run, style_from, takes_style, is_unstyled, with_style, is_read, to_read}
+use Rattle.conversions.specs.Pieces.{conversion, flags, flag_run, width_run, style_from, takes_style, is_unstyled, with_style, is_read}
+use Rattle.conversions.specs.Pieces.{to_read}
 use Rattle.conversions.specs.Pieces.{styled}
 use Rattle.format.specs.Opening.{signed, piece_of, nothing, before, composed, acted, sign_at, open_from, composite_to}
 use Rattle.format.specs.Opening.{open_to, opening, most_elements, is_taken, is_element, elements_in}
@@ -131,7 +132,8 @@ signed_stores Writer s =
     let f = flag_run s in
     let w = width_run (drop (length f) s) in
     let rest = drop (length f + length w) s in
-    style_stores (style_from f w) (width_run_lem (drop (length f) s)).most (flag_run_lem s).known (conversion rest).act (conversion_unstyled rest)
+    style_stores (style_from f w) (width_run_lem (drop (length f) s)).most (flag_run_lem s).known (conversion rest).act
+    (conversion_unstyled rest)
 signed_stores Reader s = go (conversion s).act (conversion_unstyled s)
   where
     go : (a : Act) → Unstyled a → Stores Reader (to_read a)

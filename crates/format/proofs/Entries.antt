@@ -62,7 +62,8 @@ module _ (side : Side) where
   taken true m k h = (refl, h)
   taken false m k h = absurd (omega arith)
 
-  pub counted : (n : ℕ) (es : List ℕ) (k : ℕ) → k < elements_in side n es → (k < n) × (k < length es) × (is_element side (get_or es k 0) ≡ true)
+  pub counted : (n : ℕ) (es : List ℕ) (k : ℕ) → k < elements_in side n es → (k < n) × (k < length es)
+      × (is_element side (get_or es k 0) ≡ true)
   unfolding elements_in
   counted zero es k h = absurd (omega arith)
   counted (suc n) [] k h = absurd (omega arith)

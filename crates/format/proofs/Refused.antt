@@ -36,7 +36,8 @@ module _ (side : Side) (n : ℕ) (inner : ℕ → ℕ → Opening) (f : (sign c 
       composed_before n o.elements o.ended rest (f sign c h) r
   acted-before sign rest h r Refuse = h
 
-  open-before : (s : List ℕ) (i past : ℕ) → ((k : ℕ) → k < i + length s → sign_at g k < n) → Before n (open_from side inner g i past s).ended
+  open-before : (s : List ℕ) (i past : ℕ) → ((k : ℕ) → k < i + length s → sign_at g k < n)
+      → Before n (open_from side inner g i past s).ended
   unfolding open_from nothing Before
   open-before [] i past h = tt
   open-before (b ∷ s) i (suc past) h = open-before s (i + 1) past (λ k l. h k (omega arith))

@@ -1,6 +1,7 @@
 -- Opening a format into elements (RULES 4), and which entries of a list are elements (RULES 10).
 use Prim.Native.Char.{code}
-use Rattle.std.specs.Prelude.{ℕ, zero, suc, ◌+◌, ◌-◌, ◌*◌, ◌/◌, ◌%◌, Bool, cond, not, ◌||◌, ◌&&◌, List, [], ◌∷◌, ◌++◌, eqb, leb, ltb, length, get_or}
+use Rattle.std.specs.Prelude.{ℕ, zero, suc, ◌+◌, ◌-◌, ◌*◌, ◌/◌, ◌%◌, Bool, cond, not, ◌||◌, ◌&&◌, List, [], ◌∷◌, ◌++◌, eqb, leb, ltb}
+use Rattle.std.specs.Prelude.{length, get_or}
 use Rattle.std.proofs.lemmas.List.Edits.{sets}
 use Rattle.conversions.specs.Pieces as pieces
 use Rattle.conversions.specs.Pieces.{piece, conversion, flags, takes_style, styled, is_read, to_read}
@@ -165,6 +166,7 @@ entry_place es k = let e = get_or es k 0 in cond (is_element Writer e && not (is
 -- everything here, for proofs that compute
 unfoldable pub computes : Unit {0}
 unfolding pieces.computes signed
-    piece_of nothing before composed acted sign_at open_from composite_to open_to opening closed opened opened_into is_taken is_element elements_in
+    piece_of nothing before composed acted sign_at open_from composite_to open_to opening closed opened opened_into is_taken is_element
+    elements_in
     entry_place
 computes = tt

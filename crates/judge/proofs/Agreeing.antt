@@ -66,7 +66,8 @@ module _ (f : Facts) (k : ℕ) (low : 0 < k) (high : k ≤ days) (e : day_agrees
   at_place i h = each (λ j. agrees (said f j) (date_value j t)) 0 day_kinds e i (λ l. absurd (omega arith))
 
   -- the ISO year
-  about : Parts (thursday k) (iso_year k) (thursday k - days_before (iso_year k)) (month_of (iso_year k) (thursday k - days_before (iso_year k)))
+  about : Parts (thursday k) (iso_year k) (thursday k - days_before (iso_year k))
+      (month_of (iso_year k) (thursday k - days_before (iso_year k)))
   unfolding iso_year
   about = let w = thursday_within k low high in parts (thursday k) w.0 w.1
 

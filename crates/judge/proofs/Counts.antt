@@ -278,7 +278,8 @@ module _ (f : Facts) (n : ℕ) where
   unfolding ending_years leap_ending_years
   fewer_leap = omega (arith, count-parts (λ i. agrees ending (i % 100)) (λ i. leap i) n)
 
-  pub ending_days_is : said_days month 4 * leap_ending_years ending n + said_days month 1 * (ending_years ending n - leap_ending_years ending n)
+  pub ending_days_is : said_days month 4 * leap_ending_years ending n + said_days month 1 *
+      (ending_years ending n - leap_ending_years ending n)
       ≡ ending_days f n
   unfolding ending_days ending_years leap_ending_years
   ending_days_is =

@@ -8,7 +8,8 @@ use mathlib.Core.Path.{◌≡◌}
 use native.Mathlib.Decide.{dec_le}
 use native.Mathlib.Nat.{eq-or-lt_of_le}
 use native.Mathlib.Omega.{arith}
-use Rattle.calendar.specs.Calendar.{sum, year_length, month_length, days_before, day_of_year, day_number, days, date_of, iso_year, last_year}
+use Rattle.calendar.specs.Calendar.{sum, year_length, month_length, days_before, day_of_year, day_number, days, date_of, iso_year}
+use Rattle.calendar.specs.Calendar.{last_year}
 use Rattle.agreement.specs.Agreement.{day_agrees}
 use Rattle.agreement.specs.Search.{hit, first_two}
 use Rattle.agreement.specs.declared.Facts.{Facts}
@@ -176,7 +177,8 @@ module _ (f : Facts) (horizon : ℕ) where
             omega (arith, start_most y (month_span f y).first (year_low y h a) (months_most f y), later-start (y + 1) k t (omega arith)))
             (eq-or-lt_of_le (no-earlier y k t (omega arith)))
 
-    pub next_year : (y m : ℕ) (h : Found) → 0 < y → (first ≤ y) × ((y - first) % year_step f ≡ 0) → AtMonth y m h → (month_span f y).last < m
+    pub next_year : (y m : ℕ) (h : Found) → 0 < y → (first ≤ y) × ((y - first) % year_step f ≡ 0) → AtMonth y m h
+    → (month_span f y).last < m
         → AtYear (y + year_step f) h
     next_year y m h q on a l =
         record {

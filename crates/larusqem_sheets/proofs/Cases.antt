@@ -20,7 +20,8 @@ unfolding pack_cases packed_number packed_word calendar.computes offsets.compute
 all_packed = refl
 
 pub all_unpacked : map (λ (c : Case). c.0) unpack_cases ≡ map (λ (c : Case). c.1) unpack_cases
-unfolding unpack_cases unpacked_number unpacked_words words_of calendar.computes offsets.computes moments.computes bits.computes sheets.computes
+unfolding unpack_cases unpacked_number unpacked_words words_of calendar.computes offsets.computes moments.computes bits.computes
+    sheets.computes
 all_unpacked = refl
 
 pub all_weeks : map (λ (c : Case). c.0) week_cases ≡ map (λ (c : Case). c.1) week_cases
@@ -32,6 +33,7 @@ unfolding answer_cases
 all_answered = refl
 
 pub all_judged : map (λ (c : ℕ × ℕ). c.0) judged_cases ≡ map (λ (c : ℕ × ℕ). c.1) judged_cases
-unfolding judged_cases judged calendar.computes offsets.computes moments.computes bits.computes sheets.computes every ascending.ascending_from
+unfolding judged_cases judged calendar.computes offsets.computes moments.computes bits.computes sheets.computes every
+    ascending.ascending_from
     weeks.counted weeks.weeks_of weeks.tally_widths weeks.tally_word weeks.table_of adding.same adding.is_held
 all_judged = refl

@@ -15,7 +15,8 @@ use Rattle.words.specs.Words.{flag, number_or0, offset_flag, offset_word}
 -- what the words of a sheet say
 abbrev pub fields_of : List ℕ → SheetFields
 fields_of ws =
-    fields_from (get_or ws 0 0) (get_or ws 1 0) (get_or ws 2 0) (get_or ws 3 0) (get_or ws 4 0) (get_or ws 5 0) (get_or ws 6 0) (get_or ws 7 0)
+    fields_from (get_or ws 0 0) (get_or ws 1 0) (get_or ws 2 0) (get_or ws 3 0) (get_or ws 4 0) (get_or ws 5 0) (get_or ws 6 0)
+    (get_or ws 7 0)
     (get_or ws 8 0) (get_or ws 9 0) (get_or ws 10 0)
 
 -- the words of a sheet

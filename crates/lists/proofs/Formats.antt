@@ -41,7 +41,8 @@ elements_first TooLong es = refl
 elements_first (Bad p) es = refl
 
 -- ---- a format answers each text as its opening does, which stored its elements into entries that have room for all of them
-pub answers : (f room : List ℕ) {r : Opened} {es : List ℕ} → every is_byte f ≡ true → most_elements ≤ length room → most_elements ≤ length es
+pub answers : (f room : List ℕ) {r : Opened} {es : List ℕ} → every is_byte f ≡ true → most_elements ≤ length room
+    → most_elements ≤ length es
     → r ≡ opened Reader f → es ≡ opened_into Reader f room → (s : List ℕ) → opened_reading r es s ≡ reading f s
 unfolding opened_reading
 answers f room {r} {es} b h k e g s = go r refl

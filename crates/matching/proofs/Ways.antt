@@ -103,6 +103,7 @@ module _ (t : Names) (c : Conversion) (s : List ℕ) (at : ℕ) {r : NameRead} (
   name_none f = name-is f
 
 -- ---- a conversion, by its form
-pub by_form : (c : Conversion) (s : List ℕ) (at : ℕ) {f : Form} {i : Item} → c.form ≡ f → i ≡ read_form f c s at → i ≡ read_conversion c s at
+pub by_form : (c : Conversion) (s : List ℕ) (at : ℕ) {f : Form} {i : Item} → c.form ≡ f → i ≡ read_form f c s at → i
+    ≡ read_conversion c s at
 unfolding read_conversion
 by_form c s at e g = g ∙ ap (λ (f : Form). read_form f c s at) (sym e)

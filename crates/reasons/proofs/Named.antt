@@ -72,7 +72,8 @@ module _ (a : About) (es s : List ℕ) (k : ℕ) where
       elim (dec_le kinds k) [
         | yes h ↦ absurd (d (past (λ j. cond (is_named a (facts_in es s) j) (first_said j es s 0) nowhere) nowhere kinds k h))
         | no h ↦
-            inside (lt_of_not-le h) (dec_le (first_kind a) k) (dec_le k (last_kind a)) (ℕ_discrete (said (quarrelling a (facts_in es s)) k) 0)
+            inside (lt_of_not-le h) (dec_le (first_kind a) k) (dec_le k (last_kind a))
+            (ℕ_discrete (said (quarrelling a (facts_in es s)) k) 0)
       ]
     where
       inside : k < kinds → Dec (first_kind a ≤ k) → Dec (k ≤ last_kind a) → Dec (said (quarrelling a (facts_in es s)) k ≡ 0) → Left

@@ -42,6 +42,8 @@ unfolding cases.computes bytes range onto lines on_lines each date_shown fold ca
     goes_on first_form read_name is_space spaces calendar.computes moments.computes values.computes names.computes naming.computes
     conversions.computes opening.computes agreement.computes search.computes verdicts.computes engines.computes elements.computes
     extents.computes steps.computes answers.computes quarrels.computes reasons.computes block blocks block_by refusals_on refusals_of
-    marked covers is_marked last_mark mark_at marks_line some tally most bad_conversion mismatch noun quarrel part_name open_day missing_hour
-    open_hour open_sentence sentence shown_byte shown labels label label_before phrase begins begins_from words_from separator phrase_at word_list
+    marked covers is_marked last_mark mark_at marks_line some tally most bad_conversion mismatch noun quarrel part_name open_day
+    missing_hour
+    open_hour open_sentence sentence shown_byte shown labels label label_before phrase begins begins_from words_from separator phrase_at
+    word_list
 all_written = refl

@@ -23,7 +23,8 @@ lengths = map length labels
 module _ (k : ℕ) (h : k < 16) where
   pub row_fits : get_or lengths k 0 ≤ length (get_or rows k [])
   row_fits =
-      leb-true _ _ (same_at (λ j. leb (get_or lengths j 0) (length (get_or rows j []))) (λ j. true) 16 0 computed k (omega arith) (omega arith))
+      leb-true _ _ (same_at (λ j. leb (get_or lengths j 0) (length (get_or rows j []))) (λ j. true) 16 0 computed k (omega arith)
+      (omega arith))
     where
       computed : map (λ j. leb (get_or lengths j 0) (length (get_or rows j []))) (range 0 16) ≡ map (λ j. true) (range 0 16)
       computed = unfold rows lengths labels bytes range in refl

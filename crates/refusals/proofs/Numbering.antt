@@ -54,7 +54,8 @@ module _ (s : List ℕ) where
       (omega (arith, length-take i s), omega (arith, length-take i s))
 
   -- one byte more
-  pub next_byte : (i : ℕ) → i < length s → line_number s (i + 1) ≡ cond (eqb (get_or s i 0) newline) (suc (line_number s i)) (line_number s i)
+  pub next_byte : (i : ℕ) → i < length s → line_number s (i + 1)
+      ≡ cond (eqb (get_or s i 0) newline) (suc (line_number s i)) (line_number s i)
   unfolding line_number newlines
   next_byte i h = rw (add-one i, take-suc s i 0 h, newlines_append (take i s) (get_or s i 0 ∷ [])) (go (eqb (get_or s i 0) newline))
     where
@@ -68,7 +69,8 @@ module _ (s : List ℕ) where
   past_end i j h l = rw (take_all i s h, take_all j s (omega arith))
 
   -- the line after
-  pub next_number : (i : ℕ) {stop : ℕ} → stop ≡ i + line_length (drop i s) → stop < length s → line_number s (stop + 1) ≡ suc (line_number s i)
+  pub next_number : (i : ℕ) {stop : ℕ} → stop ≡ i + line_length (drop i s) → stop < length s → line_number s (stop + 1)
+      ≡ suc (line_number s i)
   unfolding line_number
   next_number i {stop} e h =
       let n = line_length (drop i s) in

@@ -19,8 +19,10 @@ use Rattle.sheet_list.specs.Weeks as weeks
 -- all that they compute by
 unfoldable computes : Unit {0}
 unfolding calendar.computes offsets.computes moments.computes bits.computes sheets.computes every
-    ascending.ascending_from ascending.inserted weeks.counted weeks.weeks_of weeks.tally_widths weeks.tally_word weeks.table_of weeks.has_week
-    adding.same adding.is_held adding.is_full adding.over adding.with adding.adding_word adding.adding_packed adding.adding adding.adding_all
+    ascending.ascending_from ascending.inserted weeks.counted weeks.weeks_of weeks.tally_widths weeks.tally_word weeks.table_of
+    weeks.has_week
+    adding.same adding.is_held adding.is_full adding.over adding.with adding.adding_word adding.adding_packed adding.adding
+    adding.adding_all
     adding.sheet_at adding.adding_words
 computes = tt
 

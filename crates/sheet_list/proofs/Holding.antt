@@ -176,7 +176,8 @@ module _ (h : Held) (v : Sound h) where
   unfolding table_of
   table_rises =
       rw v.table
-      (table_ascends (length (list_of h)) 0 0 (weeks_of (list_of h)) short-list (omega arith) (weeks_rise (list_of h)) (weeks_most (list_of h)))
+      (table_ascends (length (list_of h)) 0 0 (weeks_of (list_of h)) short-list (omega arith) (weeks_rise (list_of h))
+      (weeks_most (list_of h)))
 
   pub week_among : (k : ℕ) → week_in k (take h.weeks h.table) ≡ has_week k (weeks_of (list_of h))
   unfolding table_of

@@ -78,7 +78,8 @@ counted_run k (x ∷ s) w = go (λ l v. counted_run l s v) (ℕ_discrete (week_o
         ∙ ap (λ (r : List Tally). tally k 1 ∷ r) (sym (later (week_of x) w.1)))
 
 run_first : (x : ℕ) (s : List ℕ) → Weekly 0 (x ∷ s)
-    → table_of (x ∷ s) ≡ tally_word (tally (week_of x) (week_run (week_of x) (x ∷ s))) ∷ table_of (drop (week_run (week_of x) (x ∷ s)) (x ∷ s))
+    → table_of (x ∷ s) ≡ tally_word (tally (week_of x) (week_run (week_of x) (x ∷ s))) ∷ table_of
+    (drop (week_run (week_of x) (x ∷ s)) (x ∷ s))
 unfolding Weekly table_of weeks_of
 run_first x s w =
     rw (run_more (week_of x) x s refl) (ap (map tally_word) (counted_run (week_of x) s w.1))

@@ -1,5 +1,6 @@
 -- Adding sheets to a list and its table of weeks, each in a lent array with a count (RULES 11.2 and RULES 11.3).
-use Rattle.std.specs.Prelude.{ℕ, zero, suc, ◌+◌, ◌*◌, ◌/◌, Bool, true, false, cond, not, ◌&&◌, ◌||◌, List, [], ◌∷◌, ◌++◌, eqb, leb, length, get_or, take, drop}
+use Rattle.std.specs.Prelude.{ℕ, zero, suc, ◌+◌, ◌*◌, ◌/◌, Bool, true, false, cond, not, ◌&&◌, ◌||◌, List, [], ◌∷◌, ◌++◌, eqb, leb}
+use Rattle.std.specs.Prelude.{length, get_or, take, drop}
 use Rattle.laws.specs.Lists.{every}
 use Rattle.sheets.specs.Sheets.{is_packing, week_of, packing, fields_from}
 use Rattle.sheets.specs.declared.Packed.{Packed}

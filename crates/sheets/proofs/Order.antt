@@ -51,7 +51,8 @@ thursday_mono : (k l : ℕ) → k ≤ l → thursday k ≤ thursday l
 unfolding thursday
 thursday_mono k l h = omega arith
 
-week_mono : (s t : Date) → 0 < day_number_of s → day_number_of s ≤ day_number_of t → day_number_of t ≤ days → week_of_date s ≤ week_of_date t
+week_mono : (s t : Date) → 0 < day_number_of s → day_number_of s ≤ day_number_of t → day_number_of t ≤ days
+    → week_of_date s ≤ week_of_date t
 unfolding week_of_date week_widths packed bits iso_year
 week_mono s t p h q =
     let k = day_number_of s in
@@ -183,7 +184,8 @@ unfolding thursday
 week_close k l a = omega arith
 
 -- and days with one year and week, too
-weeks_apart : (s t : Date) → 0 < day_number_of s → day_number_of s ≤ day_number_of t → day_number_of t ≤ days → week_of_date t ≡ week_of_date s
+weeks_apart : (s t : Date) → 0 < day_number_of s → day_number_of s ≤ day_number_of t → day_number_of t ≤ days → week_of_date t
+    ≡ week_of_date s
     → day_number_of t < monday (day_number_of s)
 unfolding week_of_date week_widths packed bits monday
 weeks_apart s t p h q e =

@@ -153,6 +153,7 @@ next_week x = let k = day_number_of (sheet_of x).date in word_from (from_day_num
 -- everything here, and the words of offsets, for proofs that compute
 unfoldable pub computes : Unit {0}
 unfolding words.computes sheet_widths offset_field fields word_of said_from field_offset sheet_from sheet_of
-    fault_of is_valid is_packing unpacking packing_of dated packing day_fields reading_fields date_from fields_from week_widths week_of_date week_of
+    fault_of is_valid is_packing unpacking packing_of dated packing day_fields reading_fields date_from fields_from week_widths
+    week_of_date week_of
     date_word word_from next_week
 computes = tt

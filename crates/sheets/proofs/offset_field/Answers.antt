@@ -22,5 +22,8 @@ returns-in-Unsaid c = rw c.in-Unsaid.is (omega arith, omega arith)
 pub returns-in-Minutes : goal.returns-in-Minutes
 unfolding offset_flag offset_field
 returns-in-Minutes c =
-    rw c.in-Minutes.is
-    (omega (arith, number_is c.in-Minutes.east c.in-Minutes.known_told-1-own.given.0.1 c.magnitude.ensures), omega (arith, number_most c.in-Minutes.east c.in-Minutes.known_told-1-own.given.0.1 c.magnitude.ensures))
+    rw c.in-Minutes.is (
+      omega (arith, number_is c.in-Minutes.east c.in-Minutes.known_told-1-own.given.0.1 c.magnitude.ensures),
+      omega
+          (arith, number_most c.in-Minutes.east c.in-Minutes.known_told-1-own.given.0.1 c.magnitude.ensures),
+    )

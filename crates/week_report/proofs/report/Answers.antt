@@ -17,21 +17,27 @@ pub gather-n-requires : goal.gather-n-requires
 unfolding sum_of
 gather-n-requires c =
     let begin-then = c in
-    record { input_len_bound = (omega arith, omega (arith, next_is begin-then.begin-first.ensures (omega arith))); counts_len = (refl, refl) }
+    record {
+      input_len_bound = (omega arith, omega (arith, next_is begin-then.begin-first.ensures (omega arith)));
+      counts_len =
+          (refl, refl);
+    }
 
 pub slice_bounds-words-end : goal.slice_bounds-words-end
 slice_bounds-words-end c =
     let gather-then = c in
     let else1-then = c in
     let begin-then = c in
-    words_within begin-then.begin-first.ensures (omega (arith, else1-then.if-input-gt-LONGEST_INPUT.false)) gather-then.gather-n.ensures (omega arith)
+    words_within begin-then.begin-first.ensures (omega (arith, else1-then.if-input-gt-LONGEST_INPUT.false)) gather-then.gather-n.ensures
+    (omega arith)
 
 pub slice_bounds-count_sheets-end : goal.slice_bounds-count_sheets-end
 slice_bounds-count_sheets-end c =
     let gather-then = c in
     let else1-then = c in
     let begin-then = c in
-    let w = words_within begin-then.begin-first.ensures (omega (arith, else1-then.if-input-gt-LONGEST_INPUT.false)) gather-then.gather-n.ensures (omega arith) in
+    let w = words_within begin-then.begin-first.ensures
+    (omega (arith, else1-then.if-input-gt-LONGEST_INPUT.false)) gather-then.gather-n.ensures (omega arith) in
     sym (length-take-le _ _ w)
 
 pub overflow_cast-counts : goal.overflow_cast-counts
@@ -42,7 +48,13 @@ overflow_cast-counts c =
     let begin-then = c in
     let g = gather-then.gather-n.ensures in
     let t = count-sheets-then.count_sheets-tallied.ensures in
-    record { fits = omega (arith, left_few begin-then.begin-first.ensures (omega (arith, else1-then.if-input-gt-LONGEST_INPUT.false)) g (omega arith) t) }
+    record {
+      fits = omega (
+        arith,
+        left_few begin-then.begin-first.ensures (omega (arith, else1-then.if-input-gt-LONGEST_INPUT.false)) g
+            (omega arith) t,
+      );
+    }
 
 pub overflow_add-counts : goal.overflow_add-counts
 overflow_add-counts c =
@@ -52,7 +64,10 @@ overflow_add-counts c =
     let begin-then = c in
     let g = gather-then.gather-n.ensures in
     let t = count-sheets-then.count_sheets-tallied.ensures in
-    record { fits = sum_fits begin-then.begin-first.ensures (omega (arith, else1-then.if-input-gt-LONGEST_INPUT.false)) g (omega arith) t _ }
+    record {
+      fits = sum_fits begin-then.begin-first.ensures (omega (arith, else1-then.if-input-gt-LONGEST_INPUT.false)) g
+          (omega arith) t _;
+    }
 
 pub slice_bounds-table-end : goal.slice_bounds-table-end
 slice_bounds-table-end c =
@@ -72,7 +87,8 @@ slice_bounds-put_weeks-end-2 c =
     let begin-then = c in
     let g = gather-then.gather-n.ensures in
     let t = count-sheets-then.count_sheets-tallied.ensures in
-    sym (length-take-le _ _ (weeks_within begin-then.begin-first.ensures (omega (arith, else1-then.if-input-gt-LONGEST_INPUT.false)) g (omega arith) t
+    sym (length-take-le _ _ (weeks_within begin-then.begin-first.ensures (omega (arith, else1-then.if-input-gt-LONGEST_INPUT.false)) g
+    (omega arith) t
     (omega arith)))
 
 pub put_weeks-at-requires : goal.put_weeks-at-requires

@@ -14,7 +14,8 @@ abbrev pub test : List ℕ → ℕ → ℕ → Bool
 test said hour k = agrees (get_or said k 0) (hour_value k hour)
 
 abbrev pub invariant-loop-kind : goal.invariant-loop-kind
-invariant-loop-kind l = (l.kind ≤ 16) × (every (test l.said l.hour) (range l.kind (15 + 1 - l.kind)) ≡ every (test l.said l.hour) hour_kinds)
+invariant-loop-kind l = (l.kind ≤ 16) × (every (test l.said l.hour) (range l.kind (15 + 1 - l.kind))
+    ≡ every (test l.said l.hour) hour_kinds)
 
 abbrev pub decreases-loop-kind : goal.decreases-loop-kind
 decreases-loop-kind l = 16 - l.kind

@@ -13,7 +13,8 @@ loop-hour-preserved c =
     let s = c.loop-hour.invariant in
     let e = c.hour_agrees.ensures in
     elim c.if-hour_agrees.branch [
-      | then-hour_agrees+else-is_two w ↦ rw (w.found-is, w.hit-found.ensures) (so_far_hit _ 0 24 _ _ s (omega arith) (sym e ∙ w.if-hour_agrees.true))
+      | then-hour_agrees+else-is_two w ↦ rw (w.found-is, w.hit-found.ensures) (so_far_hit _ 0 24 _ _ s (omega arith) (sym e
+          ∙ w.if-hour_agrees.true))
       | else-hour_agrees w ↦ rw w.found-is (so_far_miss _ 0 24 _ _ s (omega arith) (sym e ∙ w.if-hour_agrees.false))
     ]
 

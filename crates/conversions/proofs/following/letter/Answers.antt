@@ -30,7 +30,13 @@ returns-then-holds-2 c =
     let p = c in
     let r = p.in_default.in_default-own.rest in
     rw (ne_eqb _ 110 r.0.0.1, ne_eqb _ 116 r.0.1, ne_eqb _ 37 r.1)
-    (rw (← composites (goal.at.returns-then-holds-2 c).After-holds, p.if-holds.false, ← conversions (goal.at.returns-then-holds-2 c).After-holds-in_default, c.if-holds-2.true))
+    (rw (
+      ← composites (goal.at.returns-then-holds-2 c).After-holds,
+      p.if-holds.false,
+      ← conversions
+          (goal.at.returns-then-holds-2 c).After-holds-in_default,
+      c.if-holds-2.true,
+    ))
 
 pub returns-in-110 : goal.returns-in-110
 unfolding letter
@@ -50,4 +56,10 @@ returns-else-holds-2 c =
     let p = c in
     let r = p.in_default.in_default-own.rest in
     rw (ne_eqb _ 110 r.0.0.1, ne_eqb _ 116 r.0.1, ne_eqb _ 37 r.1)
-    (rw (← composites (goal.at.returns-else-holds-2 c).After-holds, p.if-holds.false, ← conversions (goal.at.returns-else-holds-2 c).After-holds-in_default, c.if-holds-2.false))
+    (rw (
+      ← composites (goal.at.returns-else-holds-2 c).After-holds,
+      p.if-holds.false,
+      ← conversions
+          (goal.at.returns-else-holds-2 c).After-holds-in_default,
+      c.if-holds-2.false,
+    ))

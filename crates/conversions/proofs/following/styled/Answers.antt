@@ -23,7 +23,8 @@ abbrev after-flag : After-width_at-width → List ℕ
 after-flag c = drop c.flag_length-from.result c.args.s.now
 
 width_is : (c : After-width_at-width)
-    → (c.width_at-width.result.value ≡ decimal 0 (width_run (after-flag c))) × (c.width_at-width.result.count ≡ length (width_run (after-flag c)))
+    → (c.width_at-width.result.value ≡ decimal 0 (width_run (after-flag c)))
+    × (c.width_at-width.result.count ≡ length (width_run (after-flag c)))
 width_is c = rw rest at c.width_at-width.ensures
 
 both-within : (c : After-width_at-width)
@@ -53,7 +54,11 @@ pub slice_bounds-conversion-start : goal.slice_bounds-conversion-start
 slice_bounds-conversion-start c = omega (arith, both-within (goal.at.slice_bounds-conversion-start c).After-width_at-width)
 
 pub overflow_cast-style : goal.overflow_cast-style
-overflow_cast-style c = let w = c in omega (arith, (width_is (goal.at.overflow_cast-style c).After-width_at-width).0, (width_run_lem (after-flag (goal.at.overflow_cast-style c).After-width_at-width)).most)
+overflow_cast-style c = let w = c in omega (
+  arith,
+  (width_is (goal.at.overflow_cast-style c).After-width_at-width).0,
+  (width_run_lem (after-flag (goal.at.overflow_cast-style c).After-width_at-width)).most,
+)
 
 pub overflow_add-result : goal.overflow_add-result
 overflow_add-result c =
@@ -64,6 +69,7 @@ pub returns : goal.returns
 returns c =
     let p = c in
     let w = c in
-    styled_is _ w.flag_at-flag.ensures (flag-count (goal.at.returns c).After-flag_length-from) (width_is (goal.at.returns c).After-width_at-width)
+    styled_is _ w.flag_at-flag.ensures (flag-count (goal.at.returns c).After-flag_length-from)
+    (width_is (goal.at.returns c).After-width_at-width)
     (rw rest at p.conversion-piece.ensures)
     c.with_style.ensures

@@ -39,7 +39,8 @@ loop-i-smaller-in-Convert t c = omega (arith, passes c.loop-i.invariant (omega a
 pub conversion_at-requires : goal.conversion_at-requires
 conversion_at-requires t c =
     let m = modest c.loop-i.invariant (omega arith) c.piece_at-piece.ensures c.in-Convert.is in
-    let s : sign_at c.args.sign c.loop-i.i < longest = sign_within c.args.sign c.loop-i.i (omega (arith, c.requires.short)) c.requires.sign in
+    let s : sign_at c.args.sign c.loop-i.i < longest =
+    sign_within c.args.sign c.loop-i.i (omega (arith, c.requires.short)) c.requires.sign in
     (rw c.sign_at.ensures s, m.flag, omega (arith, m.width))
 
 -- ---- a composite

@@ -25,15 +25,18 @@ by-style c e =
     signed_is _ _ (omega (arith, l.requires)) (conversions (goal.at.Else-e-eq0 c).After-holds) l.if-not-holds.false-raw c.if-e-eq0.false e
 
 pub returns-then-not-holds : goal.returns-then-not-holds
-returns-then-not-holds c = no_letter _ _ (omega (arith, c.requires)) (conversions (goal.at.returns-then-not-holds c).After-holds) c.if-not-holds.true-raw
+returns-then-not-holds c = no_letter _ _ (omega (arith, c.requires))
+    (conversions (goal.at.returns-then-not-holds c).After-holds) c.if-not-holds.true-raw
 
 pub returns-then-e-eq0 : goal.returns-then-e-eq0
 returns-then-e-eq0 c =
     let l = c in
-    no_sign _ _ (omega (arith, l.requires)) (conversions (goal.at.returns-then-e-eq0 c).After-holds) l.if-not-holds.false-raw c.if-e-eq0.true
+    no_sign _ _ (omega (arith, l.requires))
+    (conversions (goal.at.returns-then-e-eq0 c).After-holds) l.if-not-holds.false-raw c.if-e-eq0.true
 
 pub returns-then-style-gt99 : goal.returns-then-style-gt99
-returns-then-style-gt99 c = by-style (goal.at.returns-then-style-gt99 c).Else-e-eq0 (too_wide _ c.style_of-style.ensures c.if-style-gt99.true)
+returns-then-style-gt99 c = by-style (goal.at.returns-then-style-gt99 c).Else-e-eq0
+    (too_wide _ c.style_of-style.ensures c.if-style-gt99.true)
 
 pub returns-then-not-is_flag : goal.returns-then-not-is_flag
 returns-then-not-is_flag c =

@@ -14,7 +14,11 @@ unfolding is_conversion
 conversions c = is_among _ _ _ c.holds.ensures (unfold holds computes in tt) (unfold computes in tt)
 
 pub returns-then-not-holds : goal.returns-then-not-holds
-returns-then-not-holds c = rw (← conversions (goal.at.returns-then-not-holds c).After-holds, not-true c.holds.result c.if-not-holds.true-raw)
+returns-then-not-holds c = rw (
+  ← conversions
+      (goal.at.returns-then-not-holds c).After-holds,
+  not-true c.holds.result c.if-not-holds.true-raw,
+)
 
 pub returns-in-Writer : goal.returns-in-Writer
 unfolding takes_letter

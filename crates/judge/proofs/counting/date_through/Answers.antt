@@ -26,8 +26,14 @@ whole_years-years-requires c = omega (arith, (valid (goal.at.whole_years-years-r
 
 pub returns-then-not-date_kinds_agree : goal.returns-then-not-date_kinds_agree
 returns-then-not-date_kinds_agree c =
-    let other : year_agrees c.args.facts c.args.date.year ≡ false = sym (tested (goal.at.returns-then-not-date_kinds_agree c).After-date_kinds_agree) ∙ not-true _ c.if-not-date_kinds_agree.true-raw in
-    omega (arith, c.whole_years-years.ensures, rw other at (date_through c.args.facts _ _ _ (valid (goal.at.returns-then-not-date_kinds_agree c).Start)))
+    let other : year_agrees c.args.facts c.args.date.year ≡ false =
+    sym (tested (goal.at.returns-then-not-date_kinds_agree c).After-date_kinds_agree) ∙ not-true _ c.if-not-date_kinds_agree.true-raw in
+    omega (
+      arith,
+      c.whole_years-years.ensures,
+      rw other at
+          (date_through c.args.facts _ _ _ (valid (goal.at.returns-then-not-date_kinds_agree c).Start)),
+    )
 
 pub returns : goal.returns
 returns c =
@@ -42,4 +48,11 @@ returns c =
 
 pub overflow_add-result : goal.overflow_add-result
 overflow_add-result c =
-    omega (arith, returns c, month_days_most c.args.facts (day_number_of c.args.date), number_within _ _ _ (valid (goal.at.overflow_add-result c).Start), days_is)
+    omega (
+      arith,
+      returns c,
+      month_days_most c.args.facts (day_number_of c.args.date),
+      number_within _ _ _
+          (valid (goal.at.overflow_add-result c).Start),
+      days_is,
+    )

@@ -22,7 +22,8 @@ left_over : (c : After-ending_days-2)
 left_over c =
     let a = c.args in
     let span = said_years a.facts last_year in
-    let start : c.said_years-span.result.first - 1 ≡ span.first - 1 = omega (arith, first-is (goal.at.After-ending_days-2 c).After-said_years-span) in
+    let start : c.said_years-span.result.first - 1 ≡ span.first - 1 =
+    omega (arith, first-is (goal.at.After-ending_days-2 c).After-said_years-span) in
     let end : c.earlier-end.result ≡ min a.last span.last
     = omega (arith, c.earlier-end.ensures, last-is (goal.at.After-ending_days-2 c).After-said_years-span) in
     omega (
@@ -31,14 +32,22 @@ left_over c =
       c.ending_days.ensures,
       ap (ending_days a.facts) start,
       ap (ending_days a.facts) end,
-      whole_some a.facts a.last c.requires (omega (arith, c.if-end-span.false, first-is (goal.at.After-ending_days-2 c).After-said_years-span)),
+      whole_some a.facts a.last c.requires
+          (omega (arith, c.if-end-span.false, first-is (goal.at.After-ending_days-2 c).After-said_years-span)),
     )
 
 pub returns-then-end-span : goal.returns-then-end-span
 returns-then-end-span c =
     let a = c.args in
     let e = c.earlier-end.ensures in
-    sym (whole_none a.facts a.last c.requires (omega (arith, e, first-is (goal.at.returns-then-end-span c).After-said_years-span, last-is (goal.at.returns-then-end-span c).After-said_years-span)))
+    sym (whole_none a.facts a.last c.requires
+    (omega (
+      arith,
+      e,
+      first-is (goal.at.returns-then-end-span c).After-said_years-span,
+      last-is
+          (goal.at.returns-then-end-span c).After-said_years-span,
+    )))
 
 pub overflow_sub-span : goal.overflow_sub-span
 overflow_sub-span c =

@@ -82,7 +82,8 @@ overflow_add-day c =
 pub loop-day-preserved : goal.loop-day-preserved
 loop-day-preserved c =
     let i = c.loop-day.invariant in
-    let k : c.loop-day.day ≤ month_length c.years.year c.loop-month.month = omega (arith, c.loop-day-test.true, c.month_length-length.ensures) in
+    let k : c.loop-day.day ≤ month_length c.years.year c.loop-month.month = omega
+    (arith, c.loop-day-test.true, c.month_length-length.ensures) in
     let e = tested _ _ _ _ _ _ i.0 k c.day_agrees.ensures c.date_at.ensures in
     let l : c.loop-day.examined + 1 ≤ c.args.budget = omega (arith, i.1.few, c.if-examined-budget.false) in
     elim c.if-day_agrees.branch [
@@ -115,7 +116,8 @@ returns-after-years c =
 pub returns-then-is_two : goal.returns-then-is_two
 returns-then-is_two c =
     let i = c.loop-day.invariant in
-    let k : c.loop-day.day ≤ month_length c.years.year c.loop-month.month = omega (arith, c.loop-day-test.true, c.month_length-length.ensures) in
+    let k : c.loop-day.day ≤ month_length c.years.year c.loop-month.month = omega
+    (arith, c.loop-day-test.true, c.month_length-length.ensures) in
     let h = next_day_hit _ _ _ _ _ _ i.0 k (sym (tested _ _ _ _ _ _ i.0 k c.day_agrees.ensures c.date_at.ensures) ∙ c.if-day_agrees.true) in
     let e = c.hit-found.ensures in
     let two = sym c.is_two.ensures ∙ c.if-is_two.true in

@@ -42,7 +42,8 @@ module _ (f : Facts) where
     number-there : day_number x.year x.month x.day ≡ day_number y m d
     number-there = ap (λ (x : Date). day_number x.year x.month x.day) (sym is-valid.1)
 
-fields-alike : {a a' b b' c c' : ℕ} → a ≡ a' → b ≡ b' → c ≡ c' → from_fields (a - 1) (b - 1) (c - 1) ≡ from_fields (a' - 1) (b' - 1) (c' - 1)
+fields-alike : {a a' b b' c c' : ℕ} → a ≡ a' → b ≡ b' → c ≡ c' → from_fields (a - 1) (b - 1) (c - 1)
+    ≡ from_fields (a' - 1) (b' - 1) (c' - 1)
 fields-alike e g h = rw (e, g, h)
 
 pub overflow_sub-year : goal.overflow_sub-year
@@ -70,7 +71,8 @@ returns-then-date_kinds_agree c =
     ∙ c.in-Valid.is
     in
     rw (c.day_number.ensures ∙ number-there f x e)
-    (date_agrees_lem f (whole f c.requires) (no_fault f x e) (sym (agrees-there f x e c.date_kinds_agree.ensures) ∙ c.if-date_kinds_agree.true))
+    (date_agrees_lem f (whole f c.requires) (no_fault f x e) (sym (agrees-there f x e c.date_kinds_agree.ensures)
+    ∙ c.if-date_kinds_agree.true))
 
 pub returns : goal.returns
 unfolding date_agrees day_kinds range

@@ -21,7 +21,8 @@ use Rattle.judge.proofs.Upto.{upto_two}
 use Rattle.judge.proofs.skipping.search_years.Goals as goal
 use Rattle.judge.proofs.skipping.search_years.Goals.{In-years, After-day_number-before, After-year_days-days, In-loop-month}
 use Rattle.judge.proofs.skipping.search_years.Goals.{After-month_start-start, After-month_days-span, In-loop-number}
-use Rattle.judge.proofs.skipping.search_years.Goals.{After-date_at-in-loop-number, After-day_agrees, then-day_agrees+else-is_two, else-day_agrees}
+use Rattle.judge.proofs.skipping.search_years.Goals.{After-date_at-in-loop-number, After-day_agrees, then-day_agrees+else-is_two}
+use Rattle.judge.proofs.skipping.search_years.Goals.{else-day_agrees}
 
 -- ---- in a year that can agree
 some_year : (c : In-years) → 0 < c.years.year
@@ -50,7 +51,8 @@ days-is-here : (c : After-year_days-days)
     → c.year_days-days.result ≡ year_days c.args.facts (days_before c.years.year) (year_length c.years.year)
 days-is-here c =
     c.year_days-days.ensures
-    ∙ ap₂ (λ (a b : ℕ). year_days c.args.facts a b) (before-is (goal.at.After-year_days-days c).After-day_number-before) c.year_length.ensures
+    ∙ ap₂ (λ (a b : ℕ). year_days c.args.facts a b)
+    (before-is (goal.at.After-year_days-days c).After-day_number-before) c.year_length.ensures
 
 -- ---- in a month that can agree
 some_month : (c : In-loop-month) → 0 < c.loop-month.month

@@ -10,7 +10,8 @@ pub loop-kind-init : goal.loop-kind-init
 loop-kind-init c = (omega arith, refl)
 
 pub returns-then-said-kind-ne0 : goal.returns-then-said-kind-ne0
-returns-then-said-kind-ne0 c = sym (ap not (sym c.loop-kind.invariant.1 ∙ every_stop _ _ _ (omega arith) (ne_eqb _ 0 c.if-said-kind-ne0.true)))
+returns-then-said-kind-ne0 c = sym (ap not (sym c.loop-kind.invariant.1
+    ∙ every_stop _ _ _ (omega arith) (ne_eqb _ 0 c.if-said-kind-ne0.true)))
 
 pub loop-kind-preserved : goal.loop-kind-preserved
 loop-kind-preserved c = (omega arith, sym (every_turn _ _ _ (omega arith) (eq-eqb _ 0 c.if-said-kind-ne0.false)) ∙ c.loop-kind.invariant.1)

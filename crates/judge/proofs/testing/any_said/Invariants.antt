@@ -13,7 +13,8 @@ unsaid said k = eqb (get_or said k 0) 0
 
 abbrev pub invariant-loop-kind : goal.invariant-loop-kind
 invariant-loop-kind l =
-    (l.kind ≤ l.to + 1) × (every (unsaid l.said) (range l.kind (l.to + 1 - l.kind)) ≡ every (unsaid l.said) (range l.from (l.to + 1 - l.from)))
+    (l.kind ≤ l.to + 1) × (every (unsaid l.said) (range l.kind (l.to + 1 - l.kind))
+    ≡ every (unsaid l.said) (range l.from (l.to + 1 - l.from)))
 
 abbrev pub decreases-loop-kind : goal.decreases-loop-kind
 decreases-loop-kind l = l.to + 1 - l.kind

@@ -15,7 +15,8 @@ test said date k = agrees (get_or said k 0) (date_value k date)
 
 abbrev pub invariant-loop-kind : goal.invariant-loop-kind
 invariant-loop-kind l =
-    (l.kind ≤ l.to + 1) × (every (test l.said l.date) (range l.kind (l.to + 1 - l.kind)) ≡ every (test l.said l.date) (range l.from (l.to + 1 - l.from)))
+    (l.kind ≤ l.to + 1) × (every (test l.said l.date) (range l.kind (l.to + 1 - l.kind))
+    ≡ every (test l.said l.date) (range l.from (l.to + 1 - l.from)))
 
 abbrev pub decreases-loop-kind : goal.decreases-loop-kind
 decreases-loop-kind l = l.to + 1 - l.kind

@@ -38,7 +38,13 @@ returns-then-input-gt-LONGEST_INPUT c =
     let o = c in
     let s = o.args.input.now in
     let t = lt-leb (length s) longest_input (omega arith) in
-    record { opens = (formats (goal.at.returns-then-input-gt-LONGEST_INPUT c).After-open-opened).0; stores = (formats (goal.at.returns-then-input-gt-LONGEST_INPUT c).After-open-opened).1; puts = rw t p.put_bytes-count.ensures; goes = rw t }
+    record {
+      opens = (formats (goal.at.returns-then-input-gt-LONGEST_INPUT c).After-open-opened).0;
+      stores =
+          (formats (goal.at.returns-then-input-gt-LONGEST_INPUT c).After-open-opened).1;
+      puts = rw t p.put_bytes-count.ensures;
+      goes = rw t;
+    }
 
 pub overflow_add-result : goal.overflow_add-result
 overflow_add-result c = omega (arith, ends (goal.at.overflow_add-result c).After-line_end-end)
@@ -51,4 +57,10 @@ returns c =
     let s = l.args.input.now in
     let t = le-leb (length s) longest_input (omega arith) in
     let n : l.line_end-end.result + 1 ≡ suc (line_length s) = omega (arith, l.line_end-end.ensures) in
-    record { opens = (formats (goal.at.returns c).After-open-opened).0; stores = (formats (goal.at.returns c).After-open-opened).1; puts = rw t p.put_bytes-count-2.ensures; goes = rw (t, n) }
+    record {
+      opens = (formats (goal.at.returns c).After-open-opened).0;
+      stores =
+          (formats (goal.at.returns c).After-open-opened).1;
+      puts = rw t p.put_bytes-count-2.ensures;
+      goes = rw (t, n);
+    }

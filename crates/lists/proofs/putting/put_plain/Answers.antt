@@ -21,7 +21,11 @@ digits_are : (c : After-write_number) → c.write_number.new.out ≡ plain c.arg
 digits_are c =
     let d = c in
     let n = d.args.n in
-    c.write_number.ensures ∙ rw (length-take-le _ _ (ten (goal.at.After-write_number c).After-digit_count-count), d.digit_count-count.ensures) (plain_places 48 n)
+    c.write_number.ensures ∙ rw (
+      length-take-le _ _
+          (ten (goal.at.After-write_number c).After-digit_count-count),
+      d.digit_count-count.ensures,
+    ) (plain_places 48 n)
 
 pub slice_bounds-digits-end : goal.slice_bounds-digits-end
 slice_bounds-digits-end c = ten c
@@ -36,7 +40,8 @@ as_many c = ap length (digits_are c) ∙ sym c.digit_count-count.ensures
 pub slice_bounds-digits-end-2 : goal.slice_bounds-digits-end-2
 slice_bounds-digits-end-2 c =
     let w = c in
-    first_fits w.write_number.new.out (drop w.digit_count-count.result (replicate 10 0)) (as_many (goal.at.slice_bounds-digits-end-2 c).After-write_number)
+    first_fits w.write_number.new.out (drop w.digit_count-count.result (replicate 10 0))
+    (as_many (goal.at.slice_bounds-digits-end-2 c).After-write_number)
 
 pub slice_bounds-put_bytes-end : goal.slice_bounds-put_bytes-end
 slice_bounds-put_bytes-end c =
@@ -47,5 +52,9 @@ slice_bounds-put_bytes-end c =
 pub returns : goal.returns
 returns c =
     let w = c in
-    rw (take_at w.write_number.new.out _ w.digit_count-count.result (as_many (goal.at.returns c).After-write_number), digits_are (goal.at.returns c).After-write_number)
+    rw (
+      take_at w.write_number.new.out _ w.digit_count-count.result (as_many (goal.at.returns c).After-write_number),
+      digits_are
+          (goal.at.returns c).After-write_number,
+    )
     at c.put_bytes.ensures

@@ -18,7 +18,8 @@ pub returns-then-c-digits : goal.returns-then-c-digits
 returns-then-c-digits c =
     let f = c in
     let d = c in
-    number_high _ _ _ (omega arith) d.skip_space-start.ensures d.read_digits-digits.ensures f.if-digits-eq0.false (omega arith) (omega arith)
+    number_high _ _ _ (omega arith) d.skip_space-start.ensures d.read_digits-digits.ensures f.if-digits-eq0.false (omega arith)
+    (omega arith)
 
 pub overflow_add-result : goal.overflow_add-result
 overflow_add-result c =
@@ -33,4 +34,5 @@ pub returns : goal.returns
 returns c =
     let f = c in
     let d = c in
-    number_fact _ _ _ (omega arith) d.skip_space-start.ensures d.read_digits-digits.ensures f.if-digits-eq0.false (omega arith) (omega arith)
+    number_fact _ _ _ (omega arith) d.skip_space-start.ensures d.read_digits-digits.ensures f.if-digits-eq0.false (omega arith)
+    (omega arith)

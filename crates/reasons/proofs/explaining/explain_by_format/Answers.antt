@@ -27,7 +27,11 @@ unfolding format_elements
 returns-in-Done c =
     let d = c in
     let o = d.open.ensures in
-    rw (sym o.value ∙ d.in-Done.is, ← stored _ _ _ o.out_after (whole (goal.at.returns-in-Done c).In-Done) (omega (arith, (whole (goal.at.returns-in-Done c).In-Done).few))) c.explain.ensures
+    rw (
+      sym o.value ∙ d.in-Done.is,
+      ← stored _ _ _ o.out_after (whole (goal.at.returns-in-Done c).In-Done)
+          (omega (arith, (whole (goal.at.returns-in-Done c).In-Done).few)),
+    ) c.explain.ensures
 
 pub returns-in-TooLong : goal.returns-in-TooLong
 unfolding format_elements

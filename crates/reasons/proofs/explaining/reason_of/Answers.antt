@@ -21,4 +21,5 @@ unfolding reasons.computes reader.computes
 returns-in-OpenHour c = rw c.in-OpenHour.is
 
 pub returns-in_default : goal.returns-in_default
-returns-in_default c = no_reason c.args.answer c.in_default.not-NoDay c.in_default.not-NoHour c.in_default.not-OpenDay c.in_default.not-OpenHour
+returns-in_default c = no_reason c.args.answer c.in_default.not-NoDay c.in_default.not-NoHour c.in_default.not-OpenDay
+    c.in_default.not-OpenHour

@@ -25,7 +25,12 @@ returns-then-said-kind-eq0 c =
     let a = c.args in
     let l = c.last_kind.ensures in
     let f = c.first_kind.ensures in
-    rw (among_these a.about a.kind (omega arith) (omega (arith, f)) (omega (arith, l)), c.if-said-kind-eq0.true, c.nowhere-then-said-kind-eq0.ensures)
+    rw (
+      among_these a.about a.kind (omega arith) (omega (arith, f))
+          (omega (arith, l)),
+      c.if-said-kind-eq0.true,
+      c.nowhere-then-said-kind-eq0.ensures,
+    )
 
 pub returns : goal.returns
 unfolding word_in

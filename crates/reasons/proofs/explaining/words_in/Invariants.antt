@@ -10,7 +10,8 @@ use Rattle.reasons.proofs.explaining.words_in.Given as goal
 abbrev pub invariant-loop-kind : goal.invariant-loop-kind
 invariant-loop-kind l =
     (l.kind ≤ kinds)
-    × (sets l.words l.kind (map (word_in l.about l.left l.elements l.s) (range l.kind (kinds - l.kind))) ≡ words_in l.about l.left l.elements l.s)
+    × (sets l.words l.kind (map (word_in l.about l.left l.elements l.s) (range l.kind (kinds - l.kind)))
+    ≡ words_in l.about l.left l.elements l.s)
 
 abbrev pub decreases-loop-kind : goal.decreases-loop-kind
 decreases-loop-kind l = kinds - l.kind

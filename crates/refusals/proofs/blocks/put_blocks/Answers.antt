@@ -83,11 +83,18 @@ loop-next-preserved c =
     let most = l.requires.0 in
     let few : l.loop-next.line < 100000 = omega (arith, i.1, most) in
     let short : length t ≤ longest_input =
-    omega (arith, most, length-take (e.line_end-stop.result - l.loop-next.next) (drop l.loop-next.next s), length-drop l.loop-next.next s) in (
+    omega (
+      arith,
+      most,
+      length-take (e.line_end-stop.result - l.loop-next.next)
+          (drop l.loop-next.next s),
+      length-drop l.loop-next.next s,
+    ) in (
       list_next i.0
           (next_block (opened_block a.opened a.elements.now) l.loop-next.line s l.loop-next.next (omega arith) e.line_end-stop.ensures)
           c.put_text-count.ensures
-          (omega (arith, block_most a.opened a.elements.now t l.loop-next.line few short)) (omega (arith, found (goal.at.loop-next-preserved c).After-line_end-stop)),
+          (omega (arith, block_most a.opened a.elements.now t l.loop-next.line few short))
+          (omega (arith, found (goal.at.loop-next-preserved c).After-line_end-stop)),
       omega (arith, found (goal.at.loop-next-preserved c).After-line_end-stop, i.1),
       λ h. omega (arith, i.2 (omega arith), next_number s l.loop-next.next e.line_end-stop.ensures (omega arith)),
     )

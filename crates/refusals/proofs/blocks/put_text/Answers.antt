@@ -22,7 +22,12 @@ put_block-requires c =
     let e = c in
     let n = c in
     let r = c in
-    let a = r.args in record { answer_bound = rw r.answer_to-answer.ensures (place_fits a.opened a.elements.now a.text.now); all_inside = λ k. rw e.explain-explained.ensures (explained_inside _ _ a.text.now k).1 }
+    let a = r.args in record {
+      answer_bound =
+          rw r.answer_to-answer.ensures (place_fits a.opened a.elements.now a.text.now);
+      all_inside = λ k. rw e.explain-explained.ensures
+          (explained_inside _ _ a.text.now k).1;
+    }
 
 pub returns : goal.returns
 unfolding opened_block
@@ -31,4 +36,5 @@ returns c =
     let e = c in
     let n = c in
     let r = c in
-    rw (← r.answer_to-answer.ensures, ← first-ones (goal.at.returns c).After-elements_of-count, ← e.explain-explained.ensures) p.put_block.ensures
+    rw (← r.answer_to-answer.ensures, ← first-ones (goal.at.returns c).After-elements_of-count, ← e.explain-explained.ensures)
+    p.put_block.ensures

@@ -25,23 +25,34 @@ unfolding marked reader.computes among
 returns-in-NoMatch c =
     let p = c in
     let o = c in
-    rw (o.in-NoMatch.is, ← same_line o.only.result (extent o.in-NoMatch.place (o.in-NoMatch.place + 1) ∷ []) o.only.ensures) p.put_marks_line.ensures
+    rw (o.in-NoMatch.is, ← same_line o.only.result (extent o.in-NoMatch.place (o.in-NoMatch.place + 1) ∷ []) o.only.ensures)
+    p.put_marks_line.ensures
 
 pub returns-in-OutOfRange : goal.returns-in-OutOfRange
 unfolding marked reader.computes among
 returns-in-OutOfRange c =
     let p = c in
     let o = c in
-    rw (o.in-OutOfRange.is, ← same_line o.only-in-OutOfRange.result (extent o.in-OutOfRange.place (o.in-OutOfRange.place + 1) ∷ []) o.only-in-OutOfRange.ensures) p.put_marks_line-in-OutOfRange.ensures
+    rw (
+      o.in-OutOfRange.is,
+      ← same_line o.only-in-OutOfRange.result
+          (extent o.in-OutOfRange.place (o.in-OutOfRange.place + 1) ∷ []) o.only-in-OutOfRange.ensures,
+    ) p.put_marks_line-in-OutOfRange.ensures
 
 pub returns-in-Contradiction : goal.returns-in-Contradiction
 unfolding marked reader.computes among
 returns-in-Contradiction c =
     let p = c in
     let o = c in
-    rw (o.in-Contradiction.is, ← same_line o.only-in-Contradiction.result (extent o.in-Contradiction.place (o.in-Contradiction.place + 1) ∷ []) o.only-in-Contradiction.ensures) p.put_marks_line-in-Contradiction.ensures
+    rw (
+      o.in-Contradiction.is,
+      ← same_line o.only-in-Contradiction.result
+          (extent o.in-Contradiction.place (o.in-Contradiction.place + 1) ∷ []) o.only-in-Contradiction.ensures,
+    )
+    p.put_marks_line-in-Contradiction.ensures
 
 pub returns-in_default : goal.returns-in_default
 returns-in_default c =
     let m = c in
-    rw (by_words m.args.answer _ c.in_default.not-NoMatch c.in_default.not-OutOfRange c.in_default.not-Contradiction) c.put_marks_line-in_default.ensures
+    rw (by_words m.args.answer _ c.in_default.not-NoMatch c.in_default.not-OutOfRange c.in_default.not-Contradiction)
+    c.put_marks_line-in_default.ensures

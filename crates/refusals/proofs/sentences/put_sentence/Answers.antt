@@ -53,4 +53,6 @@ returns-in-OpenHour c = let p = c in rw p.in-OpenHour.is p.put_open_hour.ensures
 pub returns-in_default : goal.returns-in_default
 returns-in_default c =
     let m = c in
-    rw (unsaid m.args.answer _ _ m.in_default.not-FormatTooLong m.in_default.not-TextTooLong m.in_default.not-BadConversion m.in_default.not-NoMatch m.in_default.not-OutOfRange m.in_default.not-Contradiction m.in_default.not-NoDay m.in_default.not-NoHour m.in_default.not-OpenDay m.in_default.not-OpenHour) c.first_place.ensures
+    rw (unsaid m.args.answer _ _ m.in_default.not-FormatTooLong m.in_default.not-TextTooLong m.in_default.not-BadConversion
+    m.in_default.not-NoMatch m.in_default.not-OutOfRange m.in_default.not-Contradiction m.in_default.not-NoDay m.in_default.not-NoHour
+    m.in_default.not-OpenDay m.in_default.not-OpenHour) c.first_place.ensures

@@ -11,7 +11,11 @@ returns-then-not-is_sound c = word_unheld _ _ _ (sym c.is_sound.ensures ∙ not-
 
 pub is_full-requires : goal.is_full-requires
 is_full-requires c =
-    let e = c in record { weeks_value = sym e.is_sound.ensures ∙ not-false _ e.if-not-is_sound.false-raw; word_value = c.requires.word_value.0 }
+    let e = c in record {
+      weeks_value = sym e.is_sound.ensures
+          ∙ not-false _ e.if-not-is_sound.false-raw;
+      word_value = c.requires.word_value.0;
+    }
 
 pub returns-then-is_full : goal.returns-then-is_full
 returns-then-is_full c =
@@ -23,7 +27,13 @@ put_word-weeks-requires c =
     let f = c in
     let e = c in
     let s = c in
-    record { weeks_value = sym e.is_sound.ensures ∙ not-false _ e.if-not-is_sound.false-raw; word_value = s.requires.word_value.0; weeks_value_2 = sym f.is_full.ensures ∙ f.if-is_full.false }
+    record {
+      weeks_value = sym e.is_sound.ensures
+          ∙ not-false _ e.if-not-is_sound.false-raw;
+      word_value =
+          s.requires.word_value.0;
+      weeks_value_2 = sym f.is_full.ensures ∙ f.if-is_full.false;
+    }
 
 pub overflow_add-result-2 : goal.overflow_add-result-2
 overflow_add-result-2 c =

@@ -19,7 +19,14 @@ count_week-requires c =
     let s = c in
     let v = sound _ s.requires.weeks_value in
     let e = c.week_of.ensures in
-    let f = ap (λ k. length (counted_in k (take s.args.weeks s.args.table.now))) e ∙ ap length (table_with _ v s.args.word) in record { weeks_in_bounds = omega (arith, v.size, v.inside); table_value = (table_rises _ v, omega (arith, e, packing_week s.args.word s.requires.word_value)); table_in_bounds = omega (arith, f, weeks_fit _ v s.args.word s.requires.weeks_value_2, v.size) }
+    let f = ap (λ k. length (counted_in k (take s.args.weeks s.args.table.now))) e ∙ ap length (table_with _ v s.args.word) in
+    record {
+      weeks_in_bounds = omega (arith, v.size, v.inside);
+      table_value =
+          (table_rises _ v, omega (arith, e, packing_week s.args.word s.requires.word_value));
+      table_in_bounds = omega
+          (arith, f, weeks_fit _ v s.args.word s.requires.weeks_value_2, v.size);
+    }
 
 pub returns : goal.returns
 returns c =

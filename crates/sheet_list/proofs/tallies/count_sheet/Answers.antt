@@ -47,13 +47,20 @@ count_week-weeks-requires c =
     let few : length (take s.args.index s.args.words.now) < week = omega (arith, n, s.requires.index_in_bounds) in
     let e = sym a.is_counted.ensures ∙ not-false _ c.if-not-is_counted.false-raw in
     let w = c.week_of.ensures in
-    let f = ap (λ k. length (counted_in k (take s.args.tallied.weeks s.args.table.now))) w in record { weeks_in_bounds = within s.requires.tallied s.requires.index_in_bounds.1.1; table_value = (table_rises s.requires.tallied few, omega (arith, w, packing_week x ((and-eq-true_iff (is_packing x) _).0 e).0)); table_in_bounds = omega (arith, f, counted_fits s.requires.tallied few x s.requires.index_in_bounds.1.1 e) }
+    let f = ap (λ k. length (counted_in k (take s.args.tallied.weeks s.args.table.now))) w in
+    record {
+      weeks_in_bounds = within s.requires.tallied s.requires.index_in_bounds.1.1;
+      table_value =
+          (table_rises s.requires.tallied few, omega (arith, w, packing_week x ((and-eq-true_iff (is_packing x) _).0 e).0));
+      table_in_bounds = omega (arith, f, counted_fits s.requires.tallied few x s.requires.index_in_bounds.1.1 e);
+    }
 
 pub returns : goal.returns
 returns c =
     let w = c in
     let a = c in
     let s = c in
-    counted_more_is s.args.words.now s.args.table.now s.args.index s.requires.tallied s.requires.index_in_bounds.0 s.requires.index_in_bounds.1.0
+    counted_more_is s.args.words.now s.args.table.now s.args.index s.requires.tallied s.requires.index_in_bounds.0
+    s.requires.index_in_bounds.1.0
     (sym a.is_counted.ensures ∙ not-false _ w.if-not-is_counted.false-raw) w.week_of.ensures
     c.count_week-weeks.ensures.value c.count_week-weeks.ensures.table_after

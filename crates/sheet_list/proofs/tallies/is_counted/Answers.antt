@@ -10,7 +10,8 @@ pub returns-then-not-is_packing : goal.returns-then-not-is_packing
 returns-then-not-is_packing c = not_packing _ _ (sym c.is_packing.ensures ∙ not-true _ c.if-not-is_packing.true-raw)
 
 pub returns-then-table-ne-TABLE_LENGTH : goal.returns-then-table-ne-TABLE_LENGTH
-returns-then-table-ne-TABLE_LENGTH c = weeks_free _ _ (sym c.is_packing.ensures ∙ not-false _ c.if-not-is_packing.false-raw) c.if-table-ne-TABLE_LENGTH.true
+returns-then-table-ne-TABLE_LENGTH c = weeks_free _ _ (sym c.is_packing.ensures
+    ∙ not-false _ c.if-not-is_packing.false-raw) c.if-table-ne-TABLE_LENGTH.true
 
 pub has_week-requires : goal.has_week-requires
 has_week-requires c =

@@ -82,7 +82,11 @@ returns-then-is_week_at c =
     let e = counted_held s.args.week t r.result r.ensures h.0 h.1 in
     let g = get_or-take s.args.weeks s.args.table.now r.result 0 l in
     rw (e, g)
-    (record { value = sym (length-set t r.result _ ∙ n); table_after = sym (over_set s.args.table.now s.args.weeks r.result _ l s.requires.weeks_in_bounds) })
+    (record {
+      value = sym (length-set t r.result _
+          ∙ n);
+      table_after = sym (over_set s.args.table.now s.args.weeks r.result _ l s.requires.weeks_in_bounds);
+    })
 
 pub put_at-requires : goal.put_at-requires
 put_at-requires c =

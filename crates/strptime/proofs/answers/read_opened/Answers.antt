@@ -44,4 +44,6 @@ pub returns-in-Done : goal.returns-in-Done
 returns-in-Done c =
     let d = c in
     let o = d.open.ensures in
-    c.read_short.ensures ∙ rw (stored _ _ _ o.out_after (whole (goal.at.returns-in-Done c).In-Done) (fits (goal.at.returns-in-Done c).In-Done)) (format_read _ _ _ (whole (goal.at.returns-in-Done c).In-Done).short (whole (goal.at.returns-in-Done c).In-Done).whole)
+    c.read_short.ensures ∙ rw (stored _ _ _ o.out_after (whole (goal.at.returns-in-Done c).In-Done)
+    (fits (goal.at.returns-in-Done c).In-Done))
+    (format_read _ _ _ (whole (goal.at.returns-in-Done c).In-Done).short (whole (goal.at.returns-in-Done c).In-Done).whole)

@@ -46,7 +46,11 @@ take_text-n-requires c =
     let at-loop = c in
     let start = c in
     let v = at-loop.loop-next.invariant in
-    let p = start.requires in record { n_bound = (omega (arith, v.ahead, p.input_len_bound), rw (read (goal.at.take_text-n-requires c).After-reading_of) (read_below _ _ _)); counts_len = (v.long ∙ p.counts_len.0, omega (arith, v.ahead, p.input_len_bound)) }
+    let p = start.requires in record {
+      n_bound =
+          (omega (arith, v.ahead, p.input_len_bound), rw (read (goal.at.take_text-n-requires c).After-reading_of) (read_below _ _ _));
+      counts_len = (v.long ∙ p.counts_len.0, omega (arith, v.ahead, p.input_len_bound));
+    }
 
 pub overflow_add-next : goal.overflow_add-next
 overflow_add-next c =
@@ -66,7 +70,8 @@ loop-next-preserved c =
     let at-loop = c in
     let start = c in
     let v = at-loop.loop-next.invariant in
-    gather_next v (omega arith) line-end-then.line_end-stop.ensures (v.long ∙ start.requires.counts_len.0) (read (goal.at.loop-next-preserved c).After-reading_of)
+    gather_next v (omega arith) line-end-then.line_end-stop.ensures (v.long
+    ∙ start.requires.counts_len.0) (read (goal.at.loop-next-preserved c).After-reading_of)
     (rw (read (goal.at.loop-next-preserved c).After-reading_of) (read_below _ _ _)) take-text-then.take_text-n.ensures
 
 pub shape_of-counts : goal.shape_of-counts
