@@ -178,7 +178,7 @@ module _ (f : Facts) (horizon : ℕ) where
             (eq-or-lt_of_le (no-earlier y k t (omega arith)))
 
     pub next_year : (y m : ℕ) (h : Found) → 0 < y → (first ≤ y) × ((y - first) % year_step f ≡ 0) → AtMonth y m h
-    → (month_span f y).last < m
+        → (month_span f y).last < m
         → AtYear (y + year_step f) h
     next_year y m h q on a l =
         record {

@@ -235,7 +235,7 @@ module _ (x : ℕ) (t : List ℕ) where
     weeks_free n = rw (p, ne_eqb (length t) table_length n)
 
     pub by_week : length t ≡ table_length → {k : ℕ} {b : Bool} → k ≡ week_of x → b ≡ week_in k t → b
-    ≡ (is_packing x && room_in (week_of x) t)
+        ≡ (is_packing x && room_in (week_of x) t)
     unfolding room_in
     by_week e q r = rw (p, eq-eqb (length t) table_length e, ← q) r
 
