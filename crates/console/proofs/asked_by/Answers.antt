@@ -1,4 +1,4 @@
--- `asked_by` by the two tests of ==, and by the first byte.
+-- `console::asked_by` by the two tests of ==, and by the first byte.
 use Rattle.std.proofs.Common.{rules}
 use Rattle.laws.specs.Bytes.{bytes}
 use Rattle.console.proofs.Arguments.{test, by_help, by_version, by_nothing, by_dash, by_file}

@@ -1,4 +1,4 @@
--- `format::opening::entry_place_lem` meets its contract.
+-- `format::opening::entry_place` meets its contract.
 use Rattle.format.proofs.Entry.{past_entries, no_entry, read_entry, written_entry, has_sign}
 use Rattle.format.proofs.opening.entry_place.Goals as goal
 

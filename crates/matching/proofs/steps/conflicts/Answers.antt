@@ -1,4 +1,4 @@
--- `strptime::reading::conflicts` meets its contract. Assumes nothing.
+-- `matching::steps::conflicts` meets its contract. Assumes nothing.
 use native.Mathlib.Numerals.{add-one}
 use borrow.Author.Tests.{ne_eqb}
 use Rattle.matching.proofs.steps.conflicts.Goals as goal
