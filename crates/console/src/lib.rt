@@ -13,7 +13,7 @@ use streams::write_all;
 
 // What a program is asked for: its report, on standard input or on the file that its argument names; its help; its version; or nothing
 // that it knows.
-#[derive(Drop)]
+#[derive(Clone, Copy)]
 pub enum Asked {
     Standard,
     File,

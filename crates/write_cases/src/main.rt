@@ -11,7 +11,7 @@ use strftime::{Fields, strftime, writing_of};
 use values::Offset;
 
 // A number, and the offset past it and the byte after it.
-#[derive(Drop)]
+#[derive(Clone, Copy)]
 struct Field {
     value: u32,
     next: usize,
@@ -43,7 +43,7 @@ fn read_field(line: &[u8], at: usize) -> Field
 }
 
 // An offset, and the offset in the line past it and the byte after it.
-#[derive(Drop)]
+#[derive(Clone, Copy)]
 struct OffsetField {
     offset: Offset,
     next: usize,
