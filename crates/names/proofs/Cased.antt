@@ -7,9 +7,20 @@ use native.Mathlib.Decide.{dec_lt}
 use native.Mathlib.Omega.{arith}
 use borrow.Author.Tests.{le-leb, lt-leb}
 use lib.ListN.{length, get_or, length-map, get_or-map}
+use Rattle.std.specs.Char.{to_ascii_lowercase, to_ascii_uppercase}
+use Rattle.std.proofs.lemmas.Bool.Decides.{nat_tests}
 use Rattle.names.specs.Case.{fold, capital, cased}
 use Rattle.names.specs.declared.names.Case.{Case}
 use Rattle.names.specs.declared.names.Case.TheVariants.{AsIs, Small, Capital}
+
+-- by std's cases: the code of a small letter, of a capital
+pub lowered : (b : ℕ) → to_ascii_lowercase b ≡ fold b
+unfolding fold
+lowered b = grind (arith, nat_tests)
+
+pub raised : (b : ℕ) → to_ascii_uppercase b ≡ capital b
+unfolding capital
+raised b = grind (arith, nat_tests)
 
 -- the capitals of small letters are the capitals
 pub capital_fold : (b : ℕ) → capital (fold b) ≡ capital b

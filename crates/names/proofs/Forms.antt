@@ -2,7 +2,7 @@
 -- are apart. So no form is taken where a longer one fits, and no text goes on with forms of two names. By that the reader may look for a
 -- name by its short form first.
 use Prim.Native.Nat.{ℕ, zero, suc, ◌+◌, ◌≤◌, ◌<◌}
-use mathlib.Core.Path.{◌≡◌, refl, sym, ◌∙◌}
+use mathlib.Core.Path.{◌≡◌, refl, sym, ap, ◌∙◌}
 use mathlib.Core.Bool.{Bool, true, false, cond, ◌&&◌, and-eq-true_iff, false≢true}
 use mathlib.Core.List.Memᴰ.{head as here}
 use mathlib.Core.List.Memᴰ.{tail as there}
@@ -15,6 +15,7 @@ use lib.ListN.{length, get_or, length-map}
 use Rattle.laws.specs.Lists.{every}
 use Rattle.laws.proofs.Cases.{clash}
 use Rattle.laws.proofs.Lists.{every_member}
+use Rattle.std.specs.Option.{option_or}
 use Rattle.names.specs.Case.{fold}
 use Rattle.names.specs.Names.{Form, names_of, name_at, short, middles_of, each_as, others_of, forms_of, goes_on, first_form, read_name}
 use Rattle.names.specs.Names.{computes}
@@ -24,10 +25,11 @@ use Rattle.names.specs.declared.names.NameForm.{NameForm}
 use Rattle.names.specs.declared.names.NameForm.TheVariants.{Full, Short}
 use Rattle.names.specs.declared.names.Names.{Names}
 use Rattle.names.specs.declared.names.Names.TheVariants.{Weekdays, Months, Halves}
-use Rattle.names.specs.declared.names.NameRead.{NameRead}
-use Rattle.names.specs.declared.names.NameRead.TheVariants.{Found, Nothing}
 use Rattle.names.proofs.Goes.{fails, goes_length, goes_trans, shorter, never_both}
 use Rattle.names.proofs.Table.{entry}
+use Rattle.std.specs.Prelude.{None, Option, Some}
+use Rattle.names.specs.Names.{found}
+use Rattle.names.specs.declared.names.NameRead.{NameRead}
 
 -- ---- any table
 
@@ -66,7 +68,7 @@ pub record Longest (xs : List Form) (s : List ℕ) (y : Form) : Type 0 where
   pub read : Form
   pub listed : Member read xs
   pub fits : goes_on read.letters s ≡ true
-  pub found : first_form xs s ≡ Found read.index (length read.letters) read.form
+  pub found : first_form xs s ≡ Some (found read.index (length read.letters) read.form)
   pub same_name : read.index ≡ y.index
   pub longer : length y.letters ≤ length read.letters
 
@@ -151,7 +153,7 @@ module _ (f : NameForm) where
   module _ (s : List ℕ) where
     -- none is read where the text goes on with none
     each_none : (k : ℕ) (ns : List (List ℕ)) → ((j : ℕ) → j < length ns → goes_on (get_or ns j []) s ≡ false)
-        → first_form (each_as f k ns) s ≡ Nothing
+        → first_form (each_as f k ns) s ≡ None
     unfolding each_as first_form
     each_none k [] h = refl
     each_none k (n ∷ ns) h = rw (h zero (omega arith)) (each_none (suc k) ns (λ j l. h (suc j) (omega arith)))
@@ -159,7 +161,7 @@ module _ (f : NameForm) where
     -- the first that it goes on with is
     each_first : (k : ℕ) (ns : List (List ℕ)) (i : ℕ) → i < length ns → goes_on (get_or ns i []) s ≡ true
         → ((j : ℕ) → j < i → goes_on (get_or ns j []) s ≡ false)
-        → first_form (each_as f k ns) s ≡ Found (k + i) (length (get_or ns i [])) f
+        → first_form (each_as f k ns) s ≡ Some (found (k + i) (length (get_or ns i [])) f)
     unfolding each_as first_form
     each_first k [] i h g b = absurd (not-suc-le-zero h)
     each_first k (n ∷ ns) zero h g b = rw (g, add-zero k) refl
@@ -192,18 +194,14 @@ module _ (s : List ℕ) where
 
 -- ---- some forms and then others
 
-unfoldable pub or_else : NameRead → NameRead → NameRead
-or_else (Found i n f) r = Found i n f
-or_else Nothing r = r
-
-first_append : (xs ys : List Form) (s : List ℕ) → first_form (xs ++ ys) s ≡ or_else (first_form xs s) (first_form ys s)
-unfolding first_form or_else
+first_append : (xs ys : List Form) (s : List ℕ) → first_form (xs ++ ys) s ≡ option_or (first_form xs s) (first_form ys s)
+unfolding first_form
 first_append [] ys s = refl
 first_append (x ∷ xs) ys s = go (goes_on x.letters s) (first_form xs s) (first_form ys s) (first_append xs ys s)
   where
-    go : (b : Bool) (q r : NameRead) {p : NameRead} → p ≡ or_else q r
-        → cond b (Found x.index (length x.letters) x.form) p
-        ≡ or_else (cond b (Found x.index (length x.letters) x.form) q) r
+    go : (b : Bool) (q r : Option NameRead) {p : Option NameRead} → p ≡ option_or q r
+        → cond b (Some (found x.index (length x.letters) x.form)) p
+        ≡ option_or (cond b (Some (found x.index (length x.letters) x.form)) q) r
     go true q r e = refl
     go false q r e = e
 
@@ -217,7 +215,7 @@ module _ {x : Form} where
   in_right [] ys m = m
   in_right (z ∷ zs) ys m = there (in_right zs ys m)
 
-none_first : (xs : List Form) (s : List ℕ) → ((x : Form) → Member x xs → goes_on x.letters s ≡ false) → first_form xs s ≡ Nothing
+none_first : (xs : List Form) (s : List ℕ) → ((x : Form) → Member x xs → goes_on x.letters s ≡ false) → first_form xs s ≡ None
 unfolding first_form
 none_first [] s h = refl
 none_first (x ∷ xs) s h = rw (h x (here refl)) (none_first xs s (λ y m. h y (there m)))
@@ -230,15 +228,23 @@ pub record Read (xs : List Form) (s : List ℕ) (j n : ℕ) : Type 0 where
   pub place : form.index ≡ j
   pub long : length form.letters ≡ n
 
-pub is_read : (xs : List Form) (s : List ℕ) {j n : ℕ} {f : NameForm} → first_form xs s ≡ Found j n f → Read xs s j n
+pub is_read : (xs : List Form) (s : List ℕ) {j n : ℕ} {f : NameForm} → first_form xs s ≡ Some (found j n f) → Read xs s j n
 unfolding first_form
 is_read [] s e = clash (cc)
 is_read (x ∷ xs) s {j} {n} {f} e = go (goes_on x.letters s) refl e (is_read xs s)
   where
     go : (b : Bool) → goes_on x.letters s ≡ b
-        → cond b (Found x.index (length x.letters) x.form) (first_form xs s) ≡ Found j n f
-        → (first_form xs s ≡ Found j n f → Read xs s j n) → Read (x ∷ xs) s j n
-    go true g e more = record { form = x; listed = here refl; fits = g; place = cc; long = cc }
+        → cond b (Some (found x.index (length x.letters) x.form)) (first_form xs s) ≡ Some (found j n f)
+        → (first_form xs s ≡ Some (found j n f) → Read xs s j n) → Read (x ∷ xs) s j n
+    go true g e more =
+        let p : found x.index (length x.letters) x.form ≡ found j n f = cc in
+        record {
+          form = x;
+          listed = here refl;
+          fits = g;
+          place = ap (λ (r : NameRead). r.index) p;
+          long = ap (λ (r : NameRead). r.length) p;
+        }
     go false g e more =
         let r = more e in
         record { form = r.form; listed = there r.listed; fits = r.fits; place = r.place; long = r.long }
@@ -285,8 +291,8 @@ module _ (t : Names) (s : List ℕ) where
 
   -- full names, middle forms, short forms
   in_order : read_name t s
-      ≡ or_else (first_form (each_as Full 0 (names_of t)) s)
-      (or_else (first_form (middles_of t) s) (first_form (each_as Short 0 (map short (names_of t))) s))
+      ≡ option_or (first_form (each_as Full 0 (names_of t)) s)
+      (option_or (first_form (middles_of t) s) (first_form (each_as Short 0 (map short (names_of t))) s))
   unfolding read_name forms_of others_of
   in_order =
       rw (
@@ -295,8 +301,9 @@ module _ (t : Names) (s : List ℕ) where
       ) refl
 
   -- the full name is tried first
-  pub reads_full : (i : ℕ) → i < length (names_of t) → goes_on (name_at t i) s ≡ true → read_name t s ≡ Found i (length (name_at t i)) Full
-  unfolding name_at or_else
+  pub reads_full : (i : ℕ) → i < length (names_of t) → goes_on (name_at t i) s ≡ true → read_name t s
+      ≡ Some (found i (length (name_at t i)) Full)
+  unfolding name_at
   reads_full i h g =
       rw (
         in_order,
@@ -311,12 +318,12 @@ module _ (t : Names) (s : List ℕ) where
 
   -- then the others
   pub no_full : ((i : ℕ) → i < length (names_of t) → goes_on (name_at t i) s ≡ false) → read_name t s ≡ first_form (others_of t) s
-  unfolding read_name forms_of name_at or_else
+  unfolding read_name forms_of name_at
   no_full h =
       rw (first_append (each_as Full 0 (names_of t)) (others_of t) s, each_none Full s 0 (names_of t) h) refl
 
   -- none where no form fits
-  pub reads_none : ((x : Form) → Member x (forms_of t) → goes_on x.letters s ≡ false) → read_name t s ≡ Nothing
+  pub reads_none : ((x : Form) → Member x (forms_of t) → goes_on x.letters s ≡ false) → read_name t s ≡ None
   unfolding read_name
   reads_none h = none_first (forms_of t) s h
 
@@ -328,7 +335,7 @@ module _ (t : Names) (s : List ℕ) where
     earlier j l h = rw (short-at j h) at (not_before s (map short (names_of t)) j (omega arith))
 
     -- the text goes on with no short form, and so with none that begins with one
-    pub past : length (names_of t) ≤ i → read_name t s ≡ Nothing
+    pub past : length (names_of t) ≤ i → read_name t s ≡ None
     past h =
         reads_none
         (λ x m. fails (goes_on x.letters s) (λ g.
@@ -343,8 +350,8 @@ module _ (t : Names) (s : List ℕ) where
       short_on = rw (← e, short-at i h) at (placed s (map short (names_of t)) (rw (← e, length-map) h))
 
       -- a longer name that the text does not go on with: a middle form, or the short one, of three letters
-      pub by_others : goes_on (name_at t i) s ≡ false → read_name t s ≡ or_else (first_form (middles_of t) s) (Found i 3 Short)
-      unfolding or_else name_at
+      pub by_others : goes_on (name_at t i) s ≡ false → read_name t s ≡ option_or (first_form (middles_of t) s) (Some (found i 3 Short))
+      unfolding name_at
       by_others g =
           rw (
             in_order,

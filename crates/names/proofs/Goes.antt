@@ -1,14 +1,16 @@
 -- When a text goes on with some letters, and with some of them.
-use Prim.Native.Nat.{ℕ, zero, suc, ◌+◌, ◌≤◌, ◌<◌, zero-le, suc-le-suc}
+use Prim.Native.Nat.{ℕ, zero, suc, ◌≤◌, ◌<◌, zero-le, suc-le-suc}
 use mathlib.Core.Path.{◌≡◌, refl, sym, ap, ◌∙◌}
 use mathlib.Core.Bool.{Bool, true, false, cond, false≢true}
-use mathlib.Core.List.{List, [], ◌∷◌}
+use mathlib.Core.List.{List, [], ◌∷◌, map}
 use native.Mathlib.Omega.{arith}
 use borrow.Author.Tests.{eqb-true, eqb-false, eq-eqb, ne_eqb}
 use lib.Dec.{eqb}
-use lib.ListN.{length, take, drop, length-take, length-drop, drop_of_length-le}
+use lib.ListN.{length, take, drop}
+use Rattle.std.specs.Char.{to_ascii_lowercase}
 use Rattle.names.specs.Case.{fold}
-use Rattle.names.specs.Names.{short, goes_on}
+use Rattle.names.proofs.Cased.{lowered}
+use Rattle.names.specs.Names.{goes_on}
 use Rattle.names.specs.Distinct.{apart}
 
 pub fails : (a : Bool) → (a ≡ true → ⊥) → a ≡ false
@@ -26,6 +28,40 @@ unfolding goes_on
 goes_length [] s g = zero-le
 goes_length (a ∷ x) [] g = absurd (false≢true g)
 goes_length (a ∷ x) (b ∷ s) g = suc-le-suc (goes_length x s (both (eqb (fold a) (fold b)) (goes_on x s) g).1)
+
+pub too_short : (x s : List ℕ) → length s < length x → false ≡ goes_on x s
+too_short x s h = sym (fails (goes_on x s) (λ g. absurd (omega (arith, goes_length x s g))))
+
+-- a text goes on with letters exactly if as many of its own have the same small letters
+small_same : (x s : List ℕ) → goes_on x s ≡ true → map to_ascii_lowercase (take (length x) s) ≡ map to_ascii_lowercase x
+unfolding goes_on
+small_same [] s g = refl
+small_same (a ∷ x) [] g = absurd (false≢true g)
+small_same (a ∷ x) (b ∷ s) g =
+    let p = both (eqb (fold a) (fold b)) (goes_on x s) g in
+    let e : to_ascii_lowercase b ≡ to_ascii_lowercase a = lowered b ∙ sym (eqb-true (fold a) (fold b) p.0) ∙ sym (lowered a) in
+    let r = small_same x s p.1 in
+    cc
+
+same_small : (x s : List ℕ) → length x ≤ length s → map to_ascii_lowercase (take (length x) s) ≡ map to_ascii_lowercase x
+    → goes_on x s ≡ true
+unfolding goes_on
+same_small [] s h e = refl
+same_small (a ∷ x) [] h e = absurd (omega arith)
+same_small (a ∷ x) (b ∷ s) h e =
+    let p : to_ascii_lowercase b ≡ to_ascii_lowercase a = cc in
+    let q : map to_ascii_lowercase (take (length x) s) ≡ map to_ascii_lowercase x = cc in
+    rw (eq-eqb (fold a) (fold b) (sym (lowered a) ∙ sym p ∙ lowered b)) (same_small x s (omega arith) q)
+
+pub by_small : (x s : List ℕ) {t : Bool} → length x ≤ length s
+    → (t ≡ true → map to_ascii_lowercase (take (length x) s) ≡ map to_ascii_lowercase x)
+    → (map to_ascii_lowercase (take (length x) s) ≡ map to_ascii_lowercase x → t ≡ true) → t ≡ goes_on x s
+by_small x s {t} h f g = go t (goes_on x s) refl (λ e. same_small x s h (f e)) (λ e. g (small_same x s e))
+  where
+    go : (t u : Bool) → goes_on x s ≡ u → (t ≡ true → goes_on x s ≡ true) → (goes_on x s ≡ true → t ≡ true) → t ≡ goes_on x s
+    go true u e f g = sym (f refl)
+    go false true e f g = absurd (false≢true (g e))
+    go false false e f g = sym e
 
 -- a text that goes on with letters goes on with those that these go on with
 pub goes_trans : (y x s : List ℕ) → goes_on y x ≡ true → goes_on x s ≡ true → goes_on y s ≡ true
@@ -58,16 +94,6 @@ shorter (suc k) (a ∷ x) [] g n = absurd (false≢true g)
 shorter (suc k) (a ∷ x) (b ∷ s) g n =
     let p = both (eqb (fold a) (fold b)) (goes_on (take k x) s) g in
     ap suc (shorter k x s p.1 (rw p.0 at n))
-
-module _ (x s : List ℕ) where
-  -- a name of at most three letters is its short form
-  pub is_short : length x ≤ 3 → goes_on (short x) s ≡ true → goes_on x s ≡ true
-  unfolding goes_on
-  is_short h g = parted 3 x s g ∙ rw (drop_of_length-le x h) refl
-
-  -- a longer one has its first three letters in the text
-  pub room : (at : ℕ) → 3 < length x → goes_on (short x) (drop at s) ≡ true → at + 3 ≤ length s
-  room at h g = let l = rw (length-take, length-drop) at (goes_length (short x) (drop at s) g) in omega arith
 
 -- one letter of two names and of a text: t says that the names have the same letter, u that the text has the first name's,
 -- w that it has the second's

@@ -1,14 +1,19 @@
 -- The short forms as the code looks for them: the first letters of the text, folded, are those of a row exactly if the text goes on with
 -- the short form that the row holds.
-use Prim.Native.Nat.{ℕ, suc, ◌≤◌, ◌<◌}
-use mathlib.Core.Path.{◌≡◌, refl, sym}
+use Prim.Native.Nat.{ℕ, suc, ◌+◌, ◌≤◌, ◌<◌}
+use mathlib.Core.Path.{◌≡◌, refl, sym, ◌∙◌}
 use mathlib.Core.Bool.{Bool, true, false, cond, not, ◌&&◌, and-eq-true_iff, false≢true}
 use mathlib.Core.List.{List, [], ◌∷◌, ◌++◌, map}
-use borrow.Author.Tests.{not-true}
-use lib.Dec.{eqb}
-use lib.ListN.{length, get_or, take, drop, drop_of_length-le}
-use lib.Seq.{drop-cons}
+use native.Mathlib.Decide.{dec_lt}
+use borrow.Author.Tests.{not-true, eqb-true, lt-ltb, le-ltb}
+use lib.Dec.{eqb, ltb}
+use lib.ListN.{length, get_or, take, length-map}
+use Rattle.std.specs.Prelude.{Option, Some, None, nat_eq, MatchOption}
+use Rattle.std.specs.List.{position, position_or_len}
+use Rattle.std.specs.Cmp.Lexicographic.{pointwise}
 use Rattle.laws.specs.Lists.{every}
+use Rattle.laws.proofs.Cases.{picked}
+use native.Mathlib.Omega.{arith}
 use Rattle.names.specs.Case.{fold}
 use Rattle.names.specs.Names.{names_of, short, goes_on, computes}
 use Rattle.names.specs.Rows.{same, place_of, place_in, short_place}
@@ -110,22 +115,62 @@ keys Weekdays = refl
 keys Months = refl
 keys Halves = refl
 
-pub short_placed : (t : Names) (s : List ℕ) {rows : List (List ℕ)} → rows ≡ map key_row (map short (names_of t))
+short_placed : (t : Names) (s : List ℕ) {rows : List (List ℕ)} → rows ≡ map key_row (map short (names_of t))
     → place_of rows (key t s) ≡ short_place t s
 unfolding short_place
 short_placed t s e = rw e (places t (map short (names_of t)) s (keys t))
 
--- ---- the search, one row after the other
+-- ---- the search
 
-module _ (rs : List (List ℕ)) (k : List ℕ) (i : ℕ) where
-  pub none_left : length rs ≤ i → place_of (drop i rs) k ≡ 0
-  unfolding place_of
-  none_left h = rw (drop_of_length-le rs h) refl
+-- a row has three bytes
+abbrev pub has_three : List ℕ → Bool
+has_three r = eqb (length r) 3
 
-  pub this_row : i < length rs → same (get_or rs i []) k ≡ true → place_of (drop i rs) k ≡ 0
-  unfolding place_of
-  this_row h e = rw (drop-cons rs i [] h, e) refl
+and_true : (t : Bool) → t && true ≡ t
+and_true true = refl
+and_true false = refl
 
-  pub a_later_row : i < length rs → same (get_or rs i []) k ≡ false → place_of (drop i rs) k ≡ suc (place_of (drop (suc i) rs) k)
-  unfolding place_of
-  a_later_row h e = rw (drop-cons rs i [] h, e) refl
+same_row : (r : List ℕ) (a b c : ℕ) → has_three r ≡ true → pointwise nat_eq r (a ∷ b ∷ c ∷ []) ≡ same r (a ∷ b ∷ c ∷ [])
+unfolding same
+same_row [] a b c h = absurd (omega (arith, eqb-true 0 3 h))
+same_row (x ∷ []) a b c h = absurd (omega (arith, eqb-true (length (x ∷ [])) 3 h))
+same_row (x ∷ y ∷ []) a b c h = absurd (omega (arith, eqb-true (length (x ∷ y ∷ [])) 3 h))
+same_row (x ∷ y ∷ z ∷ []) a b c h = rw (and_true (eqb z c)) refl
+same_row (x ∷ y ∷ z ∷ w ∷ r) a b c h = absurd (omega (arith, eqb-true (length (x ∷ y ∷ z ∷ w ∷ r)) 3 h))
+
+first_row : (rs : List (List ℕ)) (a b c : ℕ) → every has_three rs ≡ true
+    → position_or_len (λ r. pointwise nat_eq r (a ∷ b ∷ c ∷ [])) rs ≡ place_of rs (a ∷ b ∷ c ∷ [])
+unfolding every place_of
+first_row [] a b c h = refl
+first_row (r ∷ rs) a b c h =
+    let p = (and-eq-true_iff (has_three r) (every has_three rs)).0 h in
+    rw (same_row r a b c p.0, first_row rs a b c p.1) (turned (same r (a ∷ b ∷ c ∷ [])) _)
+  where
+    turned : (t : Bool) (n : ℕ) → cond (not t) (1 + n) 0 ≡ cond t 0 (suc n)
+    turned true n = refl
+    turned false n = omega arith
+
+place_most : (ns : List (List ℕ)) (s : List ℕ) → place_in ns s ≤ length ns
+unfolding place_in
+place_most [] s = omega arith
+place_most (n ∷ ns) s = picked (λ k. k ≤ suc (length ns)) (goes_on n s) (omega arith) (omega (arith, place_most ns s))
+
+-- the first row with the key of a text stands at the place of the short form that the text goes on with
+pub placed_at : (t : Names) (s : List ℕ) (a b c : ℕ) {rows : List (List ℕ)} {r : Option ℕ}
+    → r ≡ position (λ x. pointwise nat_eq x (a ∷ b ∷ c ∷ [])) rows
+    → rows ≡ map key_row (map short (names_of t)) → every has_three rows ≡ true → a ∷ b ∷ c ∷ [] ≡ key t s
+    → MatchOption r (short_place t s ≡ length (names_of t)) (λ i. (short_place t s ≡ i) × (i < length (names_of t)))
+unfolding short_place
+placed_at t s a b c {rows} {r} p e h k =
+    let q : position_or_len (λ x. pointwise nat_eq x (a ∷ b ∷ c ∷ [])) rows ≡ short_place t s =
+    first_row rows a b c h ∙ rw k (short_placed t s e) in
+    let l : length rows ≡ length (names_of t) = rw (e, length-map, length-map) refl in
+    go (dec_lt (short_place t s) (length (names_of t))) (rw (q, l) at p)
+    (rw length-map at (place_most (map short (names_of t)) s))
+  where
+    go : Dec (short_place t s < length (names_of t))
+        → r ≡ cond (ltb (short_place t s) (length (names_of t))) (Some (short_place t s)) None
+        → short_place t s ≤ length (names_of t)
+        → MatchOption r (short_place t s ≡ length (names_of t)) (λ i. (short_place t s ≡ i) × (i < length (names_of t)))
+    go (yes h) p m = rw (p, lt-ltb (short_place t s) (length (names_of t)) h) (refl, h)
+    go (no h) p m = rw (p, le-ltb (short_place t s) (length (names_of t)) (omega arith)) (omega arith)

@@ -7,8 +7,8 @@ use Rattle.names.specs.declared.names.Names.{Names}
 use Rattle.names.specs.declared.names.Names.TheVariants.{Weekdays, Months, Halves}
 use Rattle.names.specs.declared.names.NameForm.{NameForm}
 use Rattle.names.specs.declared.names.NameForm.TheVariants.{Full, Middle, Short}
+use Rattle.std.specs.Prelude.{None, Option, Some}
 use Rattle.names.specs.declared.names.NameRead.{NameRead}
-use Rattle.names.specs.declared.names.NameRead.TheVariants.{Found, Nothing}
 
 -- ---- the names, as they are written
 
@@ -78,15 +78,19 @@ goes_on [] s = true
 goes_on (a ∷ n) [] = false
 goes_on (a ∷ n) (b ∷ s) = let more = goes_on n s in cond (eqb (fold a) (fold b)) more false
 
+-- a name that was read: its place, how many bytes it takes, and its form
+abbrev pub found : ℕ → ℕ → NameForm → NameRead
+found i n f = record { index = i; length = n; form = f }
+
 -- the first of some forms that a text goes on with
-unfoldable pub first_form : List Form → List ℕ → NameRead
-first_form [] s = Nothing
+unfoldable pub first_form : List Form → List ℕ → Option NameRead
+first_form [] s = None
 first_form (x ∷ xs) s =
     let more = first_form xs s in
-    cond (goes_on x.letters s) (Found x.index (length x.letters) x.form) more
+    cond (goes_on x.letters s) (Some (found x.index (length x.letters) x.form)) more
 
 -- a name of a table at the start of a text, and the form in which it stands there
-unfoldable pub read_name : Names → List ℕ → NameRead
+unfoldable pub read_name : Names → List ℕ → Option NameRead
 read_name t s = first_form (forms_of t) s
 
 -- the tables, for a proof that computes

@@ -1,31 +1,17 @@
--- How the code holds and compares names: what its private functions answer.
-use Rattle.std.specs.Prelude.{ℕ, suc, Bool, true, cond, ◌&&◌, List, [], ◌∷◌, ◌++◌, map, ◌≡◌, eqb, leb, length, get_or, take, replicate}
+-- How the code compares names: what its private functions answer.
+use Rattle.std.specs.Prelude.{ℕ, suc, Bool, cond, ◌&&◌, List, [], ◌∷◌, ◌++◌, map, eqb, get_or, take, replicate}
 use Rattle.names.specs.Names.{Form, names_of, short, goes_on}
-use Rattle.names.specs.declared.names.NameForm.TheVariants.{Middle}
+use Rattle.names.specs.declared.names.Middle.{Middle}
+use Rattle.names.specs.declared.names.NameForm.TheVariants.{Middle as MiddleForm}
 use Rattle.names.specs.declared.names.Names.{Names}
 
--- a name in its row of nine bytes, with blanks after it
+-- a name in a row of nine bytes, with blanks after it
 unfoldable pub padded : List ℕ → List ℕ
 padded n = take 9 (n ++ replicate 9 32)
 
--- the middle forms that three tables hold: their rows, their lengths, and the places of their names
-unfoldable pub middles_in : List (List ℕ) → List ℕ → List ℕ → List Form
-middles_in [] ls ps = []
-middles_in (r ∷ rs) [] ps = []
-middles_in (r ∷ rs) (n ∷ ls) [] = []
-middles_in (r ∷ rs) (n ∷ ls) (p ∷ ps) = record { letters = take n r; index = p; form = Middle } ∷ middles_in rs ls ps
-
--- names of such lengths stand in such rows
-unfoldable pub in_rows : List (List ℕ) → List ℕ → Bool
-in_rows [] ls = true
-in_rows (r ∷ rs) [] = true
-in_rows (r ∷ rs) (n ∷ ls) = leb n (length r) && in_rows rs ls
-
--- tables of one length, whose forms stand in their rows
-pub record Aligned (rows : List (List ℕ)) (lengths places : List ℕ) : Type 0 where
-  pub as_many_lengths : length lengths ≡ length rows
-  pub as_many_places : length places ≡ length rows
-  pub fits_rows : in_rows rows lengths ≡ true
+-- a middle form of the code
+unfoldable pub form_of : Middle → Form
+form_of m = record { letters = m.letters.now; index = m.index; form = MiddleForm }
 
 -- three bytes are the same
 unfoldable pub same : List ℕ → List ℕ → Bool

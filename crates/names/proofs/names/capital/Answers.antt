@@ -1,21 +1,7 @@
--- `names::names::capital` meets its contract: the two tests settle the definition's.
-use native.Mathlib.Omega.{arith}
-use borrow.Author.Tests.{le-leb, lt-leb}
-use Rattle.names.specs.Case.{capital}
+-- `names::names::capital` meets its contract: std's cases are the definition's.
+use mathlib.Core.Path.{◌∙◌}
+use Rattle.names.proofs.Cased.{raised}
 use Rattle.names.proofs.names.capital.Goals as goal
 
-pub returns-then-b-lt97 : goal.returns-then-b-lt97
-unfolding capital
-returns-then-b-lt97 c = simp (lt-leb 97 c.args.b (omega arith))
-
-pub returns-then-b-gt122 : goal.returns-then-b-gt122
-unfolding capital
-returns-then-b-gt122 c =
-    let b = c.args.b in
-    simp (le-leb 97 b (omega arith), lt-leb b 122 (omega arith))
-
 pub returns : goal.returns
-unfolding capital
-returns c =
-    let b = c.args.b in
-    simp (le-leb 97 b (omega arith), le-leb b 122 (omega arith))
+returns c = c.to_ascii_uppercase.ensures.value ∙ raised c.args.b

@@ -1,16 +1,7 @@
--- `names::names::fold` meets its contract: the two tests settle the definition's.
-use borrow.Author.Tests.{le-leb, lt-leb}
-use Rattle.names.specs.Case.{fold}
+-- `names::names::fold` meets its contract: std's cases are the definition's.
+use mathlib.Core.Path.{◌∙◌}
+use Rattle.names.proofs.Cased.{lowered}
 use Rattle.names.proofs.names.fold.Goals as goal
 
-pub returns-then-b-lt65 : goal.returns-then-b-lt65
-unfolding fold
-returns-then-b-lt65 c = simp (lt-leb _ _ c.if-b-lt65.true)
-
-pub returns-then-b-gt90 : goal.returns-then-b-gt90
-unfolding fold
-returns-then-b-gt90 c = simp (le-leb _ _ c.if-b-lt65.false, lt-leb _ _ c.if-b-gt90.true)
-
 pub returns : goal.returns
-unfolding fold
-returns c = simp (le-leb _ _ c.if-b-lt65.false, le-leb _ _ c.if-b-gt90.false)
+returns c = c.to_ascii_lowercase.ensures.value ∙ lowered c.args.b

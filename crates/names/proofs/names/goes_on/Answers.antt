@@ -1,39 +1,12 @@
--- `names::names::goes_on` meets its contract. The invariant: what is left of the text goes on with what is left of the name exactly if the
--- whole does.
-use mathlib.Core.Path.{refl, sym, ◌∙◌}
-use native.Mathlib.Numerals.{add-one}
-use native.Mathlib.Omega.{arith}
-use Rattle.names.proofs.Rows.{all_same, at_end, differs, agrees}
+-- `names::names::goes_on` meets its contract: letters that are equal without case have equal small letters.
+use borrow.Author.Tests.{lt-leb}
+use Rattle.names.proofs.Goes.{by_small, too_short}
 use Rattle.names.proofs.names.goes_on.Goals as goal
 
-pub loop-j-init : goal.loop-j-init
-loop-j-init c = refl
+pub returns-then-name-s : goal.returns-then-name-s
+returns-then-name-s c =
+    let same = c.eq_ignore_ascii_case.ensures.test in
+    by_small c.args.name.now c.args.s.now c.if-name-s.true same.0 same.1
 
-pub returns-then-s-k : goal.returns-then-s-k
-returns-then-s-k c =
-    let l = c.before.before in
-    let a = l.args in
-    sym (at_end a.name.now a.s.now l.loop-j.j l.loop-j.k (omega arith) (omega arith)) ∙ l.loop-j.invariant
-
-pub returns-then-not-same_letter : goal.returns-then-not-same_letter
-returns-then-not-same_letter c =
-    let l = c.before.before.before.before.before.before in
-    let a = l.args in
-    let e = c.same_letter.ensures in
-    sym (differs a.name.now a.s.now l.loop-j.j l.loop-j.k (omega arith) (omega arith) e c.if-not-same_letter.true-raw)
-    ∙ l.loop-j.invariant
-
-pub loop-j-preserved : goal.loop-j-preserved
-loop-j-preserved c =
-    let l = c.before.before.before.before.before.before in
-    let a = l.args in
-    let e = c.same_letter.ensures in
-    rw (add-one l.loop-j.j, add-one l.loop-j.k)
-    (sym (agrees a.name.now a.s.now l.loop-j.j l.loop-j.k (omega arith) (omega arith) e c.if-not-same_letter.false-raw)
-    ∙ l.loop-j.invariant)
-
-pub returns : goal.returns
-returns c =
-    let l = c.before in
-    let a = l.args in
-    sym (all_same a.name.now a.s.now l.loop-j.j l.loop-j.k (omega arith)) ∙ l.loop-j.invariant
+pub returns-else-name-s : goal.returns-else-name-s
+returns-else-name-s c = rw (lt-leb _ _ c.if-name-s.false) (too_short c.args.name.now c.args.s.now c.if-name-s.false)

@@ -3,10 +3,6 @@ use native.Mathlib.Omega.{arith}
 use Rattle.names.specs.Naming.{place_for}
 use Rattle.names.proofs.names.place_for.Goals as goal
 
-pub returns-then-value-first : goal.returns-then-value-first
-unfolding place_for
-returns-then-value-first c = omega arith
-
 pub returns : goal.returns
 unfolding place_for
-returns c = omega arith
+returns c = omega (arith, c.saturating_sub.ensures)

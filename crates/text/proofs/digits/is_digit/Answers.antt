@@ -1,12 +1,7 @@
--- `text::digits::is_digit` meets its contract: the first test settles the definition's first.
-use borrow.Author.Tests.{le-leb, lt-leb}
+-- `text::digits::is_digit` meets its contract: std's test is the definition's.
 use Rattle.text.specs.Digits.{is_digit}
 use Rattle.text.proofs.digits.is_digit.Goals as goal
 
-pub returns-then-b-ge48 : goal.returns-then-b-ge48
+pub returns : goal.returns
 unfolding is_digit
-returns-then-b-ge48 c = simp (le-leb _ _ c.if-b-ge48.true)
-
-pub returns-else-b-ge48 : goal.returns-else-b-ge48
-unfolding is_digit
-returns-else-b-ge48 c = simp (lt-leb _ _ c.if-b-ge48.false)
+returns c = c.is_ascii_digit.ensures.value
