@@ -2,9 +2,8 @@
 -- Assumes nothing.
 use Prim.Native.Char.{code}
 use Prim.Native.Nat.{ℕ, ◌+◌, ◌-◌, ◌≤◌}
-use mathlib.Core.Bool.{cond}
 use mathlib.Core.List.{List, [], ◌∷◌}
-use mathlib.Core.Path.{◌≡◌, refl}
+use mathlib.Core.Path.{◌≡◌}
 use native.Mathlib.Omega.{arith}
 use lib.Dec.{eqb, lit≤}
 use lib.ListN.{length, get_or, take, drop, length-drop}
@@ -12,43 +11,14 @@ use lib.Seq.{take_all}
 use Rattle.laws.proofs.Cases.{picked}
 use Rattle.text.specs.Digits.{decimal}
 use Rattle.text.specs.declared.digits.Digits.{Digits}
-use Rattle.conversions.specs.Conversions.{among}
-use Rattle.conversions.specs.Pieces.{after_E, after_O, letter, piece, paired, conversion, flag_run, width_run, style_from}
+use Rattle.conversions.specs.Pieces.{after_E, after_O, paired, conversion, flag_run, width_run, style_from}
 use Rattle.conversions.specs.Pieces.{with_style, styled}
 use Rattle.conversions.specs.declared.following.Act.{Act}
-use Rattle.conversions.specs.declared.following.Act.TheVariants.{Refuse}
 use Rattle.conversions.specs.declared.following.Piece.{Piece}
 
 -- a slice from some place on, as the code lends it
 pub rest : (s : List ℕ) (k : ℕ) → take (length s - k) (drop k s) ≡ drop k s
 rest s k = take_all (length s - k) (drop k s) (rw length-drop (omega arith))
-
--- ---- the definitions at an empty list and at one with a first byte
-
-pub paired_none : (letters s : List ℕ) → length s ≡ 0 → paired letters s ≡ piece Refuse 2
-unfolding paired
-paired_none letters [] h = refl
-paired_none letters (b ∷ s) h = absurd (omega arith)
-
-pub paired_some : (letters s : List ℕ) → (length s ≡ 0 → ⊥)
-    → paired letters s ≡ piece (cond (among (get_or s 0 0) letters) (letter (get_or s 0 0)) Refuse) 3
-unfolding paired
-paired_some letters [] h = absurd (h refl)
-paired_some letters (b ∷ s) h = refl
-
-pub conversion_none : (s : List ℕ) → length s ≡ 0 → conversion s ≡ piece Refuse 1
-unfolding conversion
-conversion_none [] h = refl
-conversion_none (b ∷ s) h = absurd (omega arith)
-
-pub conversion_some : (s : List ℕ) → (length s ≡ 0 → ⊥)
-    → conversion s
-    ≡ cond (eqb (get_or s 0 0) (code "E")) (paired after_E (drop 1 s))
-    (cond (eqb (get_or s 0 0) (code "O")) (paired after_O (drop 1 s))
-    (piece (letter (get_or s 0 0)) 2))
-unfolding conversion
-conversion_some [] h = absurd (h refl)
-conversion_some (b ∷ s) h = refl
 
 -- ---- how many bytes it takes: one to three without flag and width
 

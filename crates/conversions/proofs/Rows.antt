@@ -1,11 +1,11 @@
--- The tables of conversions and of composites: a letter that stands in no row has none, and what holds of each row holds of what is found.
+-- The tables of conversions and of composites: what holds of each row holds of what is found.
 -- Assumes nothing.
 use Prim.Native.Char.{code}
 use Prim.Native.Nat.{ℕ}
 use mathlib.Core.Bool.{Bool, true, false}
 use mathlib.Core.List.{List, [], ◌∷◌, map}
 use mathlib.Core.Path.{◌≡◌, refl}
-use borrow.Author.Tests.{ne_eqb, eqb-true}
+use borrow.Author.Tests.{eqb-true}
 use lib.Dec.{T, eqb}
 use Rattle.laws.specs.Lists.{every}
 use Rattle.laws.proofs.Cases.{either, picked, clash}
@@ -17,24 +17,7 @@ use Rattle.conversions.specs.declared.conversions.Form.{Form}
 use Rattle.conversions.specs.declared.conversions.Form.TheVariants.{Zeros, Blanks, FromSunday, Short, Full, Lower}
 use Rattle.conversions.specs.declared.conversions.Form.TheVariants.{Zone, Seconds, Unknown}
 
--- A letter is none of some letters, as a `match` on these says it in its last arm: what held before, and that it is not this one, one after
--- the other.
-abbrev pub NoneOf : Type 0 → ℕ → List ℕ → Type 0
-NoneOf before c [] = before
-NoneOf before c (a ∷ s) = NoneOf (before × (c ≡ a → ⊥)) c s
-
-earlier : (before : Type 0) (c : ℕ) (s : List ℕ) → NoneOf before c s → before
-earlier before c [] h = h
-earlier before c (a ∷ s) h = (earlier (before × (c ≡ a → ⊥)) c s h).0
-
 -- ---- conversions
-
-pub no_row : (before : Type 0) (c : ℕ) (rs : List Row) → NoneOf before c (map (λ (r : Row). r.letter) rs) → find c rs ≡ find c []
-unfolding find
-no_row before c [] h = refl
-no_row before c (r ∷ rs) h =
-    let both = before × (c ≡ r.letter → ⊥) in
-    rw (ne_eqb c r.letter (earlier both c (map (λ (r : Row). r.letter) rs) h).1) (no_row both c rs h)
 
 -- a test that passes at each letter with its row, and at none where the letter stands in no row, passes at what is found
 found_passes : (p : ℕ → Conversion → Bool) (c : ℕ) (rs : List Row) → T (every (λ (r : Row). p r.letter r.row) rs)
@@ -92,14 +75,6 @@ seconds_letter c e =
     T→eq false t = absurd t
 
 -- ---- composites
-
-pub no_format : (before : Type 0) (c : ℕ) (xs : List Composite) → NoneOf before c (map (λ (x : Composite). x.letter) xs)
-    → format_of c xs ≡ []
-unfolding format_of
-no_format before c [] h = refl
-no_format before c (x ∷ xs) h =
-    let both = before × (c ≡ x.letter → ⊥) in
-    rw (ne_eqb c x.letter (earlier both c (map (λ (x : Composite). x.letter) xs) h).1) (no_format both c xs h)
 
 -- a test that passes at each own format, and at the empty one, passes at what is found
 format_passes : (p : List ℕ → Bool) (c : ℕ) (xs : List Composite) → T (every (λ (x : Composite). p x.format) xs) → T (p [])

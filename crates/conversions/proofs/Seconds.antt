@@ -5,10 +5,9 @@ use Prim.Native.Nat.{ℕ}
 use mathlib.Core.Bool.{true, false, not}
 use mathlib.Core.List.{List, [], ◌∷◌}
 use mathlib.Core.Path.{◌≡◌, refl, ap}
-use native.Mathlib.Omega.{arith}
 use borrow.Author.Tests.{eqb-true, not-false}
 use lib.Dec.{eqb}
-use lib.ListN.{length, take, get_or}
+use lib.ListN.{take, get_or}
 use Rattle.laws.proofs.Cases.{either, picked, clash}
 use Rattle.conversions.specs.Conversions.{among, is_conversion, is_composite, computes as rows-compute}
 use Rattle.conversions.specs.Pieces.{letter, paired, conversion, after_E, after_O, is_read, to_read, piece}
@@ -96,8 +95,7 @@ module _ (s : List ℕ) where
       go [] e = clash (cc)
       go (b ∷ s) e = rw e
 
--- where nothing stands, no s does
-pub none_unread : (s : List ℕ) → length s ≡ 0 → false ≡ not (is_read (get_or s 0 0))
-unfolding is_read
-none_unread [] e = refl
-none_unread (b ∷ s) e = absurd (omega (arith, e))
+-- for a function that looks at the first byte
+pub ruleset of_letters = (letter_read, letter_unread)
+
+pub ruleset of_conversions = (conversion_read, conversion_unread)

@@ -2,13 +2,14 @@
 -- Assumes nothing.
 use Prim.Native.Char.{code}
 use Prim.Native.Nat.{ℕ, ◌≤◌, ◌<◌}
-use mathlib.Core.Bool.{Bool, true, false, cond, and-eq-true_iff}
+use mir.Val.{bool_byte}
+use mathlib.Core.Bool.{Bool, true, false, not, and-eq-true_iff}
 use mathlib.Core.List.{List, [], ◌∷◌}
 use mathlib.Core.Path.{◌≡◌, refl, sym, ◌∙◌}
 use native.Mathlib.Decide.{dec_le}
 use native.Mathlib.Nat.{lt_of_not-le}
 use native.Mathlib.Omega.{arith}
-use borrow.Author.Tests.{leb-true, eq-eqb, ne_eqb, eqb-true, eqb-false}
+use borrow.Author.Tests.{leb-true, eqb-true, eqb-false}
 use lib.Dec.{eqb, leb, lit<}
 use lib.ListN.{length, get_or}
 use Rattle.laws.proofs.Cases.{either, clash}
@@ -68,35 +69,10 @@ unfolding flag_run
 flag_run_lem [] = no_flag []
 flag_run_lem (b ∷ s) = either (IsFlag (b ∷ s)) (among b flags) (λ e. a_flag b s e) (λ e. no_flag (b ∷ s))
 
--- by the first byte: a flag, or none
-pub flag_none : (s : List ℕ) → length s ≡ 0 → 0 ≡ get_or (flag_run s) 0 0
-unfolding flag_run
-flag_none [] h = refl
-flag_none (b ∷ s) h = absurd (omega arith)
-
-among_zero : (b : ℕ) → among b (0 ∷ flags) ≡ true → among b flags ≡ false → b ≡ 0
-unfolding among
-among_zero b e f = either (λ (t : Bool). t ≡ true → b ≡ 0) (eqb b 0) (λ z w. eqb-true b 0 z) (λ z w. clash (cc)) e
-
-among_none : (b : ℕ) → among b (0 ∷ flags) ≡ false → among b flags ≡ false
-unfolding among
-among_none b e = either (λ (t : Bool). t ≡ false → among b flags ≡ false) (eqb b 0) (λ z w. clash (cc)) (λ z w. w) e
-
-pub flag_here : (s : List ℕ) → (length s ≡ 0 → ⊥) → {t : Bool} → t ≡ among (get_or s 0 0) (0 ∷ flags) → t ≡ true
-    → get_or s 0 0 ≡ get_or (flag_run s) 0 0
-unfolding flag_run
-flag_here [] n e q = absurd (n refl)
-flag_here (b ∷ s) n e q =
-    either (λ (x : List ℕ). b ≡ get_or x 0 0) (among b flags) (λ _. refl) (λ f. among_zero b (sym e ∙ q) f)
-
-pub flag_absent : (s : List ℕ) → (length s ≡ 0 → ⊥) → {t : Bool} → t ≡ among (get_or s 0 0) (0 ∷ flags) → t ≡ false
-    → 0 ≡ get_or (flag_run s) 0 0
-unfolding flag_run
-flag_absent [] n e q = absurd (n refl)
-flag_absent (b ∷ s) n e q = rw (among_none b (sym e ∙ q))
-
-pub flag_bytes_lem : (s : List ℕ) {f n : ℕ} → f ≡ get_or (flag_run s) 0 0 → n ≡ cond (eqb f 0) 0 1 → n ≡ length (flag_run s)
-flag_bytes_lem s {f} {n} e q = q ∙ either (λ m. m ≡ length (flag_run s)) (eqb f 0) (λ z. none z) (λ z. some z)
+-- how many bytes it has
+pub flag_bytes_lem : (s : List ℕ) {f n : ℕ} → f ≡ get_or (flag_run s) 0 0 → n ≡ bool_byte (not (eqb f 0)) → n ≡ length (flag_run s)
+flag_bytes_lem s {f} {n} e q =
+    q ∙ elim (eqb f 0) as (λ t. eqb f 0 ≡ t → bool_byte (not t) ≡ length (flag_run s)) [ true ↦ none | false ↦ some ] refl
   where
     none : eqb f 0 ≡ true → 0 ≡ length (flag_run s)
     none z = sym ((flag_run_lem s).none (sym e ∙ eqb-true f 0 z))
@@ -164,19 +140,3 @@ width_run_lem [] = no_width []
 width_run_lem (b ∷ s) =
     either (IsWidth (b ∷ s)) (eqb b (code "0")) (λ e. no_width (b ∷ s))
     (λ e. either (IsWidth (b ∷ s)) (is_digit b) (λ d. second-digit b d (eqb-false b 48 e) s) (λ d. no_width (b ∷ s)))
-
--- by the first byte
-pub width_none : (s : List ℕ) → length s ≡ 0 → width_run s ≡ []
-unfolding width_run
-width_none [] h = refl
-width_none (b ∷ s) h = absurd (omega arith)
-
-pub width_zero : (s : List ℕ) → (length s ≡ 0 → ⊥) → get_or s 0 0 ≡ 48 → width_run s ≡ []
-unfolding width_run
-width_zero [] n e = absurd (n refl)
-width_zero (b ∷ s) n e = rw (eq-eqb b 48 e)
-
-pub width_digits : (s : List ℕ) → (length s ≡ 0 → ⊥) → (get_or s 0 0 ≡ 48 → ⊥) → width_run s ≡ digit_run 2 s
-unfolding width_run
-width_digits [] n e = absurd (n refl)
-width_digits (b ∷ s) n e = rw (ne_eqb b 48 e)

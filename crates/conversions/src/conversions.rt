@@ -5,6 +5,7 @@ use names::Names;
 
 // How a conversion is written and read: numbers filled with zeros or blanks, the weekday counted from Sunday 0; names of a table
 // in three letters, in full, or in full with small letters; a zone offset; the seconds of %s; or no conversion at all.
+// (No Option around it: conversion_of answers a row for every letter, and Unknown is the form of that row.)
 #[derive(Clone, Copy)]
 pub enum Form {
     Zeros,
@@ -47,6 +48,7 @@ fn other(kind: u32, form: Form) -> Conversion
 }
 
 // The conversion of a letter, a row for each in the order of the kinds of fact. (A constant array would be copied at each use.)
+#[tactic(auto, unfolding(crate::specs::Conversions::computes))]
 pub fn conversion_of(letter: u8) -> Conversion
     ensures { result ≡ conversion_of letter }
 {
@@ -55,8 +57,7 @@ pub fn conversion_of(letter: u8) -> Conversion
         b'C' => number(kinds::CENTURY, Form::Zeros, 2, 0, 99),
         b'y' => number(kinds::YEAR_IN_CENTURY, Form::Zeros, 2, 0, 99),
         b'm' => number(kinds::MONTH, Form::Zeros, 2, 1, 12),
-        b'b' => other(kinds::MONTH, Form::Short(Names::Months)),
-        b'h' => other(kinds::MONTH, Form::Short(Names::Months)),
+        b'b' | b'h' => other(kinds::MONTH, Form::Short(Names::Months)),
         b'B' => other(kinds::MONTH, Form::Full(Names::Months)),
         b'd' => number(kinds::DAY, Form::Zeros, 2, 1, 31),
         b'e' => number(kinds::DAY, Form::Blanks, 2, 1, 31),

@@ -1,4 +1,4 @@
-ghost use Rattle.std.specs.Prelude.{◌≡◌, cond, not, List, ◌∷◌, ℕ, ◌≤◌, eqb, length, get_or, take};
+ghost use Rattle.std.specs.Prelude.{◌≡◌, not, List, ◌∷◌, ℕ, length, get_or};
 ghost use Rattle.text.specs.Digits.{decimal};
 ghost use Rattle.conversions.specs.Conversions.{among, own_format};
 ghost use Rattle.conversions.specs.Pieces.{letter, paired, conversion, flags, flag_run, width_run};
@@ -8,6 +8,7 @@ ghost use Rattle.conversions.specs.Private.{holds, SetOf};
 use text::{Digits, read_digits};
 
 // A flag, one of the bytes `_`, `-`, `0` and `^`, and a width; 0 where there is none.
+// (Numbers: an element holds 7 bits of each, and format::style_of answers for every element, whatever its bits are.)
 #[derive(Clone, Copy)]
 pub struct Style {
     pub flag: u8,
@@ -15,6 +16,7 @@ pub struct Style {
 }
 
 // What a piece of a format does: a byte or a conversion is stored, a composite is opened, or the conversion is bad.
+// (Four cases that are told apart once: an Option of the first three would be matched at two levels at each use.)
 #[derive(Clone, Copy)]
 pub enum Act {
     Byte(u8),
@@ -29,10 +31,6 @@ pub struct Piece {
     pub act: Act,
     pub length: usize,
 }
-
-// A composite's own format: some bytes, and how many of them it has.
-#[derive(Clone, Copy)]
-pub struct Own(pub [u8; 14], pub usize);
 
 // Sets of letters: the bit at 64 less than its byte says whether a letter is in. (An array would be copied at each use.)
 
@@ -54,19 +52,15 @@ const AFTER_E: u64 = 0x0300_0008_0300_0008;
 // HIMSUVW demuwy
 const AFTER_O: u64 = 0x02a0_2030_00e8_2300;
 
+#[tactic(auto, unfolding(crate::specs::Private::holds))]
 pub fn holds(set: u64, b: u8) -> bool
     ensures { result ≡ holds set b }
 {
-    if b < 64 {
-        return false;
-    }
-    if 127 < b {
-        return false;
-    }
-    (set >> (b - 64)) % 2 == 1
+    64 <= b && b < 128 && (set >> (b - 64)) % 2 == 1
 }
 
 // What a letter after % stands for.
+#[tactic(auto, using(crate::proofs::Sets::sets), unfolding(crate::specs::Pieces::letter))]
 fn letter(b: u8) -> Act
     ensures { result ≡ letter b }
 {
@@ -74,106 +68,86 @@ fn letter(b: u8) -> Act
         b'n' => Act::Byte(b'\n'),
         b't' => Act::Byte(b'\t'),
         b'%' => Act::Byte(b'%'),
-        _ => {
-            if holds(COMPOSITES, b) {
-                return Act::Open(b);
-            }
-            if holds(CONVERSIONS, b) {
-                return Act::Convert {
-                    letter: b,
-                    style: Style { flag: 0, width: 0 },
-                };
-            }
-            Act::Refuse
-        }
+        _ if holds(COMPOSITES, b) => Act::Open(b),
+        _ if holds(CONVERSIONS, b) => Act::Convert {
+            letter: b,
+            style: Style { flag: 0, width: 0 },
+        },
+        _ => Act::Refuse,
     }
 }
 
 // What stands after %E or %O, where only some letters are taken.
+#[tactic(auto, unfolding(crate::specs::Pieces::paired))]
 fn paired(set: u64, s: &[u8]) -> Piece
     ensures { (letters : List ℕ) → SetOf set letters → result ≡ paired letters s.now }
 {
-    if s.len() == 0 {
-        return Piece {
+    match s {
+        [] => Piece {
             act: Act::Refuse,
             length: 2,
-        };
-    }
-    let b = s[0];
-    if holds(set, b) {
-        return Piece {
-            act: letter(b),
+        },
+        [b, ..] if holds(set, *b) => Piece {
+            act: letter(*b),
             length: 3,
-        };
-    }
-    Piece {
-        act: Act::Refuse,
-        length: 3,
+        },
+        _ => Piece {
+            act: Act::Refuse,
+            length: 3,
+        },
     }
 }
 
 // What stands after % where no flag and no width do: E, O or neither, and a letter.
+#[tactic(auto, unfolding(crate::specs::Pieces::conversion))]
 pub fn conversion(s: &[u8]) -> Piece
     ensures { result ≡ conversion s.now }
 {
-    if s.len() == 0 {
-        return Piece {
+    match s {
+        [] => Piece {
             act: Act::Refuse,
             length: 1,
-        };
-    }
-    let b = s[0];
-    match b {
-        b'E' => paired(AFTER_E, &s[1..]),
-        b'O' => paired(AFTER_O, &s[1..]),
-        _ => Piece {
-            act: letter(b),
+        },
+        [b'E', rest @ ..] => paired(AFTER_E, rest),
+        [b'O', rest @ ..] => paired(AFTER_O, rest),
+        [b, ..] => Piece {
+            act: letter(*b),
             length: 2,
         },
     }
 }
 
 // Whether a byte is a flag, or 0.
+#[tactic(auto, unfolding(crate::specs::Conversions::computes, crate::specs::Pieces::flags))]
 pub fn is_flag(b: u8) -> bool
     ensures { result ≡ among b (0 ∷ flags) }
 {
-    match b {
-        0 => true,
-        b'_' => true,
-        b'-' => true,
-        b'0' => true,
-        b'^' => true,
-        _ => false,
-    }
+    matches!(b, 0 | b'_' | b'-' | b'0' | b'^')
 }
 
 // The flag that stands first, or 0.
+#[tactic(auto, unfolding(crate::specs::Pieces::flag_run, crate::specs::Conversions::among))]
 fn flag_at(s: &[u8]) -> u8
     ensures { result ≡ get_or (flag_run s.now) 0 0 }
 {
-    if s.len() == 0 {
-        return 0;
+    match s {
+        [b, ..] if is_flag(*b) => *b,
+        _ => 0,
     }
-    let b = s[0];
-    if is_flag(b) {
-        return b;
-    }
-    0
 }
 
 // The width that stands first, and how many digits it has; 0 where there is none.
+#[tactic(auto, unfolding(crate::specs::Pieces::computes, text::specs::Digits::read_digits))]
 fn width_at(s: &[u8]) -> Digits
     ensures { (result.value ≡ decimal 0 (width_run s.now)) × (result.count ≡ length (width_run s.now)) }
 {
-    if s.len() == 0 {
-        return Digits { value: 0, count: 0 };
+    match s {
+        [b'0', ..] => Digits { value: 0, count: 0 },
+        _ => read_digits(s, 0, 2),
     }
-    if s[0] == b'0' {
-        return Digits { value: 0, count: 0 };
-    }
-    read_digits(s, 0, 2)
 }
 
+#[tactic(auto, unfolding(crate::specs::Pieces::is_unstyled))]
 fn is_unstyled(style: Style) -> bool
     ensures { result ≡ is_unstyled style }
 {
@@ -181,57 +155,30 @@ fn is_unstyled(style: Style) -> bool
 }
 
 // Whether a conversion takes a flag and a width.
+#[tactic(auto, using(crate::proofs::Sets::sets), unfolding(crate::specs::Pieces::takes_style))]
 pub fn takes_style(style: Style, letter: u8) -> bool
     ensures { result ≡ takes_style style letter }
 {
     if is_unstyled(style) {
         return true;
     }
-    let flag = style.flag;
-    match flag {
-        0 => {
-            if holds(NAMES, letter) {
-                return true;
-            }
-            holds(NUMBERS, letter)
-        }
+    match style.flag {
+        0 => holds(NAMES, letter) || holds(NUMBERS, letter),
         b'^' => holds(NAMES, letter),
         _ => holds(NUMBERS, letter),
     }
 }
 
 // What stands after a flag and a width.
+#[tactic(auto, unfolding(crate::specs::Pieces::with_style))]
 fn with_style(style: Style, act: Act) -> Act
     ensures { result ≡ with_style style act }
 {
     match act {
-        Act::Byte(b) => {
-            if is_unstyled(style) {
-                return Act::Byte(b);
-            }
-            Act::Refuse
-        }
-        Act::Convert { letter, style: _ } => {
-            if takes_style(style, letter) {
-                return Act::Convert { letter, style };
-            }
-            Act::Refuse
-        }
-        Act::Open(c) => {
-            if is_unstyled(style) {
-                return Act::Open(c);
-            }
-            Act::Refuse
-        }
-        Act::Refuse => Act::Refuse,
+        Act::Byte(_) | Act::Open(_) if is_unstyled(style) => act,
+        Act::Convert { letter, .. } if takes_style(style, letter) => Act::Convert { letter, style },
+        _ => Act::Refuse,
     }
-}
-
-// How many bytes a flag has.
-fn flag_length(flag: u8) -> usize
-    ensures { result ≡ cond (eqb flag 0) 0 1 }
-{
-    if flag == 0 { 0 } else { 1 }
 }
 
 // A flag, a width and what follows them.
@@ -239,22 +186,22 @@ pub fn styled(s: &[u8]) -> Piece
     ensures { result ≡ styled s.now }
 {
     let flag = flag_at(s);
-    let from = flag_length(flag);
+    let from = usize::from(flag != 0);
     let width = width_at(&s[from..]);
     let n = from + width.count;
     let piece = conversion(&s[n..]);
-    let act = piece.act;
     let style = Style {
         flag,
         width: width.value as u8,
     };
     Piece {
-        act: with_style(style, act),
+        act: with_style(style, piece.act),
         length: n + piece.length,
     }
 }
 
 // Whether a conversion is read: %s is not.
+#[tactic(auto, unfolding(crate::specs::Pieces::is_read))]
 pub fn is_read(letter: u8) -> bool
     ensures { result ≡ is_read letter }
 {
@@ -262,38 +209,35 @@ pub fn is_read(letter: u8) -> bool
 }
 
 // What a letter right after % stands for, where both sides take it.
+#[tactic(auto, using(crate::proofs::Seconds::of_letters))]
 pub fn read_letter(b: u8) -> Act
     ensures { result ≡ to_read (letter b) }
 {
-    if is_read(b) {
-        return letter(b);
-    }
-    Act::Refuse
+    if is_read(b) { letter(b) } else { Act::Refuse }
 }
 
 // Whether an s stands first.
+#[tactic(auto, unfolding(crate::specs::Pieces::is_read))]
 pub fn begins_seconds(s: &[u8]) -> bool
     ensures { result ≡ not (is_read (get_or s.now 0 0)) }
 {
-    if s.len() == 0 {
-        return false;
-    }
-    !is_read(s[0])
+    matches!(s, [b, ..] if !is_read(*b))
 }
 
-// The own format of a composite; of no other letter.
-pub fn own_format(c: u8) -> Own
-    ensures { (length result.0 ≡ 14) × (result.1 ≤ 14) × (take result.1 result.0 ≡ own_format c) }
+// The own format of a composite; of any other letter, nothing.
+#[tactic(auto, unfolding(crate::specs::Conversions::computes))]
+pub fn own_format(c: u8) -> &'static [u8]
+    ensures { result.now ≡ own_format c }
 {
     match c {
-        b'c' => Own(*b"%a %b %e %T %Y", 14),
-        b'x' => Own(*b"%D            ", 2),
-        b'X' => Own(*b"%T            ", 2),
-        b'D' => Own(*b"%m/%d/%y      ", 8),
-        b'F' => Own(*b"%Y-%m-%d      ", 8),
-        b'R' => Own(*b"%H:%M         ", 5),
-        b'T' => Own(*b"%H:%M:%S      ", 8),
-        b'r' => Own(*b"%I:%M:%S %p   ", 11),
-        _ => Own(*b"              ", 0),
+        b'c' => b"%a %b %e %T %Y",
+        b'x' => b"%D",
+        b'X' => b"%T",
+        b'D' => b"%m/%d/%y",
+        b'F' => b"%Y-%m-%d",
+        b'R' => b"%H:%M",
+        b'T' => b"%H:%M:%S",
+        b'r' => b"%I:%M:%S %p",
+        _ => b"",
     }
 }

@@ -6,6 +6,6 @@ mod following;
 
 pub use conversions::{Conversion, Form, conversion_of};
 pub use following::{
-    Act, CONVERSIONS, Own, Piece, Style, begins_seconds, conversion, holds, is_flag, is_read,
+    Act, CONVERSIONS, Piece, Style, begins_seconds, conversion, holds, is_flag, is_read,
     own_format, read_letter, styled, takes_style,
 };

@@ -16,10 +16,9 @@ use Rattle.conversions.specs.declared.following.Act.{Act}
 use Rattle.conversions.specs.declared.following.Act.TheVariants.{Byte, Convert, Open, Refuse}
 use Rattle.format.specs.declared.opening.Side.{Side}
 use Rattle.format.specs.declared.opening.Side.TheVariants.{Writer, Reader}
-use Rattle.format.specs.declared.opening.Sign.{Sign}
-use Rattle.format.specs.declared.opening.Sign.TheVariants.{Own, Of}
 use Rattle.format.proofs.Pieces.{Follows, follows}
 use Rattle.conversions.proofs.Rows.{own_passes}
+use Rattle.std.specs.Prelude.{None, Option, Some, ℕ}
 
 composed_length : (e : List ℕ) (d : Ended) (rest : Opening)
     → length (composed (record { elements = e; ended = d }) rest).elements ≤ length e + length rest.elements
@@ -27,7 +26,7 @@ unfolding composed before
 composed_length e Whole rest = omega (arith, length-append e rest.elements)
 composed_length e (BadAt p) rest = omega arith
 
-module _ (side : Side) (inner : ℕ → ℕ → Opening) (few : (sign c : ℕ) → length (inner sign c).elements ≤ 13) (g : Sign) where
+module _ (side : Side) (inner : ℕ → ℕ → Opening) (few : (sign c : ℕ) → length (inner sign c).elements ≤ 13) (g : Option ℕ) where
   -- what stands first takes k bytes, and n bytes follow its first
   acted-bound : (n k sign : ℕ) (rest : Opening) → 2 * length rest.elements ≤ 13 * (n - (k - 1)) → (a : Act) → Follows n k a
       → 2 * length (acted inner sign rest a).elements ≤ 13 * suc n
@@ -53,7 +52,7 @@ module _ (side : Side) (inner : ℕ → ℕ → Opening) (few : (sign c : ℕ) �
 
 -- each composite's own format, opened for either side
 few : (side : Side) (sign : ℕ)
-    → T (every (λ (x : Composite). leb (length (open_from side (composite_to side 1) (Of sign) 0 0 x.format).elements) 13) composites)
+    → T (every (λ (x : Composite). leb (length (open_from side (composite_to side 1) (Some sign) 0 0 x.format).elements) 13) composites)
 unfolding computes rows-compute every
 few Writer sign = tt
 few Reader sign = tt
@@ -61,11 +60,11 @@ few Reader sign = tt
 at_most_13 : (side : Side) (sign c : ℕ) → length (composite_to side 2 sign c).elements ≤ 13
 unfolding composite_to
 at_most_13 side sign c =
-    leb→le (length (open_from side (composite_to side 1) (Of sign) 0 0 (own_format c)).elements) 13
-    (own_passes (λ s. leb (length (open_from side (composite_to side 1) (Of sign) 0 0 s).elements) 13) c
+    leb→le (length (open_from side (composite_to side 1) (Some sign) 0 0 (own_format c)).elements) 13
+    (own_passes (λ s. leb (length (open_from side (composite_to side 1) (Some sign) 0 0 s).elements) 13) c
     (few side sign)
     (unfold computes in tt))
 
 pub bound : (side : Side) (s : List ℕ) → 2 * length (opening side s).elements ≤ 13 * length s
 unfolding opening open_to
-bound side s = rw sub-zero at (open-bound side (composite_to side 2) (at_most_13 side) Own s 0 0)
+bound side s = rw sub-zero at (open-bound side (composite_to side 2) (at_most_13 side) None s 0 0)

@@ -9,7 +9,7 @@ use Rattle.conversions.specs.Conversions.{computes as rows-compute}
 use Rattle.format.specs.Opening.{opening, open_to, computes}
 use Rattle.format.specs.Opening.Ended.{Whole, BadAt}
 use Rattle.format.specs.declared.opening.Side.TheVariants.{Writer, Reader}
-use Rattle.format.specs.declared.opening.Sign.TheVariants.{Own}
+use Rattle.std.specs.Prelude.{None}
 
 where_they_end : map (λ (s : String). (opening Reader (bytes s)).ended)
     ("" ∷ "%" ∷ "%E" ∷ "%Ed" ∷ "%Q" ∷ "%5m" ∷ "%E%" ∷ "%d %s" ∷ "100%" ∷ "%Ey%Oy%n%t%%" ∷ "%c %x %X %D %F %R %T %r" ∷ [])
@@ -47,6 +47,6 @@ two_deep : length (opening Reader (bytes "%c")).elements ≡ 13
 unfolding computes rows-compute
 two_deep = refl
 
-one_deep : (open_to Reader 1 Own (bytes "x%c")).ended ≡ BadAt 1
+one_deep : (open_to Reader 1 None (bytes "x%c")).ended ≡ BadAt 1
 unfolding computes rows-compute
 one_deep = refl

@@ -29,8 +29,6 @@ use Rattle.conversions.specs.declared.following.Act.TheVariants.{Byte, Convert, 
 use Rattle.conversions.specs.declared.following.Piece.{Piece}
 use Rattle.format.specs.declared.opening.Side.{Side}
 use Rattle.format.specs.declared.opening.Side.TheVariants.{Writer, Reader}
-use Rattle.format.specs.declared.opening.Sign.{Sign}
-use Rattle.format.specs.declared.opening.Sign.TheVariants.{Own, Of}
 use Rattle.conversions.specs.declared.following.Style.{Style}
 use Rattle.format.proofs.Bound.{bound}
 use Rattle.format.proofs.Entries.{all_in}
@@ -38,6 +36,7 @@ use Rattle.conversions.proofs.Letters.{among_past}
 use Rattle.format.proofs.Pieces.{Unstyled, conversion_unstyled, Follows, follows}
 use Rattle.conversions.proofs.Rows.{own_passes, conversion_known}
 use Rattle.conversions.proofs.Styles.{flag_run_lem, width_run_lem}
+use Rattle.std.specs.Prelude.{None, Option, Some, ℕ}
 
 -- a conversion's letter is a byte
 pub letter_below : (c : ℕ) → is_conversion c ≡ true → c < 256
@@ -158,7 +157,7 @@ unfolding composed before
 composed_elements side e Whole rest f g = every_append (is_element side) e rest.elements f g
 composed_elements side e (BadAt p) rest f g = f
 
-module _ (side : Side) (inner : ℕ → ℕ → Opening) (f : (sign c : ℕ) → sign + 1 < longest → Elements side (inner sign c)) (g : Sign) where
+module _ (side : Side) (inner : ℕ → ℕ → Opening) (f : (sign c : ℕ) → sign + 1 < longest → Elements side (inner sign c)) (g : Option ℕ) where
   acted-elements : (n k sign : ℕ) (rest : Opening) → (1 ≤ n → sign + 1 < longest) → Elements side rest → (a : Act) → Follows n k a
       → Stores side a → Elements side (acted inner sign rest a)
   unfolding acted before nothing every
@@ -196,13 +195,13 @@ pub composite_elements : (side : Side) (depth sign c : ℕ) → sign + 1 < longe
 unfolding composite_to nothing every sign_at
 composite_elements side zero sign c h = refl
 composite_elements side (suc depth) sign c h =
-    open-elements side (composite_to side depth) (composite_elements side depth) (Of sign) (own_format c) 0 0 (own_bytes c) (λ k m. h)
+    open-elements side (composite_to side depth) (composite_elements side depth) (Some sign) (own_format c) 0 0 (own_bytes c) (λ k m. h)
 
 -- a format of bytes that is not too long
 module _ (side : Side) (s : List ℕ) (short : length s ≤ longest) (bytes : every is_byte s ≡ true) where
   pub elements : every (is_element side) (opening side s).elements ≡ true
   unfolding opening open_to sign_at
-  elements = open-elements side (composite_to side 2) (composite_elements side 2) Own s 0 0 bytes (λ k m. omega arith)
+  elements = open-elements side (composite_to side 2) (composite_elements side 2) None s 0 0 bytes (λ k m. omega arith)
 
   pub element_at : (k : ℕ) → k < length (opening side s).elements → is_element side (get_or (opening side s).elements k 0) ≡ true
   element_at k h = each (is_element side) 0 (opening side s).elements elements k (λ l. absurd (omega arith))

@@ -1,16 +1,13 @@
 -- How many entries of a slice are elements, counted at each of its places.
 -- Assumes nothing.
-use Prim.Native.Nat.{ℕ, zero, suc, min, ◌+◌, ◌-◌, ◌≤◌, ◌<◌}
-use mathlib.Core.Bool.{Bool, true, false, not, cond, and-eq-true_iff}
+use Prim.Native.Nat.{ℕ, zero, suc, min, ◌≤◌, ◌<◌}
+use mathlib.Core.Bool.{Bool, true, false, cond, and-eq-true_iff}
 use mathlib.Core.List.{List, [], ◌∷◌}
 use mathlib.Core.Path.{◌≡◌, refl, ap}
 use native.Mathlib.Decide.{dec_le}
-use native.Mathlib.Nat.{zero-add, sub-zero, le_of_suc-le-suc, lt_of_not-le}
-use native.Mathlib.Numerals.{add-one}
+use native.Mathlib.Nat.{le_of_suc-le-suc, lt_of_not-le}
 use native.Mathlib.Omega.{arith}
-use borrow.Author.Tests.{not-true, not-false}
-use lib.ListN.{length, get_or, drop, drop_of_length-le}
-use lib.Seq.{drop-cons}
+use lib.ListN.{length, get_or}
 use Rattle.laws.specs.Lists.{every}
 use Rattle.laws.proofs.Lists.{every_of}
 use Rattle.format.specs.Opening.{is_element, elements_in}
@@ -23,30 +20,23 @@ module _ (side : Side) where
   none zero = refl
   none (suc n) = refl
 
-  -- the entries es, of which n are looked at, at the place k
-  module _ (es : List ℕ) (n : ℕ) where
-    pub at_first : 0 + elements_in side (n - 0) es ≡ elements_in side n es
-    at_first = rw (sub-zero n, zero-add (elements_in side n es))
+  -- they end before the first that is none, and with the entries that are looked at
+  pub ends_before : (n : ℕ) (es : List ℕ) (k : ℕ) → k < n → k < length es → ((j : ℕ) → j < k → is_element side (get_or es j 0) ≡ true)
+      → is_element side (get_or es k 0) ≡ false → k ≡ elements_in side n es
+  unfolding elements_in
+  ends_before zero es k a b h f = absurd (omega arith)
+  ends_before (suc n) [] k a b h f = absurd (omega arith)
+  ends_before (suc n) (e ∷ es) zero a b h f = rw f
+  ends_before (suc n) (e ∷ es) (suc k) a b h f =
+      rw (h 0 (omega arith)) (ap suc (ends_before n es k (omega arith) (omega arith) (λ j l. h (suc j) (omega arith)) f))
 
-    module _ (k : ℕ) where
-      pub at_end : min (length es) n ≤ k → elements_in side (n - k) (drop k es) ≡ 0
-      unfolding elements_in
-      at_end h =
-          elim (dec_le n k) [
-            | yes l ↦ let e : n - k ≡ 0 = omega arith in rw e
-            | no l ↦ rw (drop_of_length-le es {i = k} (omega (arith, lt_of_not-le l))) (none (n - k))
-          ]
-
-      module _ {t : Bool} (h : k < min (length es) n) (e : t ≡ is_element side (get_or es k 0)) where
-        pub no_element : not t ≡ true → elements_in side (n - k) (drop k es) ≡ 0
-        unfolding elements_in
-        no_element f = let q : n - k ≡ suc (n - (k + 1)) = omega arith in rw (q, drop-cons es k 0 (omega arith), ← e, not-true t f)
-
-        pub one_more : not t ≡ false → elements_in side (n - k) (drop k es) ≡ suc (elements_in side (n - (k + 1)) (drop (k + 1) es))
-        unfolding elements_in
-        one_more f =
-            let q : n - k ≡ suc (n - (k + 1)) = omega arith in
-            rw (q, drop-cons es k 0 (omega arith), ← e, not-false t f, add-one k)
+  pub ends_with : (n : ℕ) (es : List ℕ) → ((j : ℕ) → j < min (length es) n → is_element side (get_or es j 0) ≡ true)
+      → min (length es) n ≡ elements_in side n es
+  unfolding elements_in
+  ends_with zero es h = omega arith
+  ends_with (suc n) [] h = omega arith
+  ends_with (suc n) (e ∷ es) h =
+      rw (h 0 (omega arith)) (omega (arith, ends_with n es (λ j l. h (suc j) (omega arith))))
 
   -- where all are elements, all count, as far as they are looked at
   pub all_in : (n : ℕ) (es : List ℕ) → every (is_element side) es ≡ true → length es ≤ n → elements_in side n es ≡ length es

@@ -13,11 +13,12 @@ use Rattle.laws.proofs.Cases.{clash}
 use Rattle.laws.proofs.Stores.{sets_start}
 use Rattle.format.specs.Opening.{Ended, longest, most_elements, opening, closed, opened, opened_into}
 use Rattle.format.specs.Opening.Ended.{Whole, BadAt}
-use Rattle.format.specs.declared.opening.Opened.{Opened}
-use Rattle.format.specs.declared.opening.Opened.TheVariants.{Done, TooLong, Bad}
 use Rattle.format.specs.declared.opening.Side.{Side}
 use Rattle.format.proofs.Bound.{bound}
 use Rattle.format.proofs.Refused.{bad_within}
+use Rattle.std.specs.Prelude.{Err, Ok, Result, ℕ}
+use Rattle.format.specs.declared.opening.Unopened.TheVariants.{Bad, TooLong}
+use Rattle.format.specs.declared.opening.Unopened.{Unopened}
 
 -- the format f opens whole, to n elements
 pub record Opens (side : Side) (f : List ℕ) (n : ℕ) : Type 0 where
@@ -32,27 +33,27 @@ pub record Breaks (side : Side) (f : List ℕ) (p : ℕ) : Type 0 where
   pub bad : (opening side f).ended ≡ BadAt p
   pub within : p < length f
 
-done : (short : Bool) (d : Ended) (n k : ℕ) → cond short (closed n d) TooLong ≡ Done k → (short ≡ true) × (d ≡ Whole) × (k ≡ n)
+done : (short : Bool) (d : Ended) (n k : ℕ) → cond short (closed n d) (Err TooLong) ≡ Ok k → (short ≡ true) × (d ≡ Whole) × (k ≡ n)
 unfolding closed
 done true Whole n k e = (refl, refl, (cc))
 done true (BadAt p) n k e = clash (cc)
 done false d n k e = clash (cc)
 
-bad : (short : Bool) (d : Ended) (n p : ℕ) → cond short (closed n d) TooLong ≡ Bad p → (short ≡ true) × (d ≡ BadAt p)
+bad : (short : Bool) (d : Ended) (n p : ℕ) → cond short (closed n d) (Err TooLong) ≡ Err (Bad p) → (short ≡ true) × (d ≡ BadAt p)
 unfolding closed
 bad true Whole n p e = clash (cc)
 bad true (BadAt q) n p e = (refl, (cc))
 bad false d n p e = clash (cc)
 
-long : (short : Bool) (d : Ended) (n : ℕ) → cond short (closed n d) TooLong ≡ TooLong → short ≡ false
+long : (short : Bool) (d : Ended) (n : ℕ) → cond short (closed n d) (Err TooLong) ≡ Err TooLong → short ≡ false
 unfolding closed
 long true Whole n e = clash (cc)
 long true (BadAt q) n e = clash (cc)
 long false d n e = refl
 
 -- r is the answer
-module _ (side : Side) (f : List ℕ) {r : Opened} (a : r ≡ opened side f) where
-  pub opened_done : {n : ℕ} → r ≡ Done n → Opens side f n
+module _ (side : Side) (f : List ℕ) {r : Result ℕ Unopened} (a : r ≡ opened side f) where
+  pub opened_done : {n : ℕ} → r ≡ Ok n → Opens side f n
   unfolding opened
   opened_done {n} e =
       let o = opening side f in
@@ -60,14 +61,14 @@ module _ (side : Side) (f : List ℕ) {r : Opened} (a : r ≡ opened side f) whe
       let l = leb-true (length f) longest w.0 in
       record { short = l; whole = w.1; count = w.2; few = omega (arith, bound side f, w.2) }
 
-  pub opened_bad : {p : ℕ} → r ≡ Bad p → Breaks side f p
+  pub opened_bad : {p : ℕ} → r ≡ Err (Bad p) → Breaks side f p
   unfolding opened
   opened_bad {p} e =
       let o = opening side f in
       let w = bad (leb (length f) longest) o.ended (length o.elements) p (sym a ∙ e) in
       record { short = leb-true (length f) longest w.0; bad = w.1; within = bad_within side f w.1 }
 
-  pub opened_long : r ≡ TooLong → longest < length f
+  pub opened_long : r ≡ Err TooLong → longest < length f
   unfolding opened
   opened_long e =
       let o = opening side f in

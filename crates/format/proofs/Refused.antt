@@ -12,8 +12,7 @@ use Rattle.format.specs.Opening.Ended.{Whole, BadAt}
 use Rattle.conversions.specs.declared.following.Act.{Act}
 use Rattle.conversions.specs.declared.following.Act.TheVariants.{Byte, Convert, Open, Refuse}
 use Rattle.format.specs.declared.opening.Side.{Side}
-use Rattle.format.specs.declared.opening.Sign.{Sign}
-use Rattle.format.specs.declared.opening.Sign.TheVariants.{Own, Of}
+use Rattle.std.specs.Prelude.{None, Option, Some, ℕ}
 
 -- an opening that ended badly ended before n
 unfoldable Before : ℕ → Ended → Type 0
@@ -26,7 +25,7 @@ unfolding composed before
 composed_before n e Whole rest f g = g
 composed_before n e (BadAt p) rest f g = f
 
-module _ (side : Side) (n : ℕ) (inner : ℕ → ℕ → Opening) (f : (sign c : ℕ) → sign < n → Before n (inner sign c).ended) (g : Sign) where
+module _ (side : Side) (n : ℕ) (inner : ℕ → ℕ → Opening) (f : (sign c : ℕ) → sign < n → Before n (inner sign c).ended) (g : Option ℕ) where
   acted-before : (sign : ℕ) (rest : Opening) → sign < n → Before n rest.ended → (a : Act) → Before n (acted inner sign rest a).ended
   unfolding acted before nothing Before
   acted-before sign rest h r (Byte b) = r
@@ -51,10 +50,10 @@ composite_before : (side : Side) (depth n sign c : ℕ) → sign < n → Before 
 unfolding composite_to nothing Before sign_at
 composite_before side zero n sign c h = h
 composite_before side (suc depth) n sign c h =
-    open-before side n (composite_to side depth) (composite_before side depth n) (Of sign) (own_format c) 0 0 (λ k l. h)
+    open-before side n (composite_to side depth) (composite_before side depth n) (Some sign) (own_format c) 0 0 (λ k l. h)
 
 pub bad_within : (side : Side) (f : List ℕ) {p : ℕ} → (opening side f).ended ≡ BadAt p → p < length f
 unfolding opening open_to Before sign_at
 bad_within side f e =
     let n = length f in
-    rw e at (open-before side n (composite_to side 2) (composite_before side 2 n) Own f 0 0 (λ k l. omega arith))
+    rw e at (open-before side n (composite_to side 2) (composite_before side 2 n) None f 0 0 (λ k l. omega arith))

@@ -32,8 +32,6 @@ use Rattle.conversions.specs.declared.following.Act.TheVariants.{Byte, Convert, 
 use Rattle.conversions.specs.declared.following.Piece.{Piece}
 use Rattle.format.specs.declared.opening.Side.{Side}
 use Rattle.format.specs.declared.opening.Side.TheVariants.{Writer, Reader}
-use Rattle.format.specs.declared.opening.Sign.{Sign}
-use Rattle.format.specs.declared.opening.Sign.TheVariants.{Own, Of}
 use Rattle.conversions.specs.declared.following.Style.{Style}
 use Rattle.format.proofs.Bound.{bound}
 use Rattle.format.proofs.Elements.{letter_below, elements, element_at}
@@ -41,6 +39,7 @@ use Rattle.format.proofs.Entry.{not_read as unread}
 use Rattle.conversions.proofs.Letters.{among_past}
 use Rattle.format.proofs.Pieces.{Unstyled, conversion_unstyled, Follows, follows}
 use Rattle.conversions.proofs.Styles.{flag_run_lem, width_run_lem}
+use Rattle.std.specs.Prelude.{None, Option, Some, ℕ}
 
 -- ---- a byte that begins a flag or a width begins no conversion
 
@@ -253,7 +252,7 @@ own_firsts c =
     own_alike (firsts Writer) (firsts Reader) c composites (unfold rows-compute computes firsts in refl) (unfold firsts in refl)
 
 -- where the same stands first at each place, the same is opened
-open_alike : (inner : ℕ → ℕ → Opening) (g : Sign) (i past : ℕ) (s : List ℕ) → firsts Writer s ≡ firsts Reader s
+open_alike : (inner : ℕ → ℕ → Opening) (g : Option ℕ) (i past : ℕ) (s : List ℕ) → firsts Writer s ≡ firsts Reader s
     → open_from Writer inner g i past s ≡ open_from Reader inner g i past s
 unfolding open_from firsts
 open_alike inner g i past [] e = refl
@@ -270,8 +269,8 @@ unfolding composite_to
 any_depth zero sign c = refl
 any_depth (suc depth) sign c =
     let inner : composite_to Writer depth ≡ composite_to Reader depth = fun_ext (λ p. fun_ext (λ l. any_depth depth p l)) in
-    ap (λ (f : ℕ → ℕ → Opening). open_from Writer f (Of sign) 0 0 (own_format c)) inner
-    ∙ open_alike (composite_to Reader depth) (Of sign) 0 0 (own_format c) (own_firsts c)
+    ap (λ (f : ℕ → ℕ → Opening). open_from Writer f (Some sign) 0 0 (own_format c)) inner
+    ∙ open_alike (composite_to Reader depth) (Some sign) 0 0 (own_format c) (own_firsts c)
 
 pub composites_alike : (sign c : ℕ) → composite_to Writer 2 sign c ≡ composite_to Reader 2 sign c
 composites_alike sign c = any_depth 2 sign c
@@ -353,13 +352,13 @@ turn n m sign l w r h p q f (writer c y u k a b) =
     }))
 
 open_sides : (n : ℕ) (s : List ℕ) (i past : ℕ) → i + length s ≤ n
-    → Sides n (open_from Writer (composite_to Writer 2) Own i past s) (open_from Reader (composite_to Reader 2) Own i past s)
+    → Sides n (open_from Writer (composite_to Writer 2) None i past s) (open_from Reader (composite_to Reader 2) None i past s)
 unfolding open_from sign_at
 open_sides n [] i past h = together refl
 open_sides n (b ∷ s) i (suc past) h = open_sides n s (i + 1) past (omega arith)
 open_sides n (b ∷ s) i zero h =
-    turn n (length s) i (λ m. omega arith) (λ k. open_from Writer (composite_to Writer 2) Own (i + 1) k s)
-    (λ k. open_from Reader (composite_to Reader 2) Own (i + 1) k s)
+    turn n (length s) i (λ m. omega arith) (λ k. open_from Writer (composite_to Writer 2) None (i + 1) k s)
+    (λ k. open_from Reader (composite_to Reader 2) None (i + 1) k s)
     (λ k. open_sides n s (i + 1) k (omega arith))
     (piece_of Writer b s)
     (piece_of Reader b s)
@@ -455,3 +454,6 @@ module _ (f : List ℕ) (short : length f ≤ longest) (bytes : every is_byte f 
       let t = rw stands-there at (element_at Writer f short bytes (length first-ones) apart_longer) in
       let p = sign_of a.sign a.letter a.style in-time a.known a.width a.unread in
       rw (stands-there, t, not_read) (omega (arith, p))
+
+-- for the code, which looks at the letter right after % first
+pub ruleset first_looks = (nothing_after, letter_after)

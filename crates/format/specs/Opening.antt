@@ -8,14 +8,13 @@ use Rattle.conversions.specs.Pieces.{piece, conversion, flags, takes_style, styl
 use Rattle.conversions.specs.Conversions.{among, is_conversion, own_format}
 use Rattle.conversions.specs.declared.following.Act.{Act}
 use Rattle.conversions.specs.declared.following.Act.TheVariants.{Byte, Convert, Open, Refuse}
-use Rattle.format.specs.declared.opening.Opened.{Opened}
-use Rattle.format.specs.declared.opening.Opened.TheVariants.{Done, TooLong, Bad}
 use Rattle.conversions.specs.declared.following.Piece.{Piece}
 use Rattle.format.specs.declared.opening.Side.{Side}
 use Rattle.format.specs.declared.opening.Side.TheVariants.{Writer, Reader}
-use Rattle.format.specs.declared.opening.Sign.{Sign}
-use Rattle.format.specs.declared.opening.Sign.TheVariants.{Own, Of}
 use Rattle.conversions.specs.declared.following.Style.{Style}
+use Rattle.std.specs.Prelude.{Err, None, Ok, Option, Result, Some}
+use Rattle.format.specs.declared.opening.Unopened.TheVariants.{Bad, TooLong}
+use Rattle.format.specs.declared.opening.Unopened.{Unopened}
 
 -- the most bytes of a format, and of a text (RULES 1)
 abbrev pub longest : ℕ
@@ -92,14 +91,14 @@ acted inner sign rest (Open c) = composed (inner sign c) rest
 acted inner sign rest Refuse = nothing (BadAt sign)
 
 -- the offset that the % at offset i counts as: its own, or within a composite that of the composite's %
-unfoldable pub sign_at : Sign → ℕ → ℕ
-sign_at Own i = i
-sign_at (Of p) i = p
+unfoldable pub sign_at : Option ℕ → ℕ → ℕ
+sign_at None i = i
+sign_at (Some p) i = p
 
 -- a format opened for a side
 module _ (d : Side) where
   -- what it opens to from offset i on; the next `past` bytes belong to the element before
-  unfoldable pub open_from : (ℕ → ℕ → Opening) → Sign → ℕ → ℕ → List ℕ → Opening
+  unfoldable pub open_from : (ℕ → ℕ → Opening) → Option ℕ → ℕ → ℕ → List ℕ → Opening
   open_from inner g i past [] = nothing Whole
   open_from inner g i (suc past) (b ∷ s) = open_from inner g (i + 1) past s
   open_from inner g i zero (b ∷ s) =
@@ -110,25 +109,25 @@ module _ (d : Side) where
   -- a composite whose % is at `sign`, opened at most `depth` deep: its own format's composites open one less deep, and none opens 0 deep
   unfoldable pub composite_to : ℕ → ℕ → ℕ → Opening
   composite_to zero sign c = nothing (BadAt sign)
-  composite_to (suc depth) sign c = open_from (composite_to depth) (Of sign) 0 0 (own_format c)
+  composite_to (suc depth) sign c = open_from (composite_to depth) (Some sign) 0 0 (own_format c)
 
   -- a format, its composites at most `depth` deep
-  unfoldable pub open_to : ℕ → Sign → List ℕ → Opening
+  unfoldable pub open_to : ℕ → Option ℕ → List ℕ → Opening
   open_to depth g s = open_from (composite_to depth) g 0 0 s
 
   -- composites are opened at most two deep
   unfoldable pub opening : List ℕ → Opening
-  opening s = open_to 2 Own s
+  opening s = open_to 2 None s
 
 -- what opening a format answers: how many elements it has, 1, or 3 with the offset of its first bad %
-unfoldable pub closed : ℕ → Ended → Opened
-closed n Whole = Done n
-closed n (BadAt p) = Bad p
+unfoldable pub closed : ℕ → Ended → Result ℕ Unopened
+closed n Whole = Ok n
+closed n (BadAt p) = Err (Bad p)
 
-unfoldable pub opened : Side → List ℕ → Opened
+unfoldable pub opened : Side → List ℕ → Result ℕ Unopened
 opened d s =
     let o = opening d s in
-    cond (leb (length s) longest) (closed (length o.elements) o.ended) TooLong
+    cond (leb (length s) longest) (closed (length o.elements) o.ended) (Err TooLong)
 
 -- what a slice holds after a format was opened into it: the elements from its start on, as many as fit; as it came where that is too long
 unfoldable pub opened_into : Side → List ℕ → List ℕ → List ℕ

@@ -4,7 +4,7 @@
 mod opening;
 
 pub use opening::{
-    LONGEST, MOST_ELEMENTS, Opened, PLAIN, Side, elements_in, entry_place, open, style_of,
+    LONGEST, MOST_ELEMENTS, Opened, PLAIN, Side, Unopened, elements_in, entry_place, open, style_of,
 };
 
 // The room that a short format and a middling one need: to clear room for the longest takes longer than to write or read by a short one.

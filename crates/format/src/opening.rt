@@ -1,4 +1,4 @@
-ghost use Rattle.std.specs.Prelude.{◌≡◌, ◌&&◌, min, ◌+◌, ◌≤◌, ◌<◌, length, get_or, drop, set};
+ghost use Rattle.std.specs.Prelude.{◌≡◌, ◌&&◌, ◌≤◌, ◌<◌, set};
 ghost use Rattle.std.proofs.lemmas.List.Edits.{sets};
 ghost use Rattle.conversions.specs.Conversions.{is_conversion};
 ghost use Rattle.format.specs.Opening.{longest, conversion_at, signed, piece_of, sign_at, open_to, opened, opened_into, most_elements};
@@ -26,73 +26,61 @@ pub enum Side {
     Reader,
 }
 
-// The offset that a % counts as: its own, or within a composite that of the composite's %.
-#[derive(Clone, Copy)]
-pub enum Sign {
-    Own,
-    Of { at: usize },
-}
-
-// The answer to opening a format: how many elements it has, that it is over 1,024 bytes, or the offset of its first bad %.
-#[derive(Clone, Copy)]
-pub enum Opened {
-    Done { count: usize },
+// Why a format is not opened: it has over 1,024 bytes, or a bad %, with the offset of the first.
+#[derive(Clone, Copy, PartialEq, Eq)]
+pub enum Unopened {
     TooLong,
     Bad { at: usize },
 }
 
+// The answer to opening a format: how many elements it has.
+pub type Opened = Result<usize, Unopened>;
+
 // What stands after %.
+#[tactic(auto, using(conversions::proofs::Seconds::of_conversions), unfolding(crate::specs::Opening::signed))]
 fn signed(side: Side, s: &[u8]) -> Piece
     ensures { result ≡ signed side s.now }
 {
     match side {
         Side::Writer => styled(s),
-        Side::Reader => {
-            if begins_seconds(s) {
-                return Piece {
-                    act: Act::Refuse,
-                    length: 2,
-                };
-            }
-            conversion(s)
-        }
+        Side::Reader if begins_seconds(s) => Piece {
+            act: Act::Refuse,
+            length: 2,
+        },
+        Side::Reader => conversion(s),
     }
 }
 
-// What stands at `at`. A letter right after % that both sides take is looked at first: most conversions have nothing between.
-fn piece_at(side: Side, format: &[u8], at: usize) -> Piece
-    requires { at < length format.now }
-    ensures { result ≡ piece_of side (get_or format.now at 0) (drop (at + 1) format.now) }
+// What `b` and the bytes after it begin with. A letter right after % that both sides take is looked at first: most conversions have
+// nothing between.
+#[tactic(auto, using(crate::proofs::Sides::first_looks), unfolding(crate::specs::Opening::piece_of))]
+fn piece_of(side: Side, b: u8, after: &[u8]) -> Piece
+    ensures { result ≡ piece_of side b after.now }
 {
-    let b = format[at];
     if b != b'%' {
         return Piece {
             act: Act::Byte(b),
             length: 1,
         };
     }
-    let next = at + 1;
-    if format.len() <= next {
+    let [next, ..] = after else {
         return Piece {
             act: Act::Refuse,
             length: 1,
         };
-    }
-    let act = read_letter(format[next]);
-    let Act::Refuse = act else {
-        return Piece { act, length: 2 };
     };
-    signed(side, &format[next..])
+    match read_letter(*next) {
+        Act::Refuse => signed(side, after),
+        act => Piece { act, length: 2 },
+    }
 }
 
-// The offset that the % at `i` counts as.
-fn sign_at(sign: Sign, i: usize) -> usize
+// The offset that the % at `i` counts as: its own, or within a composite that of the composite's %.
+#[tactic(auto, unfolding(crate::specs::Opening::sign_at))]
+fn sign_at(sign: Option<usize>, i: usize) -> usize
     ensures { result ≡ sign_at sign i }
 {
-    match sign {
-        Sign::Own => i,
-        Sign::Of { at } => at,
-    }
+    sign.unwrap_or(i)
 }
 
 // The element of a conversion whose % is at `sign`.
@@ -104,7 +92,7 @@ fn conversion_at(sign: usize, style: Style, letter: u8) -> u32
         + (262144 * style.width as u32 + (256 * (sign as u32 + 1) + letter as u32))
 }
 
-// Stores an element, where there is room.
+// Stores an element, where there is room. (A slice's get_mut says nothing of its elements once the borrow is over.)
 fn store(out: &mut [u32], n: usize, e: u32)
     ensures { out.new ≡ set out.old n e }
 {
@@ -117,7 +105,7 @@ fn store(out: &mut [u32], n: usize, e: u32)
 fn open_to(
     side: Side,
     depth: u32,
-    sign: Sign,
+    sign: Option<usize>,
     format: &[u8],
     out: &mut [u32],
     from: usize,
@@ -129,10 +117,9 @@ fn open_to(
     let mut n = from;
     let mut i = 0;
     while i < format.len() {
-        let piece = piece_at(side, format, i);
+        let piece = piece_of(side, format[i], &format[i + 1..]);
         let next = i + piece.length;
-        let act = piece.act;
-        match act {
+        match piece.act {
             Act::Byte(b) => {
                 store(out, n, b as u32);
                 n += 1;
@@ -144,37 +131,31 @@ fn open_to(
             Act::Open(c) => {
                 let at = sign_at(sign, i);
                 if depth == 0 {
-                    return Opened::Bad { at };
+                    return Err(Unopened::Bad { at });
                 }
-                let own = own_format(c);
-                let bytes = own.0;
-                let len = own.1;
-                let inner = open_to(side, depth - 1, Sign::Of { at }, &bytes[..len], out, n);
-                let Opened::Done { count } = inner else {
-                    return inner;
-                };
-                n = count;
+                n = open_to(side, depth - 1, Some(at), own_format(c), out, n)?;
             }
             Act::Refuse => {
-                return Opened::Bad {
+                return Err(Unopened::Bad {
                     at: sign_at(sign, i),
-                };
+                });
             }
         }
         i = next;
     }
-    Opened::Done { count: n }
+    Ok(n)
 }
 
 // Opens a format: counts its elements, those before its first bad % or all, and stores as many of them as fit at the front of `out`.
+#[tactic(auto, unfolding(crate::specs::Opening::opened, crate::specs::Opening::opened_into, crate::specs::Opening::opening))]
 pub fn open(side: Side, format: &[u8], out: &mut [u32]) -> Opened
     ensures value { result ≡ opened side format.now }
     ensures out_after { out.new ≡ opened_into side format.now out.old }
 {
     if LONGEST < format.len() {
-        return Opened::TooLong;
+        return Err(Unopened::TooLong);
     }
-    open_to(side, 2, Sign::Own, format, out, 0)
+    open_to(side, 2, None, format, out, 0)
 }
 
 pub fn style_of(e: u32) -> Style
@@ -187,41 +168,30 @@ pub fn style_of(e: u32) -> Style
 }
 
 // Whether an entry that is not plain is a conversion with a flag and a width that it takes.
+#[tactic(auto, using(conversions::proofs::Sets::sets), unfolding(crate::specs::Opening::is_element, crate::specs::Opening::is_taken))]
 fn is_styled(e: u32) -> bool
     requires { 262144 ≤ e }
     ensures { result ≡ is_element Side.Writer e }
 {
     let letter = (e % 256) as u8;
-    if !holds(CONVERSIONS, letter) {
-        return false;
-    }
-    if e / 256 % 1024 == 0 {
-        return false;
-    }
     let style = style_of(e);
-    if 99 < style.width {
-        return false;
-    }
-    if !is_flag(style.flag) {
-        return false;
-    }
-    takes_style(style, letter)
+    holds(CONVERSIONS, letter)
+        && e / 256 % 1024 != 0
+        && style.width <= 99
+        && is_flag(style.flag)
+        && takes_style(style, letter)
 }
 
 // Whether a letter stands for a conversion that a side takes without flag and width.
+#[tactic(auto, using(conversions::proofs::Sets::sets), unfolding(crate::specs::Private::takes_letter))]
 fn is_taken(side: Side, letter: u8) -> bool
     ensures { result ≡ (is_conversion letter && takes_letter side letter) }
 {
-    if !holds(CONVERSIONS, letter) {
-        return false;
-    }
-    match side {
-        Side::Writer => true,
-        Side::Reader => is_read(letter),
-    }
+    holds(CONVERSIONS, letter) && (matches!(side, Side::Writer) || is_read(letter))
 }
 
 // Whether an entry is an element.
+#[tactic(auto, using(crate::proofs::Entry::plain_is), unfolding(crate::specs::Opening::is_element, crate::specs::Opening::is_taken))]
 fn is_element(side: Side, e: u32) -> bool
     ensures { result ≡ is_element side e }
 {
@@ -231,46 +201,31 @@ fn is_element(side: Side, e: u32) -> bool
     if e < PLAIN {
         return is_taken(side, (e % 256) as u8);
     }
-    match side {
-        Side::Writer => is_styled(e),
-        Side::Reader => false,
-    }
-}
-
-fn smaller(a: usize, b: usize) -> usize
-    ensures { result ≡ min a b }
-{
-    if a < b { a } else { b }
+    matches!(side, Side::Writer) && is_styled(e)
 }
 
 // How many entries, from the first on, are elements.
 pub fn elements_in(side: Side, elements: &[u32]) -> usize
     ensures { result ≡ elements_in side most_elements elements.now }
 {
-    let most = smaller(elements.len(), MOST_ELEMENTS);
-    let mut k = 0;
-    while k < most {
-        if !is_element(side, elements[k]) {
+    let seen = &elements[..elements.len().min(MOST_ELEMENTS)];
+    for (k, e) in seen.iter().enumerate() {
+        if !is_element(side, *e) {
             return k;
         }
-        k += 1;
     }
-    k
+    seen.len()
 }
 
 // The place of an entry that the reader refuses: the offset of its %, where it is an element for writing, or its index.
+#[tactic(auto, unfolding(crate::specs::Opening::entry_place, crate::specs::Opening::is_element, crate::specs::Opening::is_taken))]
 pub fn entry_place(elements: &[u32], k: usize) -> usize
     ensures { result ≡ entry_place elements.now k }
 {
-    if elements.len() <= k {
-        return k;
+    match elements.get(k) {
+        Some(&e) if is_element(Side::Writer, e) && !is_element(Side::Reader, e) => {
+            (e / 256 % 1024 - 1) as usize
+        }
+        _ => k,
     }
-    let e = elements[k];
-    if !is_element(Side::Writer, e) {
-        return k;
-    }
-    if is_element(Side::Reader, e) {
-        return k;
-    }
-    (e / 256 % 1024 - 1) as usize
 }

@@ -9,18 +9,18 @@ use Rattle.conversions.specs.Pieces.{flag_run, width_run}
 use Rattle.conversions.proofs.Pieces.{rest, styled_is, at_most_three}
 use Rattle.conversions.proofs.Styles.{flag_run_lem, width_run_lem, flag_bytes_lem}
 use Rattle.conversions.proofs.following.styled.Goals as goal
-use Rattle.conversions.proofs.following.styled.Goals.{After-flag_length-from, After-width_at-width}
+use Rattle.conversions.proofs.following.styled.Goals.{After-from-from, After-width_at-width}
 
 -- the flag has so many bytes, and lies within the format
-flag-count : (c : After-flag_length-from) → c.flag_length-from.result ≡ length (flag_run c.args.s.now)
-flag-count c = flag_bytes_lem _ c.flag_at-flag.ensures c.flag_length-from.ensures
+flag-count : (c : After-from-from) → c.from-from.result ≡ length (flag_run c.args.s.now)
+flag-count c = flag_bytes_lem _ c.flag_at-flag.ensures c.from-from.ensures
 
-flag-within : (c : After-flag_length-from) → c.flag_length-from.result ≤ length c.args.s.now
+flag-within : (c : After-from-from) → c.from-from.result ≤ length c.args.s.now
 flag-within c = omega (arith, flag-count c, (flag_run_lem c.args.s.now).within)
 
 -- what stands after it, and the width there
 abbrev after-flag : After-width_at-width → List ℕ
-after-flag c = drop c.flag_length-from.result c.args.s.now
+after-flag c = drop c.from-from.result c.args.s.now
 
 width_is : (c : After-width_at-width)
     → (c.width_at-width.result.value ≡ decimal 0 (width_run (after-flag c)))
@@ -28,14 +28,14 @@ width_is : (c : After-width_at-width)
 width_is c = rw rest at c.width_at-width.ensures
 
 both-within : (c : After-width_at-width)
-    → c.flag_length-from.result + c.width_at-width.result.count ≤ length c.args.s.now
+    → c.from-from.result + c.width_at-width.result.count ≤ length c.args.s.now
 both-within c =
     omega (
       arith,
-      flag-within (goal.at.After-width_at-width c).After-flag_length-from,
+      flag-within (goal.at.After-width_at-width c).After-from-from,
       (width_is c).1,
       (width_run_lem (after-flag c)).within,
-      length-drop c.flag_length-from.result c.args.s.now,
+      length-drop c.from-from.result c.args.s.now,
     )
 
 pub slice_bounds-width_at-count : goal.slice_bounds-width_at-count
@@ -69,7 +69,7 @@ pub returns : goal.returns
 returns c =
     let p = c in
     let w = c in
-    styled_is _ w.flag_at-flag.ensures (flag-count (goal.at.returns c).After-flag_length-from)
+    styled_is _ w.flag_at-flag.ensures (flag-count (goal.at.returns c).After-from-from)
     (width_is (goal.at.returns c).After-width_at-width)
     (rw rest at p.conversion-piece.ensures)
     c.with_style.ensures
