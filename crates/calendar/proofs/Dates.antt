@@ -11,10 +11,11 @@ use borrow.Author.Tests.{le-leb, leb-true}
 use lib.Dec.{eqb, leb}
 use Rattle.calendar.specs.Calendar.{date, sum, year_length, month_lengths, month_length, within, last_year, date_fault, day_of_year}
 use Rattle.calendar.specs.Calendar.{days_before, day_number, days, weekday, year_of, month_of, date_in, date_of}
-use Rattle.calendar.specs.Dates.{from_fields, from_day_number}
+use Rattle.std.specs.Prelude.{Err, Ok, Some}
+use Rattle.laws.proofs.Cases.{clash}
+use Rattle.calendar.specs.Dates.{date_field, from_fields, from_day_number}
+use Rattle.calendar.specs.declared.DateField.{DateField}
 use Rattle.calendar.specs.declared.Date.{Date}
-use Rattle.calendar.specs.declared.FromFields.{FromFields}
-use Rattle.calendar.specs.declared.FromNumber.{FromNumber}
 use Rattle.calendar.proofs.Months.{month_is, month_most, year_months}
 use Rattle.calendar.proofs.Sum.{sum_suc, sum_last, sum_mono, locate}
 use Rattle.calendar.proofs.Years.{year_is, years_closed, days_before_is, days_is}
@@ -191,6 +192,9 @@ pub last_date : date_of days ≡ date 9999 12 31
 unfolding date_fault month_length month_lengths
 last_date = ap date_of (last_day.0 ∙ sym last_day.1) ∙ date_of_number 9999 12 31 (no_fault_valid 9999 12 31 refl)
 
+-- the calendar's ends, for the code, which has them as constants
+pub ruleset ends_are = (first_date, last_date, days_is)
+
 -- a date comes before another
 unfoldable pub Before : (y m d y' m' d' : ℕ) → Type 0
 Before y m d y' m' d' = (y < y') ⊎ ((y ≡ y') × ((m < m') ⊎ ((m ≡ m') × (d < d'))))
@@ -278,23 +282,24 @@ number_before y m d y' m' d' v w h = year (dec_le (suc y) y')
         (eq-or-lt_of_le (omega (arith, l)))
 
 -- what the constructor's answer tells of the fields
-bad_of : (b : Bool) (f g : ℕ) (t : Date) → cond b (FromFields.Valid t) (FromFields.Bad f) ≡ FromFields.Bad g → (b ≡ false) × (f ≡ g)
-bad_of true f g t e = let z : ◌≡◌ {A = ℕ} 0 1 = cc in absurd (omega arith)
+bad_of : (b : Bool) (f g : DateField) (t : Date) → cond b (Ok t) (Err f) ≡ Err g → (b ≡ false) × (f ≡ g)
+bad_of true f g t e = clash (cc)
 bad_of false f g t e = (refl, cc)
 
-valid_of : (b : Bool) (f : ℕ) (t u : Date) → cond b (FromFields.Valid t) (FromFields.Bad f) ≡ FromFields.Valid u → (b ≡ true) × (t ≡ u)
+valid_of : (b : Bool) (f : DateField) (t u : Date) → cond b (Ok t) (Err f) ≡ Ok u → (b ≡ true) × (t ≡ u)
 valid_of true f t u e = (refl, cc)
-valid_of false f t u e = let z : ◌≡◌ {A = ℕ} 0 1 = cc in absurd (omega arith)
+valid_of false f t u e = clash (cc)
 
-pub fields_bad : (y m d f : ℕ) → from_fields y m d ≡ FromFields.Bad f → (eqb (date_fault y m d) 0 ≡ false) × (date_fault y m d ≡ f)
+pub fields_bad : (y m d : ℕ) (f : DateField) → from_fields y m d ≡ Err f
+    → (eqb (date_fault y m d) 0 ≡ false) × (date_field (date_fault y m d) ≡ f)
 unfolding from_fields
-fields_bad y m d f e = bad_of (eqb (date_fault y m d) 0) (date_fault y m d) f (date y m d) e
+fields_bad y m d f e = bad_of (eqb (date_fault y m d) 0) (date_field (date_fault y m d)) f (date y m d) e
 
-pub fields_valid : (y m d : ℕ) (t : Date) → from_fields y m d ≡ FromFields.Valid t → (eqb (date_fault y m d) 0 ≡ true) × (date y m d ≡ t)
+pub fields_valid : (y m d : ℕ) (t : Date) → from_fields y m d ≡ Ok t → (eqb (date_fault y m d) 0 ≡ true) × (date y m d ≡ t)
 unfolding from_fields
-fields_valid y m d t e = valid_of (eqb (date_fault y m d) 0) (date_fault y m d) (date y m d) t e
+fields_valid y m d t e = valid_of (eqb (date_fault y m d) 0) (date_field (date_fault y m d)) (date y m d) t e
 
 -- the constructor from a day number answers the day's date for each day of the calendar
-pub number_day : (k : ℕ) → 0 < k → k ≤ days → from_day_number k ≡ FromNumber.Day (date_of k)
+pub number_day : (k : ℕ) → 0 < k → k ≤ days → from_day_number k ≡ Some (date_of k)
 unfolding from_day_number
 number_day k h l = rw (le-leb 1 k h, le-leb k days l)

@@ -3,11 +3,11 @@
 use Prim.Native.Nat.{ℕ, zero, suc, ◌+◌, ◌-◌, ◌*◌, ◌/◌, ◌≤◌, ◌<◌}
 use mathlib.Core.Bool.{Bool, true, false, cond, ◌&&◌}
 use mathlib.Core.Logic.{⊎_elim}
-use mathlib.Core.Path.{◌≡◌, refl, sym, ap}
+use mathlib.Core.Path.{◌≡◌, refl, sym, ap, ◌∙◌}
 use native.Mathlib.Decide.{dec_le}
 use native.Mathlib.Nat.{eq-or-lt_of_le, lt_of_not-le}
 use native.Mathlib.Omega.{arith}
-use borrow.Author.Tests.{ne_eqb}
+use borrow.Author.Tests.{ne_eqb, le-leb, lt-leb}
 use lib.Dec.{T, eqb, leb, eqb→eq, leb→le, lit≤}
 use lib.ListN.{get_or, get_or-eq_default}
 use Rattle.calendar.specs.Calendar.{sum, leap, year_length, month_length, month_lengths, month_of}
@@ -71,6 +71,24 @@ year_by false = refl
 pub year_months : (y : ℕ) → sum (month_length y) 12 ≡ year_length y
 unfolding year_length month_length months
 year_months y = year_by (leap y)
+
+-- the days of a year before a month, by the month and by whether the year is leap
+module _ (y m : ℕ) where
+  pub early : 0 < m → m ≤ 2 → sum (month_length y) (m - 1) ≡ (367 * m - 362) / 12
+  early p h = omega (arith, rw (lt-leb 3 m (omega arith)) at (month_start_lem y m p (omega arith)))
+
+  module _ (p : 3 ≤ m) (h : m ≤ 12) where
+    pub in_leap : leap y ≡ true → sum (month_length y) (m - 1) + 1 ≡ (367 * m - 362) / 12
+    in_leap e = rw (le-leb 3 m p, e) at (month_start_lem y m (omega arith) h)
+
+    pub in_other : leap y ≡ false → sum (month_length y) (m - 1) + 2 ≡ (367 * m - 362) / 12
+    in_other e = rw (le-leb 3 m p, e) at (month_start_lem y m (omega arith) h)
+
+  pub past_all : 12 < m → sum (month_length y) (m - 1) ≡ year_length y
+  past_all h = month_sum_past y (m - 1) (omega arith) ∙ year_months y
+
+-- for the code, which tells these apart
+pub ruleset starts = (early, in_leap, in_other, past_all)
 
 pub year_length_most : (y : ℕ) → year_length y ≤ 366
 unfolding year_length

@@ -53,6 +53,9 @@ pub number_small : (y m d : ℕ) → y < 2 ^ 16 → d < 2 ^ 8 → day_number y m
 unfolding day_number day_of_year
 number_small y m d p q = omega (arith, days_before_small y p, months_small y (m - 1))
 
+-- for the code, which adds the three parts up
+pub ruleset small_numbers = (months_small, number_small)
+
 pub iso_week_is : (k : ℕ) → iso_week k + (days_before (iso_year k) + 3) / 7 ≡ (thursday k + 3) / 7
 unfolding iso_week iso_year
 iso_week_is k =

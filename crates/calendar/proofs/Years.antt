@@ -88,15 +88,16 @@ year_located k h =
     (l, year_is l.past k l.after l.upto)
 
 -- the estimate of a year from a day number is right, or one year short
-module _ (k : ℕ) (h : 0 < k) where
-  abbrev passed : ℕ
-  passed = (k - 1) * 400 / 146097
+abbrev passed : ℕ → ℕ
+passed k = (k - 1) * 400 / 146097
 
-  pub guess_right : k ≤ sum year_length (suc passed) → year_of k ≡ suc passed
-  guess_right l = year_is passed k (omega (arith, years_below passed)) l
+pub guess_right : (k : ℕ) → k ≤ sum year_length (suc (passed k)) → year_of k ≡ suc (passed k)
+unfolding year_of period_of
+guess_right zero l = refl
+guess_right (suc j) l = year_is (passed (suc j)) (suc j) (omega (arith, years_below (passed (suc j)))) l
 
-  pub guess_short : sum year_length (suc passed) < k → year_of k ≡ suc (suc passed)
-  guess_short l = year_is (suc passed) k l (omega (arith, years_above (suc (suc passed))))
+pub guess_short : (k : ℕ) → sum year_length (suc (passed k)) < k → year_of k ≡ suc (suc (passed k))
+guess_short k l = year_is (suc (passed k)) k l (omega (arith, years_above (suc (suc (passed k)))))
 
 pub days_before_is : (y p : ℕ) → y ≡ suc p → days_before y ≡ sum year_length p
 unfolding days_before

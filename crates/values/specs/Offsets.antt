@@ -3,8 +3,7 @@ use Rattle.std.specs.Prelude.{ℕ, Bool, true, cond, not, ◌&&◌, leb, ℤ, po
 use Rattle.std.specs.Int.Signed.{non_neg}
 use Rattle.values.specs.Values.{day_number_of}
 use Rattle.values.specs.declared.Moment.{Moment}
-use Rattle.values.specs.declared.offsets.Offset.{Offset}
-use Rattle.values.specs.declared.offsets.Offset.TheVariants.{Unsaid, Minutes}
+use Rattle.std.specs.Prelude.{None, Option, Some}
 
 abbrev pub is_negative : ℤ → Bool
 is_negative z = not (non_neg z)
@@ -14,17 +13,17 @@ abbrev pub most_offset : ℕ
 most_offset = 1439
 
 -- an offset that is said lies from -1439 to 1439
-unfoldable pub is_offset : Offset → Bool
-is_offset Unsaid = true
-is_offset (Minutes east) = leb (nat_abs east) most_offset
+unfoldable pub is_offset : Option ℤ → Bool
+is_offset None = true
+is_offset (Some east) = leb (nat_abs east) most_offset
 
 -- The number of a fact is not negative: that of kind 18 is the offset and 1439 more, from 0 to 2878.
 unfoldable pub offset_number : ℤ → ℕ
 offset_number east = nat_abs (east +ℤ pos most_offset)
 
 -- the offset that was said of kind 18, where 0 is nothing and all else is one more than its number; no element says more than 2879
-unfoldable pub offset_of : ℕ → Offset
-offset_of s = cond (leb 1 s && leb s 2879) (Minutes (pos s -ℤ pos 1440)) Unsaid
+unfoldable pub offset_of : ℕ → Option ℤ
+offset_of s = cond (leb 1 s && leb s 2879) (Some (pos s -ℤ pos 1440)) None
 
 -- the day number of 1970-01-01 (proofs/Seconds.antt)
 abbrev pub epoch : ℕ

@@ -1,6 +1,7 @@
 // Moments, and the value that each kind of fact has for one.
 #![tactic(auto)]
 
+mod fields;
 mod offsets;
 
 ghost use Rattle.std.specs.Prelude.{◌≡◌, ◌<◌, ◌^◌, nat_abs};
@@ -9,8 +10,9 @@ ghost use Rattle.values.specs.Offsets.{seconds};
 ghost use Rattle.values.specs.Values.{date_value, hour_of_twelve, half_of_day, hour_value, value};
 
 use calendar::Date;
+pub use fields::Field;
 use offsets::is_offset;
-pub use offsets::{Offset, is_negative, magnitude, offset_of};
+pub use offsets::{is_negative, magnitude, offset_of};
 
 #[derive(Clone, Copy)]
 pub struct Moment {
@@ -18,17 +20,12 @@ pub struct Moment {
     pub hour: u8,
     pub minute: u8,
     pub second: u8,
-    pub offset: Offset,
-}
-
-// What seven fields give: a moment, or the first bad one: 1 year, 2 month, 3 day, 4 hour, 5 minute, 6 second, 7 offset.
-#[derive(Clone, Copy)]
-pub enum MomentFields {
-    Valid(Moment),
-    Bad(u8),
+    pub offset: Option<i32>,
 }
 
 impl Moment {
+    // The moment with these fields, or the first bad one.
+    #[tactic(auto, unfolding(crate::specs::Moments::computes, calendar::specs::Dates::computes, calendar::specs::Calendar::date_fault))]
     pub fn from_fields(
         year: u32,
         month: u32,
@@ -36,37 +33,34 @@ impl Moment {
         hour: u32,
         minute: u32,
         second: u32,
-        offset: Offset,
-    ) -> MomentFields
+        offset: Option<i32>,
+    ) -> Result<Moment, Field>
         ensures { result ≡ moment_of year month day hour minute second offset }
     {
-        match Date::from_fields(year, month, day) {
-            calendar::FromFields::Bad(field) => MomentFields::Bad(field),
-            calendar::FromFields::Valid(date) => {
-                if 23 < hour {
-                    return MomentFields::Bad(4);
-                }
-                if 59 < minute {
-                    return MomentFields::Bad(5);
-                }
-                if 60 < second {
-                    return MomentFields::Bad(6);
-                }
-                if !is_offset(offset) {
-                    return MomentFields::Bad(7);
-                }
-                MomentFields::Valid(Moment {
-                    date,
-                    hour: hour as u8,
-                    minute: minute as u8,
-                    second: second as u8,
-                    offset,
-                })
-            }
+        let date = Date::from_fields(year, month, day)?;
+        if 23 < hour {
+            return Err(Field::Hour);
         }
+        if 59 < minute {
+            return Err(Field::Minute);
+        }
+        if 60 < second {
+            return Err(Field::Second);
+        }
+        if !is_offset(offset) {
+            return Err(Field::Offset);
+        }
+        Ok(Moment {
+            date,
+            hour: hour as u8,
+            minute: minute as u8,
+            second: second as u8,
+            offset,
+        })
     }
 
     // The value of a kind of fact.
+    #[tactic(auto, unfolding(crate::specs::Values::value))]
     pub fn value(self, kind: u32) -> u32
         ensures { result ≡ value kind self }
     {
@@ -99,6 +93,7 @@ impl Moment {
 const EPOCH: i64 = 719163;
 
 // The value of a kind that bears on the day.
+#[tactic(auto, unfolding(crate::specs::Values::date_value, crate::specs::Values::date_values))]
 pub fn date_value(kind: u32, date: Date) -> u32
     ensures { result ≡ date_value kind date }
 {
@@ -119,25 +114,22 @@ pub fn date_value(kind: u32, date: Date) -> u32
     }
 }
 
+#[tactic(auto, unfolding(crate::specs::Values::hour_of_twelve))]
 pub fn hour_of_twelve(hour: u32) -> u32
     ensures { result ≡ hour_of_twelve hour }
 {
-    if hour % 12 == 0 {
-        return 12;
-    }
-    hour % 12
+    if hour % 12 == 0 { 12 } else { hour % 12 }
 }
 
+#[tactic(auto, unfolding(crate::specs::Values::half_of_day))]
 pub fn half_of_day(hour: u32) -> u32
     ensures { result ≡ half_of_day hour }
 {
-    if 12 <= hour {
-        return 1;
-    }
-    0
+    u32::from(12 <= hour)
 }
 
 // The value of a kind that bears on the hour.
+#[tactic(auto, unfolding(crate::specs::Values::hour_value))]
 pub fn hour_value(kind: u32, hour: u32) -> u32
     ensures { result ≡ hour_value kind hour }
 {

@@ -2,12 +2,6 @@
 ghost use Rattle.std.specs.Prelude.{◌≡◌, nat_abs};
 ghost use Rattle.values.specs.Offsets.{is_offset, is_negative, offset_of};
 
-#[derive(Clone, Copy)]
-pub enum Offset {
-    Unsaid,
-    Minutes(i32),
-}
-
 pub fn is_negative(z: i64) -> bool
     ensures { result ≡ is_negative z }
 {
@@ -18,31 +12,27 @@ pub fn is_negative(z: i64) -> bool
 pub fn magnitude(z: i64) -> u64
     ensures { result ≡ nat_abs z }
 {
-    if is_negative(z) {
-        return (-(z + 1)) as u64 + 1;
-    }
-    z as u64
+    z.unsigned_abs()
 }
 
 // Whether an offset is one, if it is said.
-pub(crate) fn is_offset(offset: Offset) -> bool
+#[tactic(auto, unfolding(crate::specs::Offsets::is_offset))]
+pub(crate) fn is_offset(offset: Option<i32>) -> bool
     ensures { result ≡ is_offset offset }
 {
     match offset {
-        Offset::Unsaid => true,
-        Offset::Minutes(east) => magnitude(east as i64) <= 1439,
+        None => true,
+        Some(east) => east.unsigned_abs() <= 1439,
     }
 }
 
 // The offset that was said of kind 18.
-pub fn offset_of(said: u32) -> Offset
+#[tactic(auto, unfolding(crate::specs::Offsets::offset_of))]
+pub fn offset_of(said: u32) -> Option<i32>
     ensures { result ≡ offset_of said }
 {
-    if said == 0 {
-        return Offset::Unsaid;
+    match said {
+        1..=2879 => Some(said as i32 - 1440),
+        _ => None,
     }
-    if 2879 < said {
-        return Offset::Unsaid;
-    }
-    Offset::Minutes(said as i32 - 1440)
 }

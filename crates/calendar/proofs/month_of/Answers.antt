@@ -16,8 +16,8 @@ returns-then-n-days_before_month c =
     = omega (arith, c.days_before_month.ensures, ap (sum (month_length y)) next) in
     omega (arith, month_right y n (omega arith) (omega arith) ends)
 
-pub returns : goal.returns
-returns c =
+pub returns-else-n-days_before_month : goal.returns-else-n-days_before_month
+returns-else-n-days_before_month c =
     let y = c.args.year in
     let n = c.args.n in
     let q = (n - 1) / 31 in

@@ -1,6 +1,6 @@
 -- `calendar::Date::from_day_number` meets its contract. Assumes nothing.
 use native.Mathlib.Omega.{arith}
-use borrow.Author.Tests.{le-leb, lt-leb}
+use borrow.Author.Tests.{le-leb}
 use Rattle.calendar.specs.Calendar.{days, date_of, date_in}
 use Rattle.calendar.specs.Dates.{from_day_number}
 use Rattle.calendar.proofs.Dates.{parts}
@@ -9,11 +9,7 @@ use Rattle.calendar.proofs.Date.from_day_number.Goals as goal
 
 pub returns-then-k-lt1 : goal.returns-then-k-lt1
 unfolding from_day_number
-returns-then-k-lt1 c = simp (lt-leb 1 c.args.k (omega arith))
-
-pub returns-then-k-gt-DAYS : goal.returns-then-k-gt-DAYS
-unfolding from_day_number
-returns-then-k-gt-DAYS c = simp (le-leb 1 c.args.k (omega arith), lt-leb c.args.k days (omega (arith, days_is)))
+returns-then-k-lt1 c = grind (arith, days_is, c.then-k-lt1.either)
 
 pub days_before-requires : goal.days_before-requires
 days_before-requires c =
