@@ -1,6 +1,6 @@
 -- A test of every kind of a list: at each member, over two lists, and over numbers in a row, one at a time.
 -- Assumes nothing.
-use Prim.Native.Nat.{ℕ, suc, ◌+◌, ◌-◌, ◌≤◌, ◌<◌}
+use Prim.Native.Nat.{ℕ, zero, suc, ◌+◌, ◌-◌, ◌≤◌, ◌<◌}
 use mathlib.Core.Bool.{Bool, true, false, ◌&&◌, and_assoc}
 use mathlib.Core.List.{List, [], ◌∷◌, ◌++◌, map}
 use mathlib.Core.List.Memᴰ
@@ -9,6 +9,7 @@ use mathlib.Core.Logic.{⊎_elim}
 use mathlib.Core.Path.{◌≡◌, refl, sym, ap, ap₂, ◌∙◌}
 use native.Mathlib.Numerals.{add-one}
 use native.Mathlib.Omega.{arith}
+use Rattle.std.specs.List.{list_all, range_with_len}
 use Rattle.laws.specs.Lists.{every, range}
 
 module _ (p : ℕ → Bool) where
@@ -35,6 +36,12 @@ map_member f g (x ∷ ks) e k m =
     let here : f x ≡ g x = cc in
     let more : map f ks ≡ map g ks = cc in
     ⊎_elim (λ s. ap f s ∙ here ∙ sym (ap g s)) (λ n. map_member f g ks more k n) (Memᴰ.cases_cons m)
+
+-- what `all` answers over numbers in a row
+pub every_all : (p : ℕ → Bool) (k n : ℕ) → list_all p (range_with_len k n) ≡ every p (range k n)
+unfolding every range
+every_all p k zero = refl
+every_all p k (suc n) = rw add-one (ap (λ (t : Bool). p k && t) (every_all p (suc k) n))
 
 module _ (p : ℕ → Bool) (k to : ℕ) where
   pub every_turn : k ≤ to → p k ≡ true → every p (range k (to + 1 - k)) ≡ every p (range (k + 1) (to + 1 - (k + 1)))

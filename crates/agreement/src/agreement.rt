@@ -1,30 +1,31 @@
 // Agreement: the value that the writer would write is the one that was said.
 ghost use Rattle.std.specs.Prelude.{◌≡◌};
-ghost use Rattle.values.specs.Values.{hour_value};
-ghost use Rattle.agreement.specs.Agreement.{agrees, hour_agrees};
+ghost use Rattle.agreement.specs.Agreement.{said, agrees, hour_agrees};
 
 use crate::Facts;
+use kinds::{FIRST_HOUR_KIND, LAST_HOUR_KIND};
+use values::hour_value;
 
-// Whether what was said of an hour fact, if anything was, is its value.
-fn hour_kind_agrees(said: u32, kind: u32, hour: u32) -> bool
-    ensures { result ≡ agrees said (hour_value kind hour) }
-{
-    if said == 0 {
-        return true;
+impl Facts {
+    // What was said of a kind: 0 where nothing was, else one more than the number.
+    pub fn said(&self, kind: u32) -> u32
+        ensures { result ≡ said self.now kind }
+    {
+        self.said.get(kind as usize).copied().unwrap_or(0)
     }
-    said - 1 == values::hour_value(kind, hour)
+
+    // Whether what was said of a kind, if anything was, is this value.
+    #[tactic(auto, unfolding(crate::specs::Agreement::agrees))]
+    pub fn agree(&self, kind: u32, value: u32) -> bool
+        ensures { result ≡ agrees (said self.now kind) value }
+    {
+        let said = self.said(kind);
+        said == 0 || said - 1 == value
+    }
 }
 
 pub fn hour_agrees(facts: Facts, hour: u32) -> bool
     ensures { result ≡ hour_agrees facts hour }
 {
-    let said = facts.said;
-    let mut kind = kinds::FIRST_HOUR_KIND;
-    while kind <= kinds::LAST_HOUR_KIND {
-        if !hour_kind_agrees(said[kind as usize], kind, hour) {
-            return false;
-        }
-        kind += 1;
-    }
-    true
+    (FIRST_HOUR_KIND..LAST_HOUR_KIND + 1).all(|kind| facts.agree(kind, hour_value(kind, hour)))
 }

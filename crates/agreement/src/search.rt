@@ -7,6 +7,7 @@ use crate::agreement::hour_agrees;
 use crate::{Facts, Found};
 
 // What is found once `number` has passed too: two stay as they are.
+#[tactic(auto, unfolding(crate::specs::Search::hit))]
 pub fn hit(number: u32, found: Found) -> Found
     ensures { result ≡ hit number found }
 {
@@ -16,21 +17,15 @@ pub fn hit(number: u32, found: Found) -> Found
             first,
             second: number,
         },
-        Found::Two { first, second } => Found::Two { first, second },
+        Found::Two { .. } => found,
     }
 }
 
+#[tactic(auto, unfolding(crate::specs::Search::is_two))]
 pub fn is_two(found: Found) -> bool
     ensures { result ≡ is_two found }
 {
-    match found {
-        Found::Nothing => false,
-        Found::One(_) => false,
-        Found::Two {
-            first: _,
-            second: _,
-        } => true,
-    }
+    matches!(found, Found::Two { .. })
 }
 
 // The first two hours that agree with all hour facts.
@@ -38,15 +33,13 @@ pub fn search_hours(facts: Facts) -> Found
     ensures { result ≡ first_two (hour_agrees facts) 0 24 }
 {
     let mut found = Found::Nothing;
-    let mut hour: u32 = 0;
-    while hour < 24 {
+    for hour in 0..24 {
         if hour_agrees(facts, hour) {
             found = hit(hour, found);
             if is_two(found) {
                 break;
             }
         }
-        hour += 1;
     }
     found
 }

@@ -4,6 +4,7 @@ ghost use Rattle.agreement.specs.Verdicts.{verdict_of};
 
 use crate::{Found, Verdict};
 
+#[tactic(auto, unfolding(crate::specs::Verdicts::verdict_of))]
 pub fn verdict_of(found: Found) -> Verdict
     ensures { result ≡ verdict_of found }
 {

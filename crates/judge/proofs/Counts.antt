@@ -359,3 +359,10 @@ module _ (s y : ℕ) where
             | yes l ↦ (let z : s - 1 ≡ 0 = omega arith in rw (le-leb (s - 1) (m - 1) l, z, no_month_0 y) (omega arith))
             | no l ↦ rw (lt-leb (s - 1) (m - 1) (lt_of_not-le l)) (omega arith)
           ])
+
+-- the cases of each count, for the functions that tell them apart
+pub ruleset endings = (ending_unsaid, ending_none, ending_some)
+
+pub ruleset leap_endings = (leap_unsaid, leap_none, leap_centuries, leap_all)
+
+pub ruleset days_in_year = (in_year_unsaid, in_year_early, in_year_at, in_year_late)

@@ -6,12 +6,14 @@ use Rattle.agreement.specs.Agreement.{day_borne, all_agree}
 use Rattle.agreement.specs.Search.{through}
 use Rattle.agreement.specs.Verdicts.{days_found, day_verdict}
 use Rattle.agreement.specs.declared.Facts.{Facts}
+use Rattle.agreement.specs.declared.Verdict.{Verdict}
 use Rattle.judge.specs.declared.Engine.{Engine}
 use Rattle.judge.specs.declared.Engine.TheVariants.{Skipping, Plain, Within}
-use Rattle.judge.specs.declared.Searched.{Searched}
-use Rattle.judge.specs.declared.Searched.TheVariants.{Judged, OverBudget}
 use Rattle.kinds.specs.Kinds as kinds
 use Rattle.values.specs.Values.{date_value}
+use Rattle.std.specs.Prelude.{Err, Ok, Result}
+use Rattle.judge.specs.declared.Judged.{Judged}
+use Rattle.judge.specs.declared.OverBudget.{OverBudget}
 
 -- the last day that is examined
 unfoldable pub last_examined : Facts → ℕ
@@ -41,17 +43,24 @@ skipping_count f = month_days f (last_examined f)
 unfoldable pub counted : Facts → ℕ → ℕ
 counted f n = cond (day_borne f) n 0
 
+-- what an engine gives, and that a budget is too small
+abbrev pub judged_by : Verdict → ℕ → Judged
+judged_by v n = record { verdict = v; examined = n }
+
+abbrev pub over_by : ℕ → OverBudget
+over_by b = record { budget = b }
+
 -- what the plain engine gives without a budget: the verdict with its count
-unfoldable pub plain_searched : Facts → Searched
-plain_searched f = Judged (day_verdict f) (counted f (plain_count f))
+unfoldable pub plain_searched : Facts → Result Judged OverBudget
+plain_searched f = Ok (judged_by (day_verdict f) (counted f (plain_count f)))
 
 -- what an engine gives; 11 where its budget is smaller than the count without one
-unfoldable pub searched : Engine → Facts → Searched
-searched Skipping f = Judged (day_verdict f) (counted f (skipping_count f))
+unfoldable pub searched : Engine → Facts → Result Judged OverBudget
+searched Skipping f = Ok (judged_by (day_verdict f) (counted f (skipping_count f)))
 searched Plain f = plain_searched f
 searched (Within budget) f =
     let enough = plain_searched f in
-    cond (leb (counted f (plain_count f)) budget) enough (OverBudget budget)
+    cond (leb (counted f (plain_count f)) budget) enough (Err (over_by budget))
 
 -- everything here, for proofs that compute
 unfoldable pub computes : Unit {0}

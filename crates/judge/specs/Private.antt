@@ -1,6 +1,7 @@
 -- What the engines work with: what each gives where a fact bears on the day, what facts leave of years, months and days, what repeats,
 -- and the count.
-use Rattle.std.specs.Prelude.{ℕ, ◌+◌, ◌-◌, ◌*◌, ◌/◌, ◌%◌, min, max, Bool, true, cond, not, ◌&&◌, List, [], ◌∷◌, eqb, leb}
+use Rattle.std.specs.Prelude.{ℕ, ◌+◌, ◌-◌, ◌*◌, ◌/◌, ◌%◌, min, max, Bool, true, cond, not, ◌&&◌, List, [], ◌∷◌, Option, Some, None, eqb}
+use Rattle.std.specs.Prelude.{leb}
 use Rattle.calendar.specs.Calendar.{sum, leap, year_length, month_length}
 use Rattle.agreement.specs.Agreement.{said, none_said, agrees}
 use Rattle.agreement.specs.Verdicts.{verdict_of, days_found}
@@ -8,27 +9,29 @@ use Rattle.agreement.specs.declared.Facts.{Facts}
 use Rattle.agreement.specs.declared.Found.{Found}
 use Rattle.agreement.specs.declared.Found.TheVariants.{Nothing, One, Two}
 use Rattle.judge.specs.Engines.{plain_count, skipping_count}
-use Rattle.judge.specs.declared.Searched.{Searched}
-use Rattle.judge.specs.declared.Searched.TheVariants.{Judged, OverBudget}
-use Rattle.judge.specs.declared.plain.Scanned.{Scanned}
-use Rattle.judge.specs.declared.plain.Scanned.TheVariants.{Ended, Over}
+use Rattle.judge.specs.declared.plain.Scan.{Scan}
 use Rattle.judge.specs.declared.spans.Span.{Span}
 use Rattle.kinds.specs.Kinds as kinds
+use Rattle.std.specs.Prelude.{Err, Ok, Result}
+use Rattle.judge.specs.Engines.{judged_by, over_by}
+use Rattle.judge.specs.declared.Judged.{Judged}
+use Rattle.judge.specs.declared.OverBudget.{OverBudget}
 
 -- ---- what each engine gives where a fact bears on the day
 
-unfoldable pub scanned : ℕ → Facts → Scanned
-scanned budget f =
-    let ended = Ended (days_found f) (plain_count f) in
-    cond (leb (plain_count f) budget) ended Over
+abbrev pub scan : Found → ℕ → Scan
+scan h n = record { found = h; examined = n }
 
-unfoldable pub plainly : ℕ → Facts → Searched
+unfoldable pub scanned : ℕ → Facts → Option Scan
+scanned budget f = cond (leb (plain_count f) budget) (Some (scan (days_found f) (plain_count f))) None
+
+unfoldable pub plainly : ℕ → Facts → Result Judged OverBudget
 plainly budget f =
-    let enough = Judged (verdict_of (days_found f)) (plain_count f) in
-    cond (leb (plain_count f) budget) enough (OverBudget budget)
+    let enough = Ok (judged_by (verdict_of (days_found f)) (plain_count f)) in
+    cond (leb (plain_count f) budget) enough (Err (over_by budget))
 
-unfoldable pub skipping_judged : Facts → Searched
-skipping_judged f = Judged (verdict_of (days_found f)) (skipping_count f)
+unfoldable pub skipping_judged : Facts → Judged
+skipping_judged f = judged_by (verdict_of (days_found f)) (skipping_count f)
 
 -- ---- the kinds that a day's test takes last, and only where one of them was said
 

@@ -5,14 +5,15 @@ ghost use Rattle.agreement.specs.Search.{through};
 ghost use Rattle.judge.specs.Engines.{month_days};
 ghost use Rattle.judge.specs.Private.{said_days, ending_years, leap_ending_years, ending_days, whole_years, in_year};
 
-use crate::spans::{earlier, said_of, said_years};
+use crate::spans::said_years;
 use crate::testing::date_kinds_agree;
 use agreement::{Facts, Found};
-use calendar::{Date, FromNumber, month_length, year_length};
+use calendar::{Date, month_length, year_length};
 
 // ---- The years
 
 // The days of a year in the month that was said, or all of them.
+#[tactic(auto, unfolding(crate::specs::Private::said_days))]
 fn said_days(said: u32, year: u32) -> u32
     ensures { result ≡ said_days said year }
 {
@@ -23,6 +24,7 @@ fn said_days(said: u32, year: u32) -> u32
 }
 
 // How many of the years 1 to `last` end in what was said of the year in the century.
+#[tactic(auto, using(crate::proofs::Counts::endings))]
 fn ending_years(said: u32, last: u32) -> u32
     requires { last ≤ last_year }
     ensures { result ≡ ending_years said last }
@@ -38,6 +40,7 @@ fn ending_years(said: u32, last: u32) -> u32
 }
 
 // How many of those are leap: all or none where they do not end a century.
+#[tactic(auto, using(crate::proofs::Counts::leap_endings))]
 fn leap_ending_years(said: u32, last: u32) -> u32
     requires { last ≤ last_year }
     ensures { result ≡ leap_ending_years said last }
@@ -56,24 +59,24 @@ fn leap_ending_years(said: u32, last: u32) -> u32
 }
 
 // The days of those years in the month that was said. Years 4 and 1 stand for all that are leap and all that are not.
-fn ending_days(facts: Facts, last: u32) -> u32
+fn ending_days(facts: &Facts, last: u32) -> u32
     requires { last ≤ last_year }
-    ensures { result ≡ ending_days facts last }
+    ensures { result ≡ ending_days facts.now last }
 {
-    let ending = said_of(facts, kinds::YEAR_IN_CENTURY);
-    let month = said_of(facts, kinds::MONTH);
+    let ending = facts.said(kinds::YEAR_IN_CENTURY);
+    let month = facts.said(kinds::MONTH);
     let leap = leap_ending_years(ending, last);
     let common = ending_years(ending, last) - leap;
     said_days(month, 4) * leap + said_days(month, 1) * common
 }
 
 // The days of the years 1 to `last` in months that agree.
-fn whole_years(facts: Facts, last: u32) -> u32
+fn whole_years(facts: &Facts, last: u32) -> u32
     requires { last ≤ last_year }
-    ensures { result ≡ whole_years facts last }
+    ensures { result ≡ whole_years facts.now last }
 {
     let span = said_years(facts, Date::LAST.year as u32);
-    let end = earlier(last, span.last);
+    let end = last.min(span.last);
     if end < span.first {
         return 0;
     }
@@ -83,6 +86,7 @@ fn whole_years(facts: Facts, last: u32) -> u32
 // ---- The last year
 
 // The days of the date's year in months that agree, through the date.
+#[tactic(auto, using(crate::proofs::Counts::days_in_year))]
 fn in_year(said: u32, date: Date) -> u32
     ensures { result ≡ in_year said date.year date.month date.day }
 {
@@ -100,36 +104,36 @@ fn in_year(said: u32, date: Date) -> u32
 }
 
 // The days in months that agree, through the date.
-fn date_through(facts: Facts, date: Date) -> u32
+fn date_through(facts: &Facts, date: Date) -> u32
     requires { date_fault date.year date.month date.day ≡ 0 }
-    ensures { result ≡ month_days facts (day_number date.year date.month date.day) }
+    ensures { result ≡ month_days facts.now (day_number date.year date.month date.day) }
 {
     let years = whole_years(facts, date.year as u32 - 1);
     if !date_kinds_agree(facts, date, kinds::YEAR, kinds::YEAR_IN_CENTURY) {
         return years;
     }
-    years + in_year(said_of(facts, kinds::MONTH), date)
+    years + in_year(facts.said(kinds::MONTH), date)
 }
 
 // The same through a day, by its day number.
-fn day_through(facts: Facts, number: u32) -> u32
+fn day_through(facts: &Facts, number: u32) -> u32
     requires { (0 < number) × (number ≤ days) }
-    ensures { result ≡ month_days facts number }
+    ensures { result ≡ month_days facts.now number }
 {
     match Date::from_day_number(number) {
-        FromNumber::Day(date) => date_through(facts, date),
-        FromNumber::Outside => 0,
+        Some(date) => date_through(facts, date),
+        None => 0,
     }
 }
 
 // The days in months that agree, through the last that is examined: the second that was found, else the calendar's last.
-pub(crate) fn month_days_through(facts: Facts, found: Found) -> u32
+#[tactic(auto, using(crate::proofs::CountedDays::all_through), unfolding(agreement::specs::Search::through))]
+pub(crate) fn month_days_through(facts: &Facts, found: Found) -> u32
     requires { (0 < through days found) × (through days found ≤ days) }
-    ensures { result ≡ month_days facts (through days found) }
+    ensures { result ≡ month_days facts.now (through days found) }
 {
     match found {
-        Found::Nothing => whole_years(facts, Date::LAST.year as u32),
-        Found::One(_) => whole_years(facts, Date::LAST.year as u32),
+        Found::Nothing | Found::One(_) => whole_years(facts, Date::LAST.year as u32),
         Found::Two { first: _, second } => day_through(facts, second),
     }
 }

@@ -20,9 +20,15 @@ pub enum Engine {
     Within { budget: u32 },
 }
 
-// What an engine gives: the verdict on the day and how many days it examined, or that there are more to examine than its budget.
+// What an engine gives: the verdict on the day, and how many days it examined.
 #[derive(Clone, Copy)]
-pub enum Searched {
-    Judged { verdict: Verdict, examined: u32 },
-    OverBudget { budget: u32 },
+pub struct Judged {
+    pub verdict: Verdict,
+    pub examined: u32,
+}
+
+// There are more days to examine than the budget allows.
+#[derive(Clone, Copy, PartialEq, Eq)]
+pub struct OverBudget {
+    pub budget: u32,
 }

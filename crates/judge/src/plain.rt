@@ -2,60 +2,53 @@
 ghost use Rattle.std.specs.Prelude.{◌≡◌};
 ghost use Rattle.judge.specs.Private.{scanned, plainly};
 
-use crate::Searched;
 use crate::testing::{any_said, date_at, day_agrees};
+use crate::{Judged, OverBudget};
 use agreement::{Facts, Found, hit, is_two, verdict_of};
 use calendar::{Date, month_length};
 
-// What a scan comes to: the days found and how many were examined, or that the budget was used up before.
+// What a scan comes to: the days found and how many were examined.
 #[derive(Clone, Copy)]
-pub enum Scanned {
-    Ended { found: Found, examined: u32 },
-    Over,
+pub struct Scan {
+    pub found: Found,
+    pub examined: u32,
 }
 
-fn scan_days(facts: Facts, budget: u32) -> Scanned
+// None where the budget is used up before.
+fn scan_days(facts: Facts, budget: u32) -> Option<Scan>
     ensures { result ≡ scanned budget facts }
 {
-    let iso = any_said(facts, kinds::ISO_YEAR, kinds::ISO_WEEK);
+    let iso = any_said(&facts, kinds::ISO_YEAR, kinds::ISO_WEEK);
     let mut found = Found::Nothing;
     let mut examined = 0;
-    let mut year = Date::FIRST.year as u32;
-    'years: while year <= Date::LAST.year as u32 {
+    'years: for year in Date::FIRST.year as u32..Date::LAST.year as u32 + 1 {
         let before = examined;
-        let mut month = Date::FIRST.month as u32;
-        while month <= Date::LAST.month as u32 {
-            let length = month_length(year, month);
-            let mut day = Date::FIRST.day as u32;
-            while day <= length {
+        for month in Date::FIRST.month as u32..Date::LAST.month as u32 + 1 {
+            for day in Date::FIRST.day as u32..month_length(year, month) + 1 {
                 if examined == budget {
-                    return Scanned::Over;
+                    return None;
                 }
                 examined += 1;
-                if day_agrees(facts, iso, date_at(year, month, day), examined, before) {
+                if day_agrees(&facts, iso, date_at(year, month, day), examined, before) {
                     found = hit(examined, found);
                     if is_two(found) {
                         break 'years;
                     }
                 }
-                day += 1;
             }
-            month += 1;
         }
-        year += 1;
     }
-    Scanned::Ended { found, examined }
+    Some(Scan { found, examined })
 }
 
 // The verdict and the days examined, or that there are more than the budget.
-pub(crate) fn judge_plainly(facts: Facts, budget: u32) -> Searched
+#[tactic(auto, using(crate::proofs::Budget::ended_plainly, crate::proofs::Budget::over_plainly))]
+pub(crate) fn judge_plainly(facts: Facts, budget: u32) -> Result<Judged, OverBudget>
     ensures { result ≡ plainly budget facts }
 {
-    match scan_days(facts, budget) {
-        Scanned::Ended { found, examined } => Searched::Judged {
-            verdict: verdict_of(found),
-            examined,
-        },
-        Scanned::Over => Searched::OverBudget { budget },
-    }
+    let scan = scan_days(facts, budget).ok_or(OverBudget { budget })?;
+    Ok(Judged {
+        verdict: verdict_of(scan.found),
+        examined: scan.examined,
+    })
 }

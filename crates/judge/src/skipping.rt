@@ -6,14 +6,14 @@ ghost use Rattle.agreement.specs.Search.{first_two};
 ghost use Rattle.agreement.specs.Verdicts.{days_found};
 ghost use Rattle.judge.specs.Private.{date_said, named, cycle, first_of, repeated_found, skipping_judged};
 
-use crate::Searched;
+use crate::Judged;
 use crate::counting::month_days_through;
 use crate::spans::{
-    first_year, month_days, month_span, month_start, said_of, year_days, year_span, year_step,
+    first_year, month_days, month_span, month_start, year_days, year_span, year_step,
 };
 use crate::testing::{any_said, date_at, date_kinds_agree, day_agrees};
 use agreement::{Facts, Found, hit, is_two, verdict_of};
-use calendar::{Date, FromFields, month_length, year_length};
+use calendar::{Date, month_length, year_length};
 
 // All but the year's number repeats after so many years, which have so many days: whole weeks.
 const CYCLE_YEARS: u32 = 400;
@@ -25,78 +25,63 @@ fn search_years(facts: Facts, horizon: u32) -> Found
     requires { horizon ≤ last_year }
     ensures { result ≡ first_two (day_agrees facts) 1 (sum year_length horizon) }
 {
-    let iso = any_said(facts, kinds::ISO_YEAR, kinds::ISO_WEEK);
-    let years = year_span(facts, horizon);
-    let step = year_step(facts);
+    let iso = any_said(&facts, kinds::ISO_YEAR, kinds::ISO_WEEK);
+    let years = year_span(&facts, horizon);
+    let first = first_year(&facts, years.first);
+    let step = year_step(&facts) as usize;
     let mut found = Found::Nothing;
-    let mut year = first_year(facts, years.first);
-    'years: while year <= years.last {
+    'years: for year in (first..years.last + 1).step_by(step) {
         let before = date_at(year, 1, 1).day_number() - 1;
-        let days = year_days(facts, before, year_length(year));
-        let months = month_span(facts, year);
-        let mut month = months.first;
-        while month <= months.last {
+        let days = year_days(&facts, before, year_length(year));
+        let months = month_span(&facts, year);
+        for month in months.first..months.last + 1 {
             let start = month_start(before, year, month);
-            let span = month_days(facts, days, start, month_length(year, month));
-            let mut number = span.first;
-            while number <= span.last {
-                if day_agrees(
-                    facts,
-                    iso,
-                    date_at(year, month, number - start),
-                    number,
-                    before,
-                ) {
+            let span = month_days(&facts, days, start, month_length(year, month));
+            for number in span.first..span.last + 1 {
+                let date = date_at(year, month, number - start);
+                if day_agrees(&facts, iso, date, number, before) {
                     found = hit(number, found);
                     if is_two(found) {
                         break 'years;
                     }
                 }
-                number += 1;
             }
-            month += 1;
         }
-        year += step;
     }
     found
 }
 
 // Whether anything was said that names years: the year, the century or the ISO year.
+#[tactic(auto, unfolding(crate::specs::Private::named, laws::specs::Lists::every))]
 fn named(facts: Facts) -> bool
     ensures { result ≡ named facts }
 {
-    if any_said(facts, kinds::YEAR, kinds::CENTURY) {
-        return true;
-    }
-    any_said(facts, kinds::ISO_YEAR, kinds::ISO_YEAR)
+    facts.said(kinds::YEAR) != 0
+        || facts.said(kinds::CENTURY) != 0
+        || facts.said(kinds::ISO_YEAR) != 0
 }
 
 // What is found in all years, from what is found in the first of the cycles that repeat.
+#[tactic(auto, unfolding(crate::specs::Private::repeated_found, crate::specs::Private::first_of))]
 fn repeated(found: Found) -> Found
     requires { first_of found ≤ cycle }
     ensures { result ≡ repeated_found found }
 {
     match found {
-        Found::Nothing => Found::Nothing,
         Found::One(first) => Found::Two {
             first,
             second: first + CYCLE_DAYS,
         },
-        Found::Two { first, second } => Found::Two { first, second },
+        Found::Nothing | Found::Two { .. } => found,
     }
 }
 
 // Whether the whole date was said: year, month and day.
+#[tactic(auto, unfolding(crate::specs::Private::date_said))]
 fn date_said(facts: Facts) -> bool
     ensures { result ≡ date_said facts }
 {
-    if said_of(facts, kinds::YEAR) == 0 {
-        return false;
-    }
-    if said_of(facts, kinds::MONTH) == 0 {
-        return false;
-    }
-    said_of(facts, kinds::DAY) != 0
+    facts.said(kinds::YEAR) != 0 && facts.said(kinds::MONTH) != 0 && facts.said(kinds::DAY) != 0
 }
 
 // Then no other day can agree: what most texts say is answered without a search. The test is not the one for a day of a scan, which the
@@ -105,13 +90,13 @@ fn search_date(facts: Facts) -> Found
     requires { date_said facts ≡ true }
     ensures { result ≡ days_found facts }
 {
-    let year = said_of(facts, kinds::YEAR) - 1;
-    let month = said_of(facts, kinds::MONTH) - 1;
-    let day = said_of(facts, kinds::DAY) - 1;
-    let FromFields::Valid(date) = Date::from_fields(year, month, day) else {
+    let year = facts.said(kinds::YEAR) - 1;
+    let month = facts.said(kinds::MONTH) - 1;
+    let day = facts.said(kinds::DAY) - 1;
+    let Ok(date) = Date::from_fields(year, month, day) else {
         return Found::Nothing;
     };
-    if date_kinds_agree(facts, date, kinds::FIRST_DAY_KIND, kinds::LAST_DAY_KIND) {
+    if date_kinds_agree(&facts, date, kinds::FIRST_DAY_KIND, kinds::LAST_DAY_KIND) {
         return Found::One(date.day_number());
     }
     Found::Nothing
@@ -131,12 +116,12 @@ pub fn search_days(facts: Facts) -> Found
 }
 
 // The verdict and the days that count as examined.
-pub(crate) fn judge_skipping(facts: Facts) -> Searched
+pub(crate) fn judge_skipping(facts: Facts) -> Judged
     ensures { result ≡ skipping_judged facts }
 {
     let found = search_days(facts);
-    Searched::Judged {
+    Judged {
         verdict: verdict_of(found),
-        examined: month_days_through(facts, found),
+        examined: month_days_through(&facts, found),
     }
 }

@@ -1,7 +1,5 @@
 // Where a day can agree: what facts leave of the years, of a year's months, of its days, and of a month's days.
-ghost use Rattle.std.specs.Prelude.{◌≡◌, ◌+◌, ◌-◌, ◌≤◌, ◌<◌, min, max};
-ghost use Rattle.kinds.specs.Kinds.{kinds};
-ghost use Rattle.agreement.specs.Agreement.{said};
+ghost use Rattle.std.specs.Prelude.{◌≡◌, ◌+◌, ◌-◌, ◌≤◌, ◌<◌, min};
 ghost use Rattle.judge.specs.Private.{narrowed, said_years, year_span, year_step, first_year, iso_can, month_span};
 ghost use Rattle.judge.specs.Private.{year_days, month_start, month_day_span};
 
@@ -15,100 +13,77 @@ pub struct Span {
     pub last: u32,
 }
 
-fn later(a: u32, b: u32) -> u32
-    ensures { result ≡ max a b }
-{
-    if a < b {
-        return b;
+impl Span {
+    // What is left where something was said of a kind: the numbers from `first` to `last`.
+    #[tactic(auto, unfolding(crate::specs::Private::narrowed))]
+    fn narrowed(self, said: u32, first: u32, last: u32) -> Span
+        ensures { result ≡ narrowed self said first last }
+    {
+        if said == 0 {
+            return self;
+        }
+        Span {
+            first: self.first.max(first),
+            last: self.last.min(last),
+        }
     }
-    a
-}
-
-pub(crate) fn earlier(a: u32, b: u32) -> u32
-    ensures { result ≡ min a b }
-{
-    if a < b {
-        return a;
-    }
-    b
-}
-
-// What is left of a span where something was said of a kind: the numbers from `first` to `last`.
-pub(crate) fn narrowed(span: Span, said: u32, first: u32, last: u32) -> Span
-    ensures { result ≡ narrowed span said first last }
-{
-    if said == 0 {
-        return span;
-    }
-    Span {
-        first: later(span.first, first),
-        last: earlier(span.last, last),
-    }
-}
-
-// What was said of a kind: one more than the number.
-pub(crate) fn said_of(facts: Facts, kind: u32) -> u32
-    requires { kind < kinds }
-    ensures { result ≡ said facts kind }
-{
-    let said = facts.said;
-    said[kind as usize]
 }
 
 // The number, cut to `most`; 0 where nothing was said.
-pub(crate) fn number_of(said: u32, most: u32) -> u32
+fn number_of(said: u32, most: u32) -> u32
     ensures { result ≡ min (said - 1) most }
 {
-    if said == 0 {
-        return 0;
-    }
-    earlier(said - 1, most)
+    said.saturating_sub(1).min(most)
 }
 
 // ---- The years
 
 // The years up to `horizon` that agree with what was said of the year and of the century.
-pub(crate) fn said_years(facts: Facts, horizon: u32) -> Span
-    ensures { result ≡ said_years facts horizon }
+#[tactic(auto, unfolding(crate::specs::Private::said_years))]
+pub(crate) fn said_years(facts: &Facts, horizon: u32) -> Span
+    ensures { result ≡ said_years facts.now horizon }
 {
     let all = Span {
         first: 1,
         last: horizon,
     };
-    let year = said_of(facts, kinds::YEAR);
+    let year = facts.said(kinds::YEAR);
     let number = number_of(year, 10000);
-    let span = narrowed(all, year, number, number);
-    let century = said_of(facts, kinds::CENTURY);
+    let century = facts.said(kinds::CENTURY);
     let hundreds = number_of(century, 100) * 100;
-    narrowed(span, century, hundreds, hundreds + 99)
+    all.narrowed(year, number, number)
+        .narrowed(century, hundreds, hundreds + 99)
 }
 
 // Those of them that can agree with what was said of the ISO year, which is the year's own or the one before or after it.
-pub(crate) fn year_span(facts: Facts, horizon: u32) -> Span
-    ensures { result ≡ year_span facts horizon }
+#[tactic(auto, unfolding(crate::specs::Private::year_span))]
+pub(crate) fn year_span(facts: &Facts, horizon: u32) -> Span
+    ensures { result ≡ year_span facts.now horizon }
 {
-    let span = said_years(facts, horizon);
-    let iso = said_of(facts, kinds::ISO_YEAR);
+    let iso = facts.said(kinds::ISO_YEAR);
     let number = number_of(iso, 20000);
-    narrowed(span, iso, later(number, 1) - 1, number + 1)
+    said_years(facts, horizon).narrowed(iso, number.max(1) - 1, number + 1)
 }
 
 // From one year that can agree to the next: a century where the year in it was said.
-pub(crate) fn year_step(facts: Facts) -> u32
-    ensures { result ≡ year_step facts }
+#[tactic(auto, unfolding(crate::specs::Private::year_step))]
+pub(crate) fn year_step(facts: &Facts) -> u32
+    ensures { result ≡ year_step facts.now }
 {
-    if said_of(facts, kinds::YEAR_IN_CENTURY) == 0 {
-        return 1;
+    if facts.said(kinds::YEAR_IN_CENTURY) == 0 {
+        1
+    } else {
+        100
     }
-    100
 }
 
 // The first year from `first` on with the year in the century that was said.
-pub(crate) fn first_year(facts: Facts, first: u32) -> u32
+#[tactic(auto, unfolding(crate::specs::Private::first_year))]
+pub(crate) fn first_year(facts: &Facts, first: u32) -> u32
     requires { first ≤ 20000 }
-    ensures { result ≡ first_year facts first }
+    ensures { result ≡ first_year facts.now first }
 {
-    let said = said_of(facts, kinds::YEAR_IN_CENTURY);
+    let said = facts.said(kinds::YEAR_IN_CENTURY);
     if said == 0 {
         return first;
     }
@@ -118,50 +93,50 @@ pub(crate) fn first_year(facts: Facts, first: u32) -> u32
 // ---- The months
 
 // Whether the ISO year of a day of `year` can end in what was said: that year, the one before or the one after does.
-fn iso_can(facts: Facts, year: u32) -> bool
+#[tactic(auto, unfolding(crate::specs::Private::iso_can))]
+fn iso_can(facts: &Facts, year: u32) -> bool
     requires { year ≤ 9999 }
-    ensures { result ≡ iso_can facts year }
+    ensures { result ≡ iso_can facts.now year }
 {
-    let said = said_of(facts, kinds::ISO_YEAR_IN_CENTURY);
-    if said == 0 {
-        return true;
-    }
-    (year + 101 - (said - 1) % 100) % 100 <= 2
+    let said = facts.said(kinds::ISO_YEAR_IN_CENTURY);
+    said == 0 || (year + 101 - (said - 1) % 100) % 100 <= 2
 }
 
-pub(crate) fn month_span(facts: Facts, year: u32) -> Span
+#[tactic(auto, unfolding(crate::specs::Private::month_span))]
+pub(crate) fn month_span(facts: &Facts, year: u32) -> Span
     requires { year ≤ 9999 }
-    ensures { result ≡ month_span facts year }
+    ensures { result ≡ month_span facts.now year }
 {
     if !iso_can(facts, year) {
         return Span { first: 1, last: 0 };
     }
-    let month = said_of(facts, kinds::MONTH);
+    let month = facts.said(kinds::MONTH);
     let number = number_of(month, 13);
-    narrowed(Span { first: 1, last: 12 }, month, number, number)
+    Span { first: 1, last: 12 }.narrowed(month, number, number)
 }
 
 // ---- The days
 
 // The days of a year, by their day numbers, that can agree with what was said of the day of the year and the weeks by Sundays and by
 // Mondays. `before` counts the days before the year.
-pub(crate) fn year_days(facts: Facts, before: u32, length: u32) -> Span
+#[tactic(auto, unfolding(crate::specs::Private::year_days))]
+pub(crate) fn year_days(facts: &Facts, before: u32, length: u32) -> Span
     requires { (before ≤ 3652059) × (length ≤ 366) }
-    ensures { result ≡ year_days facts before length }
+    ensures { result ≡ year_days facts.now before length }
 {
     let all = Span {
         first: before + 1,
         last: before + length,
     };
-    let day = said_of(facts, kinds::DAY_OF_YEAR);
+    let day = facts.said(kinds::DAY_OF_YEAR);
     let number = before + number_of(day, 400);
-    let span = narrowed(all, day, number, number);
-    let week = said_of(facts, kinds::SUNDAY_WEEK);
-    let start = (before / 7 + number_of(week, 60)) * 7;
-    let span = narrowed(span, week, start, start + 6);
-    let week = said_of(facts, kinds::MONDAY_WEEK);
-    let end = ((before + 6) / 7 + number_of(week, 60)) * 7;
-    narrowed(span, week, later(end, 6) - 6, end)
+    let sunday_week = facts.said(kinds::SUNDAY_WEEK);
+    let start = (before / 7 + number_of(sunday_week, 60)) * 7;
+    let monday_week = facts.said(kinds::MONDAY_WEEK);
+    let end = ((before + 6) / 7 + number_of(monday_week, 60)) * 7;
+    all.narrowed(day, number, number)
+        .narrowed(sunday_week, start, start + 6)
+        .narrowed(monday_week, end.max(6) - 6, end)
 }
 
 // How many days stand before a month.
@@ -173,15 +148,16 @@ pub(crate) fn month_start(before: u32, year: u32, month: u32) -> u32
 }
 
 // The days of a month that can agree with what was said of the day of the month, among those that can by the year.
-pub(crate) fn month_days(facts: Facts, days: Span, start: u32, length: u32) -> Span
+#[tactic(auto, unfolding(crate::specs::Private::month_day_span))]
+pub(crate) fn month_days(facts: &Facts, days: Span, start: u32, length: u32) -> Span
     requires { (start ≤ 3652059) × (length ≤ 31) }
-    ensures { result ≡ month_day_span facts days start length }
+    ensures { result ≡ month_day_span facts.now days start length }
 {
-    let day = said_of(facts, kinds::DAY);
+    let day = facts.said(kinds::DAY);
     let number = start + number_of(day, 40);
-    let span = Span {
-        first: later(days.first, start + 1),
-        last: earlier(days.last, start + length),
+    let month = Span {
+        first: days.first.max(start + 1),
+        last: days.last.min(start + length),
     };
-    narrowed(span, day, number, number)
+    month.narrowed(day, number, number)
 }

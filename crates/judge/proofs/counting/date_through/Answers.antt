@@ -15,7 +15,7 @@ valid : (s : Start) → Valid s.args.date.year s.args.date.month s.args.date.day
 valid s = no_fault_valid _ _ _ s.requires
 
 tested : (c : After-date_kinds_agree)
-    → c.date_kinds_agree.result ≡ year_agrees c.args.facts c.args.date.year
+    → c.date_kinds_agree.result ≡ year_agrees c.args.facts.now c.args.date.year
 tested c = c.date_kinds_agree.ensures ∙ year_kinds _ _
 
 pub overflow_sub-date : goal.overflow_sub-date
@@ -26,24 +26,24 @@ whole_years-years-requires c = omega (arith, (valid (goal.at.whole_years-years-r
 
 pub returns-then-not-date_kinds_agree : goal.returns-then-not-date_kinds_agree
 returns-then-not-date_kinds_agree c =
-    let other : year_agrees c.args.facts c.args.date.year ≡ false =
+    let other : year_agrees c.args.facts.now c.args.date.year ≡ false =
     sym (tested (goal.at.returns-then-not-date_kinds_agree c).After-date_kinds_agree) ∙ not-true _ c.if-not-date_kinds_agree.true-raw in
     omega (
       arith,
       c.whole_years-years.ensures,
       rw other at
-          (date_through c.args.facts _ _ _ (valid (goal.at.returns-then-not-date_kinds_agree c).Start)),
+          (date_through c.args.facts.now _ _ _ (valid (goal.at.returns-then-not-date_kinds_agree c).Start)),
     )
 
 pub returns : goal.returns
 returns c =
-    let same : year_agrees c.args.facts c.args.date.year ≡ true
+    let same : year_agrees c.args.facts.now c.args.date.year ≡ true
     = sym (tested (goal.at.returns c).After-date_kinds_agree) ∙ not-false _ c.if-not-date_kinds_agree.false-raw in
     omega (
       arith,
       c.whole_years-years.ensures,
-      rw c.said_of.ensures at c.in_year.ensures,
-      rw same at (date_through c.args.facts _ _ _ (valid (goal.at.returns c).Start)),
+      rw c.said.ensures at c.in_year.ensures,
+      rw same at (date_through c.args.facts.now _ _ _ (valid (goal.at.returns c).Start)),
     )
 
 pub overflow_add-result : goal.overflow_add-result
@@ -51,7 +51,7 @@ overflow_add-result c =
     omega (
       arith,
       returns c,
-      month_days_most c.args.facts (day_number_of c.args.date),
+      month_days_most c.args.facts.now (day_number_of c.args.date),
       number_within _ _ _
           (valid (goal.at.overflow_add-result c).Start),
       days_is,

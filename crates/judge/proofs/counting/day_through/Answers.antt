@@ -10,20 +10,20 @@ pub date_through-requires : goal.date_through-requires
 date_through-requires c =
     let n = number_day c.args.number c.requires.0 c.requires.1 in
     let r = c.from_day_number.ensures in
-    let e : c.in-Day.date ≡ date_of c.args.number = cc (c.in-Day.is) in
+    let e : c.in-Some.date ≡ date_of c.args.number = cc (c.in-Some.is) in
     rw e (valid_no_fault _ _ _ (number_of_date c.args.number c.requires.0 c.requires.1).valid)
 
-pub returns-in-Day : goal.returns-in-Day
-returns-in-Day c =
+pub returns-in-Some : goal.returns-in-Some
+returns-in-Some c =
     let n = number_day c.args.number c.requires.0 c.requires.1 in
     let r = c.from_day_number.ensures in
-    let e : c.in-Day.date ≡ date_of c.args.number = cc (c.in-Day.is) in
+    let e : c.in-Some.date ≡ date_of c.args.number = cc (c.in-Some.is) in
     rw e at c.date_through.ensures
-    ∙ ap (month_days c.args.facts) (number_of_date c.args.number c.requires.0 c.requires.1).number
+    ∙ ap (month_days c.args.facts.now) (number_of_date c.args.number c.requires.0 c.requires.1).number
 
-pub returns-in-Outside : goal.returns-in-Outside
-returns-in-Outside c =
+pub returns-in-None : goal.returns-in-None
+returns-in-None c =
     let n = number_day c.args.number c.requires.0 c.requires.1 in
     let r = c.from_day_number.ensures in
-    let g = c.in-Outside.is in
+    let g = c.in-None.is in
     clash (cc)

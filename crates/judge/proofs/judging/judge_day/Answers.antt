@@ -19,9 +19,9 @@ borne c = sym c.any_said.ensures ∙ c.if-any_said.true
 
 pub returns-in-Skipping : goal.returns-in-Skipping
 returns-in-Skipping c =
-    c.judge_skipping.ensures
-    ∙ skipping_borne _ (borne (goal.at.returns-in-Skipping c).Then-any_said)
-    ∙ ap (λ (e : Engine). searched e c.args.facts) (sym c.in-Skipping.is)
+    rw c.judge_skipping.ensures
+    (skipping_borne _ (borne (goal.at.returns-in-Skipping c).Then-any_said)
+    ∙ ap (λ (e : Engine). searched e c.args.facts) (sym c.in-Skipping.is))
 
 pub returns-in-Plain : goal.returns-in-Plain
 returns-in-Plain c =

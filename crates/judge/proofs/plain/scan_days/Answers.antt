@@ -46,6 +46,9 @@ loop-month-init c =
     let y = c.years.invariant in
     (first_month _ _ _ _ y.0 (omega arith), y.1)
 
+pub overflow_add-day-end : goal.overflow_add-day-end
+overflow_add-day-end c = omega (arith, c.month_length-day-end.ensures, month_most c.years.year c.loop-month.month)
+
 pub loop-day-init : goal.loop-day-init
 loop-day-init c =
     let m = c.loop-month.invariant in
@@ -55,35 +58,26 @@ pub returns-then-examined-budget : goal.returns-then-examined-budget
 returns-then-examined-budget c =
     let i = c.loop-day.invariant in
     let e = c.if-examined-budget.true in
-    let n = one_of _ _ _ _ _ _ i.0 (omega (arith, c.loop-day-test.true, c.month_length-length.ensures)) in
+    let n = one_of _ _ _ _ _ _ i.0 (omega (arith, c.loop-day-test.true, c.month_length-day-end.ensures)) in
     over_budget_lem _ _ _ (rw e at i.0.so_far) i.1.open-yet (omega (arith, n))
 
 pub date_at-requires : goal.date_at-requires
 date_at-requires c =
     let i = c.loop-day.invariant in
-    let n = short _ _ _ _ _ _ i.0 (omega (arith, c.loop-day-test.true, c.month_length-length.ensures)) in
+    let n = short _ _ _ _ _ _ i.0 (omega (arith, c.loop-day-test.true, c.month_length-day-end.ensures)) in
     omega (arith, i.0.year_high, i.0.month_high, n)
 
-pub day_agrees-requires : goal.day_agrees-requires
+pub day_agrees-requires-clause-number_bound : goal.day_agrees-requires-clause-number_bound
 unfolding iso_kinds range
-day_agrees-requires c =
-    let i = c.loop-day.invariant in
-    let n = one_of _ _ _ _ _ _ i.0 (omega (arith, c.loop-day-test.true, c.month_length-length.ensures)) in
-    rw c.date_at.ensures (record {
-      number_value = (i.0.at, omega (arith, c.years.invariant.0.at));
-      number_bound = (omega (arith, n, days_is), c.any_said-iso.ensures);
-    })
-
-pub overflow_add-day : goal.overflow_add-day
-overflow_add-day c =
-    let n = short _ _ _ _ _ _ c.loop-day.invariant.0 (omega (arith, c.loop-day-test.true, c.month_length-length.ensures)) in
-    omega (arith, n)
+day_agrees-requires-clause-number_bound c =
+    let n = one_of _ _ _ _ _ _ c.loop-day.invariant.0 (omega (arith, c.loop-day-test.true, c.month_length-day-end.ensures)) in
+    (omega (arith, n, days_is), c.any_said-iso.ensures)
 
 pub loop-day-preserved : goal.loop-day-preserved
 loop-day-preserved c =
     let i = c.loop-day.invariant in
     let k : c.loop-day.day ≤ month_length c.years.year c.loop-month.month = omega
-    (arith, c.loop-day-test.true, c.month_length-length.ensures) in
+    (arith, c.loop-day-test.true, c.month_length-day-end.ensures) in
     let e = tested _ _ _ _ _ _ i.0 k c.day_agrees.ensures c.date_at.ensures in
     let l : c.loop-day.examined + 1 ≤ c.args.budget = omega (arith, i.1.few, c.if-examined-budget.false) in
     elim c.if-day_agrees.branch [
@@ -100,7 +94,7 @@ loop-day-preserved c =
 pub loop-month-preserved : goal.loop-month-preserved
 loop-month-preserved c =
     let i = c.loop-day.invariant in
-    (next_month _ _ _ _ _ _ i.0 (omega (arith, c.loop-day-test.false, c.month_length-length.ensures)), i.1)
+    (next_month _ _ _ _ _ _ i.0 (omega (arith, c.loop-day-test.false, c.month_length-day-end.ensures)), i.1)
 
 pub years-preserved : goal.years-preserved
 years-preserved c =
@@ -117,7 +111,7 @@ pub returns-then-is_two : goal.returns-then-is_two
 returns-then-is_two c =
     let i = c.loop-day.invariant in
     let k : c.loop-day.day ≤ month_length c.years.year c.loop-month.month = omega
-    (arith, c.loop-day-test.true, c.month_length-length.ensures) in
+    (arith, c.loop-day-test.true, c.month_length-day-end.ensures) in
     let h = next_day_hit _ _ _ _ _ _ i.0 k (sym (tested _ _ _ _ _ _ i.0 k c.day_agrees.ensures c.date_at.ensures) ∙ c.if-day_agrees.true) in
     let e = c.hit-found.ensures in
     let two = sym c.is_two.ensures ∙ c.if-is_two.true in

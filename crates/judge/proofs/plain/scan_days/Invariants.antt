@@ -1,4 +1,4 @@
-use Prim.Native.Nat.{ℕ, ◌+◌, ◌-◌, ◌≤◌}
+use Prim.Native.Nat.{ℕ, ◌+◌, ◌≤◌}
 use mathlib.Core.Bool.{false}
 use mathlib.Core.Path.{◌≡◌}
 use Rattle.agreement.specs.Agreement.{day_agrees}
@@ -16,19 +16,10 @@ abbrev pub invariant-loop-day : goal.invariant-loop-day
 invariant-loop-day l =
     AtDay (day_agrees l.facts) l.year l.month l.day (l.examined + 1) l.found × Open l.budget l.examined l.found
 
-abbrev pub decreases-loop-day : goal.decreases-loop-day
-decreases-loop-day l = l.length + 1 - l.day
-
 abbrev pub invariant-loop-month : goal.invariant-loop-month
 invariant-loop-month l =
     AtMonth (day_agrees l.facts) l.year l.month (l.examined + 1) l.found × Open l.budget l.examined l.found
 
-abbrev pub decreases-loop-month : goal.decreases-loop-month
-decreases-loop-month l = 13 - l.month
-
 abbrev pub invariant-years : goal.invariant-years
 invariant-years l =
     AtYear (day_agrees l.facts) l.year (l.examined + 1) l.found × Open l.budget l.examined l.found
-
-abbrev pub decreases-years : goal.decreases-years
-decreases-years l = 10000 - l.year

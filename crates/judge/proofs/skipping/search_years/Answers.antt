@@ -14,15 +14,15 @@ use Rattle.laws.specs.Lists.{range}
 use Rattle.calendar.proofs.Dates.{Valid, number_within, date_of_number}
 use Rattle.calendar.proofs.Months.{month_most, year_length_most}
 use Rattle.calendar.proofs.Years.{days_is}
-use Rattle.judge.proofs.SkippingMoves.{AtDay, before_few, year_low, first_year_lem, no_more_years, first_month, next_year}
+use Rattle.judge.proofs.SkippingMoves.{AtYear, AtDay, before_few, year_low, first_year_lem, no_more_years, first_month, next_year}
 use Rattle.judge.proofs.SkippingMoves.{start_most, can, first_day, next_day_hit, next_day_miss, next_month}
 use Rattle.judge.proofs.SpanLaws.{years_most, years_high, steps, months_low, months_high, span_high}
 use Rattle.judge.proofs.Upto.{upto_two}
 use Rattle.judge.proofs.skipping.search_years.Goals as goal
 use Rattle.judge.proofs.skipping.search_years.Goals.{In-years, After-day_number-before, After-year_days-days, In-loop-month}
 use Rattle.judge.proofs.skipping.search_years.Goals.{After-month_start-start, After-month_days-span, In-loop-number}
-use Rattle.judge.proofs.skipping.search_years.Goals.{After-date_at-in-loop-number, After-day_agrees, then-day_agrees+else-is_two}
-use Rattle.judge.proofs.skipping.search_years.Goals.{else-day_agrees}
+use Rattle.judge.proofs.skipping.search_years.Goals.{After-date_at-date, After-day_agrees, then-day_agrees+else-is_two}
+use Rattle.judge.proofs.skipping.search_years.Goals.{else-day_agrees, After-loop-month}
 
 -- ---- in a year that can agree
 some_year : (c : In-years) → 0 < c.years.year
@@ -156,11 +156,11 @@ module _ (c : In-loop-number) where
   a-day = omega (arith, number_is, number_within y m (number - start) valid, days_is)
 
 -- its test is the agreement of its number
-dated : (c : After-date_at-in-loop-number) → let d = (goal.at.After-date_at-in-loop-number c).In-loop-number in
-    c.date_at-in-loop-number.result ≡ date (y d) (m d) (number d - start d)
+dated : (c : After-date_at-date) → let d = (goal.at.After-date_at-date c).In-loop-number in
+    c.date_at-date.result ≡ date (y d) (m d) (number d - start d)
 dated c =
-    let d = (goal.at.After-date_at-in-loop-number c).In-loop-number in
-    c.date_at-in-loop-number.ensures ∙ ap (λ (a : ℕ). date (y d) (m d) (number d - a)) (start-here d)
+    let d = (goal.at.After-date_at-date c).In-loop-number in
+    c.date_at-date.ensures ∙ ap (λ (a : ℕ). date (y d) (m d) (number d - a)) (start-here d)
 
 tested : (c : After-day_agrees) → c.day_agrees.result ≡ day_agrees c.args.facts c.loop-number.number
 unfolding day_agrees
@@ -168,13 +168,25 @@ tested c =
     let w = (goal.at.After-day_agrees c).In-loop-number in
     c.day_agrees.ensures
     ∙ ap (date_agrees (f w))
-    (dated (goal.at.After-day_agrees c).After-date_at-in-loop-number ∙ sym (date_of_number _ _ _ (valid w)) ∙ ap date_of (number_is w))
+    (dated (goal.at.After-day_agrees c).After-date_at-date ∙ sym (date_of_number _ _ _ (valid w)) ∙ ap date_of (number_is w))
 
-pub first_year-year-requires : goal.first_year-year-requires
-first_year-year-requires c = rw c.year_span-years.ensures (years_most _ _)
+-- the ends of the loops' ranges are small
+pub overflow_add-year-end : goal.overflow_add-year-end
+overflow_add-year-end c =
+    omega (arith, ap (λ (x : Span). x.last) c.year_span-years.ensures, years_high c.args.facts c.args.horizon, c.requires)
+
+pub nonzero_div-step : goal.nonzero_div-step
+nonzero_div-step c = omega (arith, c.year_step-step.ensures, steps c.args.facts 0)
+
+pub overflow_add-month-end : goal.overflow_add-month-end
+overflow_add-month-end c =
+    omega (arith, ap (λ (x : Span). x.last) c.month_span-months.ensures, months_high c.args.facts c.years.year)
+
+pub first_year-first-requires : goal.first_year-first-requires
+first_year-first-requires c = rw c.year_span-years.ensures (years_most _ _)
 
 pub years-init : goal.years-init
-years-init c = rw (c.first_year-year.ensures, c.year_span-years.ensures) (first_year_lem _ _ c.requires)
+years-init c = rw (c.first_year-first.ensures, c.year_span-years.ensures) (first_year_lem _ _ c.requires)
 
 pub date_at-requires : goal.date_at-requires
 date_at-requires c = omega (arith, far-year (goal.at.date_at-requires c).In-years)
@@ -209,6 +221,17 @@ month_days-span-requires c = (
   omega (arith, c.month_length.ensures, month_most c.years.year c.loop-month.month),
 )
 
+pub overflow_add-number-end : goal.overflow_add-number-end
+overflow_add-number-end c =
+    omega (
+      arith,
+      ap (λ (x : Span). x.last) c.month_days-span.ensures,
+      span_high c.args.facts c.year_days-days.result c.month_start-start.result c.month_length.result,
+      start_small (goal.at.overflow_add-number-end c).After-month_start-start,
+      c.month_length.ensures,
+      month_most c.years.year c.loop-month.month,
+    )
+
 pub loop-number-init : goal.loop-number-init
 loop-number-init c =
     let y = (goal.at.loop-number-init c).In-years in
@@ -219,22 +242,22 @@ loop-number-init c =
 pub overflow_sub-number : goal.overflow_sub-number
 overflow_sub-number c = omega (arith, start_is (goal.at.overflow_sub-number c).After-month_start-start, c.loop-number.invariant.low)
 
-pub date_at-requires-in-loop-number : goal.date_at-requires-in-loop-number
-date_at-requires-in-loop-number c =
-    let d = (goal.at.date_at-requires-in-loop-number c).In-loop-number in
+pub date_at-date-requires : goal.date_at-date-requires
+date_at-date-requires c =
+    let d = (goal.at.date_at-date-requires c).In-loop-number in
     omega (arith, (valid d).year_high, (valid d).month_high, start-here d, in-its-month d, month_most (y d) (m d))
 
-pub day_agrees-requires : goal.day_agrees-requires
-unfolding iso_kinds range
-day_agrees-requires c =
-    let d = (goal.at.day_agrees-requires c).In-loop-number in
-    rw (dated (goal.at.day_agrees-requires c).After-date_at-in-loop-number) (record {
-      number_value = (sym (number_is d), before-is (goal.at.day_agrees-requires c).After-day_number-before);
-      number_bound = (omega (arith, a-day d), c.any_said-iso.ensures);
-    })
+pub day_agrees-requires-clause-number_value : goal.day_agrees-requires-clause-number_value
+day_agrees-requires-clause-number_value c =
+    let d = (goal.at.day_agrees-requires-clause-number_value c).In-loop-number in
+    rw (dated (goal.at.day_agrees-requires-clause-number_value c).After-date_at-date)
+    (sym (number_is d), before-is (goal.at.day_agrees-requires-clause-number_value c).After-day_number-before)
 
-pub overflow_add-number : goal.overflow_add-number
-overflow_add-number c = omega (arith, a-day (goal.at.overflow_add-number c).In-loop-number)
+pub day_agrees-requires-clause-number_bound : goal.day_agrees-requires-clause-number_bound
+unfolding iso_kinds range
+day_agrees-requires-clause-number_bound c =
+    let d = (goal.at.day_agrees-requires-clause-number_bound c).In-loop-number in
+    (omega (arith, a-day d), c.any_said-iso.ensures)
 
 pub loop-number-preserved : goal.loop-number-preserved
 loop-number-preserved c =
@@ -245,9 +268,6 @@ loop-number-preserved c =
       | else-day_agrees w ↦ rw w.found-is (on-miss d (sym e ∙ w.if-day_agrees.false))
     ]
 
-pub loop-month-smaller : goal.loop-month-smaller
-loop-month-smaller c = omega (arith, few-months (goal.at.loop-month-smaller c).In-loop-month)
-
 pub loop-month-preserved : goal.loop-month-preserved
 loop-month-preserved c =
     let y = (goal.at.loop-month-preserved c).In-years in
@@ -256,22 +276,22 @@ loop-month-preserved c =
     c.loop-number.invariant
     (omega (arith, c.loop-number-test.false, ap (λ (x : Span). x.last) (span-is (goal.at.loop-month-preserved c).After-month_days-span)))
 
-pub overflow_add-year : goal.overflow_add-year
-overflow_add-year c =
-    omega (arith, far-year (goal.at.overflow_add-year c).In-years, c.year_step-step.ensures, steps c.args.facts 0)
-
 pub years-smaller : goal.years-smaller
-years-smaller c = omega (arith, c.years-test.true, c.year_step-step.ensures, steps c.args.facts 0)
+years-smaller c = omega (arith, c.year_step-step.ensures, steps c.args.facts 0)
 
-pub years-preserved : goal.years-preserved
-years-preserved c =
+-- the year is done: on to the next that can agree
+next : (c : After-loop-month) → AtYear c.args.facts c.args.horizon (c.years.year + c.year_step-step.result) c.loop-month.found
+next c =
     rw c.year_step-step.ensures
-    (next_year _ _ c.requires _ _ _ (some_year (goal.at.years-preserved c).In-years) (c.years.invariant.low, c.years.invariant.stepped)
+    (next_year _ _ c.requires _ _ _ (some_year (goal.at.After-loop-month c).In-years) (c.years.invariant.low, c.years.invariant.stepped)
     c.loop-month.invariant
     (omega (arith, c.loop-month-test.false, ap (λ (x : Span). x.last) c.month_span-months.ensures)))
 
-pub returns-after-years : goal.returns-after-years
-returns-after-years c =
+pub years-preserved : goal.years-preserved
+years-preserved c = next (goal.at.years-preserved c).After-loop-month
+
+pub returns : goal.returns
+returns c =
     no_more_years _ _ c.requires _ _ c.years.invariant
     (omega (arith, c.years-test.false, ap (λ (x : Span). x.last) c.year_span-years.ensures))
 
@@ -280,3 +300,8 @@ returns-then-is_two c =
     let d = (goal.at.returns-then-is_two c).In-loop-number in
     let h = on-hit d (sym (tested (goal.at.returns-then-is_two c).After-day_agrees) ∙ c.if-day_agrees.true) in
     upto_two _ _ _ _ (rw (← c.hit-found.ensures) at h.upto) (sym c.is_two.ensures ∙ c.if-is_two.true)
+
+pub returns-2 : goal.returns-2
+returns-2 c =
+    no_more_years _ _ c.requires _ _ (next (goal.at.returns-2 c).After-loop-month)
+    (omega (arith, ap (λ (x : Span). x.last) c.year_span-years.ensures))

@@ -1,10 +1,9 @@
 -- `judge::testing::day_agrees` meets its contract. Assumes nothing.
 use Prim.Native.Nat.{ℕ}
-use mathlib.Core.Bool.{Bool, not}
-use mathlib.Core.Path.{◌≡◌, sym, ap, ◌∙◌}
+use mathlib.Core.Bool.{Bool, not, ◌&&◌}
+use mathlib.Core.Path.{◌≡◌, refl, sym, ap, ◌∙◌}
 use native.Mathlib.Omega.{arith}
-use borrow.Author.Tests.{not-true, not-false}
-use lib.ListN.{drop}
+use borrow.Author.Tests.{not-false}
 use Rattle.kinds.specs.Kinds as kinds
 use Rattle.kinds.specs.Kinds.{day_kinds}
 use Rattle.laws.specs.Lists.{every, range}
@@ -14,186 +13,130 @@ use Rattle.agreement.specs.declared.Facts.{Facts}
 use Rattle.calendar.specs.declared.Date.{Date}
 use Rattle.judge.specs.Private.{iso_kinds}
 use Rattle.judge.proofs.DayValues.{before_number, day_of_year_is, weekday_is, sunday_week_is, monday_week_is}
-use Rattle.judge.proofs.DayValues.{fails_here, passes_here, unsaid_agree}
+use Rattle.judge.proofs.DayValues.{joined, joins, stays, all_joined, unsaid_agree}
 use Rattle.judge.proofs.testing.day_agrees.Goals as goal
-use Rattle.judge.proofs.testing.day_agrees.Goals.{After-says_other, After-says_other-2, After-says_other-3, After-says_other-4}
-use Rattle.judge.proofs.testing.day_agrees.Goals.{After-says_other-5, After-says_other-6, After-says_other-7, After-says_other-8}
-use Rattle.judge.proofs.testing.day_agrees.Goals.{After-says_other-9, Else-says_other, Else-says_other-2, Else-says_other-3}
-use Rattle.judge.proofs.testing.day_agrees.Goals.{Else-says_other-4, Else-says_other-5, Else-says_other-6, Else-says_other-7}
-use Rattle.judge.proofs.testing.day_agrees.Goals.{Else-says_other-8, Else-says_other-9}
+use Rattle.judge.proofs.testing.day_agrees.Goals.{Joined-agree, then-agree, else-agree, Joined-agree-2, then-agree-2, else-agree-2}
+use Rattle.judge.proofs.testing.day_agrees.Goals.{Joined-agree-3, then-agree-3, else-agree-3, Joined-agree-4, then-agree-4, else-agree-4}
+use Rattle.judge.proofs.testing.day_agrees.Goals.{Joined-agree-5, then-agree-5, else-agree-5, Joined-agree-6, then-agree-6, else-agree-6}
+use Rattle.judge.proofs.testing.day_agrees.Goals.{Joined-agree-7, then-agree-7, else-agree-7, Joined-agree-8, then-agree-8, else-agree-8}
+use Rattle.judge.proofs.testing.day_agrees.Goals.{Then-agree-9}
 
--- the test of a kind, and of the kinds after the first n
-abbrev tests : Facts → Date → ℕ → Bool
-tests facts date k = agrees (said facts k) (date_value k date)
+-- the test of a kind
+abbrev test : Facts → Date → ℕ → Bool
+test facts date k = agrees (said facts k) (date_value k date)
 
-abbrev after : Facts → Date → ℕ → Bool
-after facts date n = every (tests facts date) (drop n day_kinds)
-
--- what was tested of each kind
-tested-1 : (c : After-says_other) → c.says_other.result ≡ not (tests c.args.facts c.args.date kinds.year)
+tested-1 : (c : Joined-agree) → c.if-agree.value ≡ joined (test c.args.facts.now c.args.date) 1
 unfolding date_value date_values
-tested-1 c = c.says_other.ensures
+tested-1 c =
+    elim c.if-agree.branch [
+      | then-agree w ↦ joins c.agree.ensures w.if-agree.true w.value-is w.agree-then-agree.ensures
+      | else-agree w ↦ stays _ c.agree.ensures w.if-agree.false w.value-is
+    ]
 
-tested-2 : (c : After-says_other-2) → c.says_other-2.result ≡ not (tests c.args.facts c.args.date kinds.century)
+tested-2 : (c : Joined-agree-2) → c.if-agree-2.value ≡ joined (test c.args.facts.now c.args.date) 2
 unfolding date_value date_values
-tested-2 c = c.says_other-2.ensures
+tested-2 c =
+    elim c.if-agree-2.branch [
+      | then-agree-2 w ↦ joins (tested-1 (goal.at.Joined-agree-2 c).Joined-agree) w.if-agree-2.true w.value-is w.agree-then-agree-2.ensures
+      | else-agree-2 w ↦ stays _ (tested-1 (goal.at.Joined-agree-2 c).Joined-agree) w.if-agree-2.false w.value-is
+    ]
 
-tested-3 : (c : After-says_other-3) → c.says_other-3.result ≡ not (tests c.args.facts c.args.date kinds.year_in_century)
+tested-3 : (c : Joined-agree-3) → c.if-agree-3.value ≡ joined (test c.args.facts.now c.args.date) 3
 unfolding date_value date_values
-tested-3 c = c.says_other-3.ensures
+tested-3 c =
+    elim c.if-agree-3.branch [
+      | then-agree-3 w ↦ joins (tested-2 (goal.at.Joined-agree-3 c).Joined-agree-2) w.if-agree-3.true w.value-is
+          w.agree-then-agree-3.ensures
+      | else-agree-3 w ↦ stays _ (tested-2 (goal.at.Joined-agree-3 c).Joined-agree-2) w.if-agree-3.false w.value-is
+    ]
 
-tested-4 : (c : After-says_other-4) → c.says_other-4.result ≡ not (tests c.args.facts c.args.date kinds.month)
+tested-4 : (c : Joined-agree-4) → c.if-agree-4.value ≡ joined (test c.args.facts.now c.args.date) 4
 unfolding date_value date_values
-tested-4 c = c.says_other-4.ensures
+tested-4 c =
+    elim c.if-agree-4.branch [
+      | then-agree-4 w ↦ joins (tested-3 (goal.at.Joined-agree-4 c).Joined-agree-3) w.if-agree-4.true w.value-is
+          w.agree-then-agree-4.ensures
+      | else-agree-4 w ↦ stays _ (tested-3 (goal.at.Joined-agree-4 c).Joined-agree-3) w.if-agree-4.false w.value-is
+    ]
 
-tested-5 : (c : After-says_other-5) → c.says_other-5.result ≡ not (tests c.args.facts c.args.date kinds.day)
+tested-5 : (c : Joined-agree-5) → c.if-agree-5.value ≡ joined (test c.args.facts.now c.args.date) 5
 unfolding date_value date_values
-tested-5 c = c.says_other-5.ensures
+tested-5 c =
+    elim c.if-agree-5.branch [
+      | then-agree-5 w ↦ joins (tested-4 (goal.at.Joined-agree-5 c).Joined-agree-4) w.if-agree-5.true w.value-is
+          (w.agree-then-agree-5.ensures ∙ ap (agrees (said c.args.facts.now kinds.day_of_year))
+          (day_of_year_is c.args.date c.requires.number_value.0 c.requires.number_value.1))
+      | else-agree-5 w ↦ stays _ (tested-4 (goal.at.Joined-agree-5 c).Joined-agree-4) w.if-agree-5.false w.value-is
+    ]
 
-tested-6 : (c : After-says_other-6) → c.says_other-6.result ≡ not (tests c.args.facts c.args.date kinds.day_of_year)
+tested-6 : (c : Joined-agree-6) → c.if-agree-6.value ≡ joined (test c.args.facts.now c.args.date) 6
+unfolding date_value date_values
 tested-6 c =
-    c.says_other-6.ensures
-    ∙ ap (λ (v : ℕ). not (agrees (said c.args.facts kinds.day_of_year) v))
-    (day_of_year_is c.args.date c.requires.number_value.0 c.requires.number_value.1)
+    elim c.if-agree-6.branch [
+      | then-agree-6 w ↦ joins (tested-5 (goal.at.Joined-agree-6 c).Joined-agree-5) w.if-agree-6.true w.value-is
+          (w.agree-then-agree-6.ensures ∙ ap (agrees (said c.args.facts.now kinds.weekday))
+          (weekday_is c.args.date c.requires.number_value.0 c.requires.number_value.1))
+      | else-agree-6 w ↦ stays _ (tested-5 (goal.at.Joined-agree-6 c).Joined-agree-5) w.if-agree-6.false w.value-is
+    ]
 
-tested-7 : (c : After-says_other-7) → c.says_other-7.result ≡ not (tests c.args.facts c.args.date kinds.weekday)
+tested-7 : (c : Joined-agree-7) → c.if-agree-7.value ≡ joined (test c.args.facts.now c.args.date) 7
+unfolding date_value date_values
 tested-7 c =
-    c.says_other-7.ensures
-    ∙ ap (λ (v : ℕ). not (agrees (said c.args.facts kinds.weekday) v))
-    (weekday_is c.args.date c.requires.number_value.0 c.requires.number_value.1)
+    elim c.if-agree-7.branch [
+      | then-agree-7 w ↦ joins (tested-6 (goal.at.Joined-agree-7 c).Joined-agree-6) w.if-agree-7.true w.value-is
+          (w.agree-then-agree-7.ensures ∙ ap (agrees (said c.args.facts.now kinds.sunday_week))
+          (sunday_week_is c.args.date c.requires.number_value.0 c.requires.number_value.1))
+      | else-agree-7 w ↦ stays _ (tested-6 (goal.at.Joined-agree-7 c).Joined-agree-6) w.if-agree-7.false w.value-is
+    ]
 
-tested-8 : (c : After-says_other-8) → c.says_other-8.result ≡ not (tests c.args.facts c.args.date kinds.sunday_week)
+tested-8 : (c : Joined-agree-8) → c.if-agree-8.value ≡ joined (test c.args.facts.now c.args.date) 8
+unfolding date_value date_values
 tested-8 c =
-    c.says_other-8.ensures
-    ∙ ap (λ (v : ℕ). not (agrees (said c.args.facts kinds.sunday_week) v))
-    (sunday_week_is c.args.date c.requires.number_value.0 c.requires.number_value.1)
-
-tested-9 : (c : After-says_other-9) → c.says_other-9.result ≡ not (tests c.args.facts c.args.date kinds.monday_week)
-tested-9 c =
-    c.says_other-9.ensures
-    ∙ ap (λ (v : ℕ). not (agrees (said c.args.facts kinds.monday_week) v))
-    (monday_week_is c.args.date c.requires.number_value.0 c.requires.number_value.1)
-
--- the kinds that agree are taken off
-past-1 : (c : Else-says_other) → after c.args.facts c.args.date 1 ≡ after c.args.facts c.args.date 0
-unfolding day_kinds
-past-1 c = passes_here _ kinds.year _ (tested-1 (goal.at.Else-says_other c).After-says_other) c.if-says_other.false
-
-past-2 : (c : Else-says_other-2) → after c.args.facts c.args.date 2 ≡ after c.args.facts c.args.date 0
-unfolding day_kinds
-past-2 c = passes_here _ kinds.century _ (tested-2 (goal.at.Else-says_other-2 c).After-says_other-2) c.if-says_other-2.false
-    ∙ past-1 (goal.at.Else-says_other-2 c).Else-says_other
-
-past-3 : (c : Else-says_other-3) → after c.args.facts c.args.date 3 ≡ after c.args.facts c.args.date 0
-unfolding day_kinds
-past-3 c = passes_here _ kinds.year_in_century _ (tested-3 (goal.at.Else-says_other-3 c).After-says_other-3) c.if-says_other-3.false
-    ∙ past-2 (goal.at.Else-says_other-3 c).Else-says_other-2
-
-past-4 : (c : Else-says_other-4) → after c.args.facts c.args.date 4 ≡ after c.args.facts c.args.date 0
-unfolding day_kinds
-past-4 c = passes_here _ kinds.month _ (tested-4 (goal.at.Else-says_other-4 c).After-says_other-4) c.if-says_other-4.false
-    ∙ past-3 (goal.at.Else-says_other-4 c).Else-says_other-3
-
-past-5 : (c : Else-says_other-5) → after c.args.facts c.args.date 5 ≡ after c.args.facts c.args.date 0
-unfolding day_kinds
-past-5 c = passes_here _ kinds.day _ (tested-5 (goal.at.Else-says_other-5 c).After-says_other-5) c.if-says_other-5.false
-    ∙ past-4 (goal.at.Else-says_other-5 c).Else-says_other-4
-
-past-6 : (c : Else-says_other-6) → after c.args.facts c.args.date 6 ≡ after c.args.facts c.args.date 0
-unfolding day_kinds
-past-6 c = passes_here _ kinds.day_of_year _ (tested-6 (goal.at.Else-says_other-6 c).After-says_other-6) c.if-says_other-6.false
-    ∙ past-5 (goal.at.Else-says_other-6 c).Else-says_other-5
-
-past-7 : (c : Else-says_other-7) → after c.args.facts c.args.date 7 ≡ after c.args.facts c.args.date 0
-unfolding day_kinds
-past-7 c = passes_here _ kinds.weekday _ (tested-7 (goal.at.Else-says_other-7 c).After-says_other-7) c.if-says_other-7.false
-    ∙ past-6 (goal.at.Else-says_other-7 c).Else-says_other-6
-
-past-8 : (c : Else-says_other-8) → after c.args.facts c.args.date 8 ≡ after c.args.facts c.args.date 0
-unfolding day_kinds
-past-8 c = passes_here _ kinds.sunday_week _ (tested-8 (goal.at.Else-says_other-8 c).After-says_other-8) c.if-says_other-8.false
-    ∙ past-7 (goal.at.Else-says_other-8 c).Else-says_other-7
-
-past-9 : (c : Else-says_other-9) → after c.args.facts c.args.date 9 ≡ after c.args.facts c.args.date 0
-unfolding day_kinds
-past-9 c = passes_here _ kinds.monday_week _ (tested-9 (goal.at.Else-says_other-9 c).After-says_other-9) c.if-says_other-9.false
-    ∙ past-8 (goal.at.Else-says_other-9 c).Else-says_other-8
-
-pub returns-then-says_other : goal.returns-then-says_other
-unfolding date_agrees day_kinds
-returns-then-says_other c = fails_here _ kinds.year _ (tested-1 (goal.at.returns-then-says_other c).After-says_other) c.if-says_other.true
-
-pub returns-then-says_other-2 : goal.returns-then-says_other-2
-unfolding date_agrees day_kinds
-returns-then-says_other-2 c = fails_here _ kinds.century _
-    (tested-2 (goal.at.returns-then-says_other-2 c).After-says_other-2) c.if-says_other-2.true
-    ∙ past-1 (goal.at.returns-then-says_other-2 c).Else-says_other
-
-pub returns-then-says_other-3 : goal.returns-then-says_other-3
-unfolding date_agrees day_kinds
-returns-then-says_other-3 c = fails_here _ kinds.year_in_century _
-    (tested-3 (goal.at.returns-then-says_other-3 c).After-says_other-3) c.if-says_other-3.true
-    ∙ past-2 (goal.at.returns-then-says_other-3 c).Else-says_other-2
-
-pub returns-then-says_other-4 : goal.returns-then-says_other-4
-unfolding date_agrees day_kinds
-returns-then-says_other-4 c = fails_here _ kinds.month _
-    (tested-4 (goal.at.returns-then-says_other-4 c).After-says_other-4) c.if-says_other-4.true
-    ∙ past-3 (goal.at.returns-then-says_other-4 c).Else-says_other-3
-
-pub returns-then-says_other-5 : goal.returns-then-says_other-5
-unfolding date_agrees day_kinds
-returns-then-says_other-5 c = fails_here _ kinds.day _
-    (tested-5 (goal.at.returns-then-says_other-5 c).After-says_other-5) c.if-says_other-5.true
-    ∙ past-4 (goal.at.returns-then-says_other-5 c).Else-says_other-4
+    elim c.if-agree-8.branch [
+      | then-agree-8 w ↦ joins (tested-7 (goal.at.Joined-agree-8 c).Joined-agree-7) w.if-agree-8.true w.value-is
+          (w.agree-then-agree-8.ensures ∙ ap (agrees (said c.args.facts.now kinds.monday_week))
+          (monday_week_is c.args.date c.requires.number_value.0 c.requires.number_value.1))
+      | else-agree-8 w ↦ stays _ (tested-7 (goal.at.Joined-agree-8 c).Joined-agree-7) w.if-agree-8.false w.value-is
+    ]
 
 pub overflow_sub-number : goal.overflow_sub-number
 overflow_sub-number c =
     omega (arith, before_number c.args.date c.requires.number_value.0 c.requires.number_value.1)
 
-pub returns-then-says_other-6 : goal.returns-then-says_other-6
-unfolding date_agrees day_kinds
-returns-then-says_other-6 c = fails_here _ kinds.day_of_year _
-    (tested-6 (goal.at.returns-then-says_other-6 c).After-says_other-6) c.if-says_other-6.true
-    ∙ past-5 (goal.at.returns-then-says_other-6 c).Else-says_other-5
-
-pub returns-then-says_other-7 : goal.returns-then-says_other-7
-unfolding date_agrees day_kinds
-returns-then-says_other-7 c = fails_here _ kinds.weekday _
-    (tested-7 (goal.at.returns-then-says_other-7 c).After-says_other-7) c.if-says_other-7.true
-    ∙ past-6 (goal.at.returns-then-says_other-7 c).Else-says_other-6
-
-pub overflow_sub-number-2 : goal.overflow_sub-number-2
-overflow_sub-number-2 c =
+pub overflow_sub-number-then-agree-7 : goal.overflow_sub-number-then-agree-7
+overflow_sub-number-then-agree-7 c =
     omega (arith, before_number c.args.date c.requires.number_value.0 c.requires.number_value.1)
-
-pub returns-then-says_other-8 : goal.returns-then-says_other-8
-unfolding date_agrees day_kinds
-returns-then-says_other-8 c = fails_here _ kinds.sunday_week _
-    (tested-8 (goal.at.returns-then-says_other-8 c).After-says_other-8) c.if-says_other-8.true
-    ∙ past-7 (goal.at.returns-then-says_other-8 c).Else-says_other-7
 
 pub overflow_add-before : goal.overflow_add-before
 overflow_add-before c =
     omega (arith, before_number c.args.date c.requires.number_value.0 c.requires.number_value.1)
 
-pub overflow_sub-number-3 : goal.overflow_sub-number-3
-overflow_sub-number-3 c =
+pub overflow_sub-number-then-agree-8 : goal.overflow_sub-number-then-agree-8
+overflow_sub-number-then-agree-8 c =
     omega (arith, before_number c.args.date c.requires.number_value.0 c.requires.number_value.1)
 
-pub returns-then-says_other-9 : goal.returns-then-says_other-9
-unfolding date_agrees day_kinds
-returns-then-says_other-9 c = fails_here _ kinds.monday_week _
-    (tested-9 (goal.at.returns-then-says_other-9 c).After-says_other-9) c.if-says_other-9.true
-    ∙ past-8 (goal.at.returns-then-says_other-9 c).Else-says_other-8
+-- where the nine agree, the ISO kinds decide
+rest : (c : Then-agree-9) → date_agrees c.args.facts.now c.args.date ≡ every (test c.args.facts.now c.args.date) iso_kinds
+unfolding date_agrees
+rest c =
+    all_joined (test c.args.facts.now c.args.date)
+    ∙ ap (λ (t : Bool). t && every (test c.args.facts.now c.args.date) iso_kinds)
+    (sym (tested-8 (goal.at.Then-agree-9 c).Joined-agree-8) ∙ c.if-agree-9.true)
 
 pub returns-then-not-iso : goal.returns-then-not-iso
-unfolding date_agrees day_kinds iso_kinds
+unfolding iso_kinds
 returns-then-not-iso c =
-    let none = not-false _ (sym c.requires.number_bound.1 ∙ not-true _ c.if-not-iso.true-raw) in
-    sym (unsaid_agree c.args.facts iso_kinds (λ k. date_value k c.args.date) none)
-    ∙ past-9 (goal.at.returns-then-not-iso c).Else-says_other-9
+    let none = not-false _ (sym c.requires.number_bound.1 ∙ c.if-not-iso.true) in
+    ap not c.if-not-iso.true
+    ∙ sym (rest (goal.at.returns-then-not-iso c).Then-agree-9
+    ∙ unsaid_agree c.args.facts.now iso_kinds (λ k. date_value k c.args.date) none)
 
-pub returns : goal.returns
-unfolding date_agrees day_kinds iso_kinds range
-returns c = c.date_kinds_agree.ensures ∙ past-9 (goal.at.returns c).Else-says_other-9
+pub returns-else-not-iso : goal.returns-else-not-iso
+unfolding iso_kinds range
+returns-else-not-iso c = c.date_kinds_agree.ensures ∙ sym (rest (goal.at.returns-else-not-iso c).Then-agree-9)
+
+pub returns-else-agree-9 : goal.returns-else-agree-9
+unfolding date_agrees
+returns-else-agree-9 c =
+    stays _ (tested-8 (goal.at.returns-else-agree-9 c).Joined-agree-8) c.if-agree-9.false refl
+    ∙ sym (all_joined (test c.args.facts.now c.args.date))
