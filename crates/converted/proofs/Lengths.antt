@@ -5,7 +5,8 @@ use mathlib.Core.List.{List, ◌++◌}
 use mathlib.Core.Path.{◌≡◌, refl, sym, ap, ◌∙◌}
 use native.Mathlib.Omega.{arith}
 use lib.Dec.{eqb}
-use lib.ListN.{length, replicate, length-take}
+use lib.ListN.{length, replicate, take, length-take}
+use lib.Seq.{take_all, take-take}
 use Rattle.laws.proofs.Cases.{picked}
 use Rattle.names.specs.Case.{cased}
 use Rattle.text.specs.Digits.{plain, filled}
@@ -75,3 +76,11 @@ unfolding name_for padded
 name_most t v =
     let name = name_at t (place_for t v) in
     omega (arith, (held t (place_for t v) refl refl).fits, length-take 9 (name ++ replicate 9 32))
+
+-- as many letters as the first k have are these, and as many as the name has are the name
+pub letters_taken : (k : ℕ) (s : List ℕ) {n : ℕ} → n ≡ length (take k s) → take n s ≡ take k s
+letters_taken k s {n} e =
+    sym (take-take n k s (omega (arith, e, length-take k s))) ∙ take_all n (take k s) (omega (arith, e))
+
+pub name_taken : (s : List ℕ) {n : ℕ} → n ≡ length s → take n s ≡ s
+name_taken s {n} e = take_all n s (omega (arith, e))

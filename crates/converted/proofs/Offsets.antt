@@ -17,10 +17,9 @@ use Rattle.text.proofs.Fill.{plain_parts}
 use Rattle.text.proofs.ReadBack.{filled_length}
 use Rattle.values.specs.Offsets.{is_negative, seconds}
 use Rattle.values.specs.declared.Moment.{Moment}
-use Rattle.values.specs.declared.offsets.Offset.{Offset}
-use Rattle.values.specs.declared.offsets.Offset.TheVariants.{Unsaid, Minutes}
 use Rattle.values.proofs.Signed.{near_fits}
 use Rattle.converted.specs.Zones.{hours_minutes, east, zone, whole, epoch_seconds}
+use Rattle.std.specs.Prelude.{None, Option, Some, ℤ}
 
 -- ---- by the sign
 
@@ -48,10 +47,10 @@ hours_length n = rw length-append (omega (arith, filled_length 48 2 (n / 60), fi
 pub east_length : (z : ℤ) → length (east z) ≡ 5
 east_length z = rw (east_is z) (omega (arith, hours_length (nat_abs z)))
 
-pub zone_short : (o : Offset) → length (zone o) ≤ 5
+pub zone_short : (o : Option ℤ) → length (zone o) ≤ 5
 unfolding zone
-zone_short Unsaid = omega arith
-zone_short (Minutes z) = omega (arith, east_length z)
+zone_short None = omega arith
+zone_short (Some z) = omega (arith, east_length z)
 
 pub whole_most : (z : ℤ) → length (whole z) ≤ 1 + length (plain (nat_abs z))
 unfolding whole
@@ -68,20 +67,20 @@ long_length n h =
 -- ---- by the moment's offset
 
 module _ (m : Moment) where
-  pub zone_unsaid : m.offset ≡ Unsaid → zone m.offset ≡ []
+  pub zone_unsaid : m.offset ≡ None → zone m.offset ≡ []
   unfolding zone
   zone_unsaid e = ap zone e
 
-  pub zone_said : {z : ℤ} → m.offset ≡ Minutes z → zone m.offset ≡ east z
+  pub zone_said : {z : ℤ} → m.offset ≡ Some z → zone m.offset ≡ east z
   unfolding zone
   zone_said e = ap zone e
 
-  pub epoch_unsaid : m.offset ≡ Unsaid → epoch_seconds m m.offset ≡ []
+  pub epoch_unsaid : m.offset ≡ None → epoch_seconds m m.offset ≡ []
   unfolding epoch_seconds
   epoch_unsaid e = ap (epoch_seconds m) e
 
   -- as it is worked out in 64 bits
-  pub epoch_said : {z : ℤ} → m.offset ≡ Minutes z → mag z < 2 ^ 31 → {r : ℤ} → r ≡ seconds m (to_z w32 (of_z w32 z)) → nat_abs r < 10 ^ 15
+  pub epoch_said : {z : ℤ} → m.offset ≡ Some z → mag z < 2 ^ 31 → {r : ℤ} → r ≡ seconds m (to_z w32 (of_z w32 z)) → nat_abs r < 10 ^ 15
       → epoch_seconds m m.offset ≡ whole (to_z w64 (of_z w64 r))
   unfolding epoch_seconds
   epoch_said {z} e h {r} q l =
@@ -96,7 +95,3 @@ module _ (z : ℤ) (f : SFits w64 z) where
 
   pub sign : {t s : Bool} → t ≡ is_negative (to_z w64 (of_z w64 z)) → t ≡ s → is_negative z ≡ s
   sign e q = sym (ap is_negative (to_z-of_z f)) ∙ sym e ∙ q
-
--- a number that is passed on in 64 bits is still small
-pub still_small : (r : ℤ) → nat_abs r < 10 ^ 15 → nat_abs (to_z w64 (of_z w64 r)) < 10 ^ 15
-still_small r l = let same : to_z w64 (of_z w64 r) ≡ r = to_z-of_z {w = w64} (near_fits r (omega arith)) in rw same l

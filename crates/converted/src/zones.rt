@@ -5,7 +5,7 @@ ghost use Rattle.values.specs.Offsets.{is_negative};
 ghost use Rattle.converted.specs.Zones.{zone, whole, epoch_seconds};
 
 use text::digit_count;
-use values::{Moment, Offset, is_negative, magnitude};
+use values::{Moment, is_negative, magnitude};
 
 // One more than nine digits hold.
 pub const BILLION: u64 = 1000000000;
@@ -13,20 +13,18 @@ pub const BILLION: u64 = 1000000000;
 pub fn zone_length(moment: Moment) -> usize
     ensures { result ≡ length (zone moment.offset) }
 {
-    let offset = moment.offset;
-    match offset {
-        Offset::Unsaid => 0,
-        Offset::Minutes(_) => 5,
+    match moment.offset {
+        None => 0,
+        Some(_) => 5,
     }
 }
 
 pub fn seconds_length(moment: Moment) -> usize
     ensures { result ≡ length (epoch_seconds moment moment.offset) }
 {
-    let offset = moment.offset;
-    match offset {
-        Offset::Unsaid => 0,
-        Offset::Minutes(east) => whole_length(moment.seconds(east)),
+    match moment.offset {
+        None => 0,
+        Some(east) => whole_length(moment.seconds(east)),
     }
 }
 

@@ -7,6 +7,7 @@ use mathlib.Core.Path.{◌≡◌, ap, ◌∙◌, fun_ext}
 use borrow.Author.Tests.{le-leb, eq-eqb}
 use lib.ListN.{length, drop}
 use lib.Seq.{sets, take_all}
+use Rattle.std.specs.Prelude.{None}
 use Rattle.laws.specs.Lists.{every}
 use Rattle.laws.proofs.Stores.{sets_start}
 use Rattle.format.specs.Opening.{opening, longest, most_elements, elements_in, is_byte}
@@ -15,16 +16,15 @@ use Rattle.format.specs.declared.opening.Side.TheVariants.{Writer}
 use Rattle.format.proofs.Elements.{all_elements}
 use Rattle.values.specs.Moments.{moment_of}
 use Rattle.values.specs.declared.Moment.{Moment}
-use Rattle.values.specs.declared.MomentFields.TheVariants.{Valid}
-use Rattle.strftime.specs.Writing.{Result, text, numbered, put, lacking, offered, by_format, by_elements, for_moment, for_fields}
+use Rattle.strftime.specs.Writing.{Outcome, text, numbered, put, lacking, offered, by_format, by_elements, for_moment, for_fields}
 use Rattle.strftime.specs.Writing.{writing, elements_writing}
 use Rattle.strftime.specs.declared.Fields.{Fields}
-use Rattle.strftime.specs.declared.Lack.TheVariants.{Nothing}
+use Rattle.std.specs.Prelude.{Ok}
 
 -- a format that opens whole, and fields that are a moment which lacks nothing
 module _ (f : List ℕ) (t : Fields) (b : List ℕ) {m : Moment} (short : length f ≤ longest) (whole : (opening Writer f).ended ≡ Whole)
-    (valid : moment_of t.year t.month t.day t.hour t.minute t.second t.offset ≡ Valid m)
-    (has : lacking m.offset (opening Writer f).elements ≡ Nothing) where
+    (valid : moment_of t.year t.month t.day t.hour t.minute t.second t.offset ≡ Ok m)
+    (has : lacking m.offset (opening Writer f).elements ≡ None) where
   abbrev written : List ℕ
   written = text m (opening Writer f).elements
 
@@ -40,10 +40,10 @@ module _ (f : List ℕ) (t : Fields) (b : List ℕ) {m : Moment} (short : length
     done = rw (puts_text, le-leb (length written) (length b) room)
 
     pub answers : (writing f t b).answer ≡ numbered 0 (length written)
-    answers = ap (λ (w : Result). w.answer) done
+    answers = ap (λ (w : Outcome). w.answer) done
 
     pub holds : (writing f t b).buffer ≡ written ++ drop (length written) b
-    holds = ap (λ (w : Result). w.buffer) done ∙ rw (sets_start b written, take_all (length b) written room)
+    holds = ap (λ (w : Outcome). w.buffer) done ∙ rw (sets_start b written, take_all (length b) written room)
 
 -- ---- elements opened before
 
@@ -58,4 +58,4 @@ module _ (f : List ℕ) (short : length f ≤ longest) (bytes : every is_byte f 
   pub opened_before : (t : Fields) (b : List ℕ) → elements_writing (opening Writer f).elements t b ≡ writing f t b
   unfolding elements_writing writing
   opened_before t b =
-      rw (le-leb (length f) longest short) (ap (λ (rest : Moment → Result). for_fields rest b t) (fun_ext (by-format b)))
+      rw (le-leb (length f) longest short) (ap (λ (rest : Moment → Outcome). for_fields rest b t) (fun_ext (by-format b)))

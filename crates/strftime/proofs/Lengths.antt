@@ -34,8 +34,6 @@ use Rattle.values.specs.Offsets.{is_offset, seconds}
 use Rattle.values.specs.Values.{value}
 use Rattle.values.specs.declared.Moment.{Moment}
 use Rattle.values.proofs.Ranges.{highest, no_fault_moment, value_ranged}
-use Rattle.values.specs.declared.offsets.Offset.{Offset}
-use Rattle.values.specs.declared.offsets.Offset.TheVariants.{Unsaid, Minutes}
 use Rattle.values.proofs.Seconds.{seconds_most}
 use Rattle.converted.proofs.Lengths.{number_length, name_length, places_most, name_most}
 use Rattle.strftime.specs.Private.{IsMoment, HasRoom}
@@ -43,6 +41,7 @@ use Rattle.converted.specs.Converted.{formed, converted}
 use Rattle.strftime.specs.Writing.{element, text}
 use Rattle.converted.specs.Zones.{zone, epoch_seconds}
 use Rattle.converted.proofs.Offsets.{zone_short, whole_most}
+use Rattle.std.specs.Prelude.{None, Option, Some, ℤ}
 
 -- ---- what an element writes
 
@@ -84,7 +83,7 @@ room_of c m h p q e = rw e (h (rw p q))
 
 -- ---- %z and %s
 
-zone_most : (o : Offset) → length (zone o) ≤ 9
+zone_most : (o : Option ℤ) → length (zone o) ≤ 9
 zone_most o = omega (arith, zone_short o)
 
 -- the seconds of a valid moment have at most twelve digits, and a sign
@@ -92,9 +91,9 @@ seconds_few : (m : Moment) → IsMoment m → length (epoch_seconds m m.offset) 
 unfolding epoch_seconds
 seconds_few m i = go m.offset (no_fault_moment m i).offset
   where
-    go : (o : Offset) → is_offset o ≡ true → length (epoch_seconds m o) ≤ 13
-    go Unsaid e = omega arith
-    go (Minutes z) e =
+    go : (o : Option ℤ) → is_offset o ≡ true → length (epoch_seconds m o) ≤ 13
+    go None e = omega arith
+    go (Some z) e =
         let h = seconds_most m (no_fault_moment m i) z (leb-true (nat_abs z) 1439 (unfold is_offset in e)) in
         omega (arith, whole_most (seconds m z), plain_most 12 (nat_abs (seconds m z)) (lit≤ tt) h)
 

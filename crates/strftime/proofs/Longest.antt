@@ -12,6 +12,7 @@ use native.Mathlib.Omega.{arith}
 use borrow.Author.Tests.{eqb-true, leb-true, le-leb, lt-leb, le-ltb, ltb-true}
 use lib.Dec.{T, eqb, leb, leb→le, ltb→lt}
 use lib.ListN.{length, drop, length-append, length-drop}
+use Rattle.std.specs.Prelude.{Option, None, Some}
 use Rattle.laws.specs.Bytes.{bytes}
 use Rattle.laws.specs.Lists.{every}
 use Rattle.laws.proofs.Cases.{either, picked}
@@ -30,8 +31,6 @@ use Rattle.conversions.specs.declared.following.Act.{Act}
 use Rattle.conversions.specs.declared.following.Act.TheVariants.{Byte, Convert, Open, Refuse}
 use Rattle.conversions.specs.declared.following.Piece.{Piece}
 use Rattle.format.specs.declared.opening.Side.TheVariants.{Writer}
-use Rattle.format.specs.declared.opening.Sign.{Sign}
-use Rattle.format.specs.declared.opening.Sign.TheVariants.{Own, Of}
 use Rattle.conversions.specs.declared.following.Style.{Style}
 use Rattle.format.proofs.Elements.{letter_below}
 use Rattle.format.proofs.Pieces.{Unstyled, conversion_unstyled, Follows, follows}
@@ -41,21 +40,17 @@ use Rattle.conversions.proofs.Styles.{flag_run_lem, width_run_lem}
 use Rattle.values.specs.Moments.{moment_fault, moment_of}
 use Rattle.values.specs.Values.{value}
 use Rattle.values.specs.declared.Moment.{Moment}
-use Rattle.values.specs.declared.MomentFields.{MomentFields}
-use Rattle.values.specs.declared.MomentFields.TheVariants.{Valid}
 use Rattle.strftime.specs.Private.{IsMoment}
 use Rattle.converted.specs.Converted.{places_by, formed, converted}
-use Rattle.strftime.specs.Writing.{Result, longest_writing, numbered, element, text}
+use Rattle.strftime.specs.Writing.{Outcome, longest_writing, numbered, element, text}
 use Rattle.strftime.specs.Writing.{refused, put, is_seconds, first_seconds, lacking, offered, by_format, by_elements}
 use Rattle.strftime.specs.Writing.{for_moment, for_fields, writing, elements_writing}
-use Rattle.values.specs.declared.offsets.Offset.{Offset}
-use Rattle.values.specs.declared.offsets.Offset.TheVariants.{Unsaid, Minutes}
 use Rattle.strftime.specs.declared.Fields.{Fields}
-use Rattle.strftime.specs.declared.Lack.{Lack}
-use Rattle.strftime.specs.declared.Lack.TheVariants.{Nothing, ZoneOffset}
 use Rattle.strftime.proofs.Complete.{puts_text}
 use Rattle.converted.proofs.Lengths.{number_length}
 use Rattle.strftime.proofs.Lengths.{form_most, form_most_lem, has_room, converted_most, element_byte, element_styled}
+use Rattle.std.specs.Prelude.{Ok, Result, ℕ, ℤ}
+use Rattle.values.specs.declared.fields.Field.{Field}
 
 -- ---- a conversion's letter and width, in its element
 
@@ -89,12 +84,12 @@ abbrev ninety_nine : Style
 ninety_nine = record { flag = 0; width = 99 }
 
 module _ (inner : ℕ → ℕ → Opening) where
-  widest-opens : (n i : ℕ) → open_from Writer inner Own i 0 (widest (suc n))
-      ≡ before (conversion_at i ninety_nine 100 ∷ []) (open_from Writer inner Own (i + 1 + 1 + 1 + 1) 0 (widest n))
+  widest-opens : (n i : ℕ) → open_from Writer inner None i 0 (widest (suc n))
+      ≡ before (conversion_at i ninety_nine 100 ∷ []) (open_from Writer inner None (i + 1 + 1 + 1 + 1) 0 (widest n))
   unfolding widest rows-compute opening-computes
   widest-opens n i = refl
 
-  widest-whole : (n i : ℕ) → (open_from Writer inner Own i 0 (widest n)).ended ≡ Whole
+  widest-whole : (n i : ℕ) → (open_from Writer inner None i 0 (widest n)).ended ≡ Whole
   unfolding widest open_from nothing before
   widest-whole zero i = refl
   widest-whole (suc n) i = rw (widest-opens n i) (widest-whole n (i + 1 + 1 + 1 + 1))
@@ -109,7 +104,7 @@ module _ (m : Moment) (i : IsMoment m) where
       (omega (arith, plain_most 2 (value (conversion_of 100).kind m) r.0 r.1))
 
   widest-text : (inner : ℕ → ℕ → Opening) (n k : ℕ) → k + 4 * n ≤ longest
-      → length (text m (open_from Writer inner Own k 0 (widest n)).elements) ≡ 99 * n
+      → length (text m (open_from Writer inner None k 0 (widest n)).elements) ≡ 99 * n
   unfolding widest open_from nothing before text
   widest-text inner zero k h = refl
   widest-text inner (suc n) k h =
@@ -122,7 +117,7 @@ unfolding is_seconds
 other_letter e h l = rw (le-ltb e 256 h, l)
 
 first_none : (inner : ℕ → ℕ → Opening) (n k : ℕ) → k + 4 * n ≤ longest
-    → first_seconds (open_from Writer inner Own k 0 (widest n)).elements ≡ Nothing
+    → first_seconds (open_from Writer inner None k 0 (widest n)).elements ≡ None
 unfolding widest open_from nothing before first_seconds
 first_none inner zero k h = refl
 first_none inner (suc n) k h =
@@ -131,11 +126,11 @@ first_none inner (suc n) k h =
     let s = other_letter e (omega arith) l in
     rw (widest-opens inner n k, s) (first_none inner n (k + 1 + 1 + 1 + 1) (omega arith))
 
-widest_lacks : (o : Offset) (inner : ℕ → ℕ → Opening) (n k : ℕ) → k + 4 * n ≤ longest
-    → lacking o (open_from Writer inner Own k 0 (widest n)).elements ≡ Nothing
+widest_lacks : (o : Option ℤ) (inner : ℕ → ℕ → Opening) (n k : ℕ) → k + 4 * n ≤ longest
+    → lacking o (open_from Writer inner None k 0 (widest n)).elements ≡ None
 unfolding lacking
-widest_lacks Unsaid inner n k h = first_none inner n k h
-widest_lacks (Minutes z) inner n k h = refl
+widest_lacks None inner n k h = first_none inner n k h
+widest_lacks (Some z) inner n k h = refl
 
 -- whatever the moment, and every shorter buffer is too small
 pub longest_needed : (t : Fields) (b : List ℕ) → moment_fault t.year t.month t.day t.hour t.minute t.second t.offset ≡ 0
@@ -145,7 +140,7 @@ longest_needed t b v h =
     let d = date t.year t.month t.day in
     let m : Moment = record { date = d; hour = t.hour; minute = t.minute; second = t.second; offset = t.offset } in
     let inner = composite_to Writer 2 in
-    let valid : moment_of t.year t.month t.day t.hour t.minute t.second t.offset ≡ Valid m = rw v in
+    let valid : moment_of t.year t.month t.day t.hour t.minute t.second t.offset ≡ Ok m = rw v in
     let needed : length (text m (opening Writer (widest 256)).elements) ≡ longest_writing = widest-text m v inner 256 0 (omega arith) in
     let all : writing (widest 256) t b ≡ put (text m (opening Writer (widest 256)).elements) b =
     puts_text (widest 256) t b (omega (arith, widest_length 256)) (widest-whole inner 256 0) valid
@@ -249,7 +244,7 @@ module _ (m : Moment) where
 
   module _ (i : IsMoment m) where
     module _ (inner : ℕ → ℕ → Opening) (most : ℕ → ℕ)
-        (few : (sign c : ℕ) → sign + 1 < longest → length (text m (inner sign c).elements) ≤ most c) (g : Sign) where
+        (few : (sign c : ℕ) → sign + 1 < longest → length (text m (inner sign c).elements) ≤ most c) (g : Option ℕ) where
       acted-text : (n k sign : ℕ) (rest : Opening) → (1 ≤ n → sign + 1 < longest) → (a : Act) → Follows n k a → Lettered a
           → length (text m (acted inner sign rest a).elements) ≤ actMost most a + length (text m rest.elements)
       unfolding acted actMost before nothing text
@@ -287,7 +282,7 @@ module _ (m : Moment) where
     unfolding composite_to composite_most nothing text sign_at
     composite-text zero sign c h = omega arith
     composite-text (suc depth) sign c h =
-        open-text (composite_to Writer depth) (composite_most depth) (composite-text depth) (Of sign) (own_format c) 0 0
+        open-text (composite_to Writer depth) (composite_most depth) (composite-text depth) (Some sign) (own_format c) 0 0
         (own_passes (every is_byte) c (unfold rows-compute every in tt) (unfold every in tt))
         (λ j k. h)
 
@@ -334,13 +329,13 @@ module _ (f : List ℕ) (short : length f ≤ longest) (all-bytes : every is_byt
   longest_text m i =
       omega (
         arith,
-        open-text m i (composite_to Writer 2) (composite_most 2) (composite-text m i 2) Own f 0 0 (rw all-bytes tt) (λ j h. omega arith),
+        open-text m i (composite_to Writer 2) (composite_most 2) (composite-text m i 2) None f 0 0 (rw all-bytes tt) (λ j h. omega arith),
         format-bound (composite_most 2) few f 0,
       )
 
 -- ---- a buffer of that size is enough for every writing
 
-abbrev Enough : Result → Type 0
+abbrev Enough : Outcome → Type 0
 Enough w = w.answer.number ≡ 4 → ⊥
 
 put_enough : (s b : List ℕ) → length s ≤ length b → Enough (put s b)
@@ -351,16 +346,16 @@ offered_enough : (es b : List ℕ) (m : Moment) → length (text m es) ≤ lengt
 unfolding offered refused
 offered_enough es b m h = go (lacking m.offset es) refl
   where
-    go : (l : Lack) → lacking m.offset es ≡ l → Enough (offered es b m)
-    go Nothing e = rw e (put_enough (text m es) b h)
-    go (ZoneOffset p) e = rw e (λ z. omega arith)
+    go : (l : Option ℕ) → lacking m.offset es ≡ l → Enough (offered es b m)
+    go None e = rw e (put_enough (text m es) b h)
+    go (Some p) e = rw e (λ z. omega arith)
 
-fields_enough : (rest : Moment → Result) (t : Fields) (b : List ℕ) → ((m : Moment) → IsMoment m → Enough (rest m))
+fields_enough : (rest : Moment → Outcome) (t : Fields) (b : List ℕ) → ((m : Moment) → IsMoment m → Enough (rest m))
     → Enough (for_fields rest b t)
 unfolding for_fields for_moment moment_of refused
 fields_enough rest t b f =
     let fault = moment_fault t.year t.month t.day t.hour t.minute t.second t.offset in
-    either (λ (r : MomentFields). Enough (for_moment rest b r)) (eqb fault 0) (λ z. f _ (eqb-true fault 0 z)) (λ _ e. omega arith)
+    either (λ (r : Result Moment Field). Enough (for_moment rest b r)) (eqb fault 0) (λ z. f _ (eqb-true fault 0 z)) (λ _ e. omega arith)
 
 -- by a format
 pub longest_writing_lem : (f : List ℕ) (t : Fields) (b : List ℕ) → every is_byte f ≡ true → longest_writing ≤ length b

@@ -11,6 +11,7 @@ use lib.Seq.{drop-cons, length-sets}
 use mir.Facts.{to_z-of_z}
 use mir.Syntax.{w64}
 use mir.Val.{SFits, to_z, of_z}
+use Rattle.std.specs.Prelude.{None, Some}
 use Rattle.laws.specs.Stores.{Puts}
 use Rattle.laws.proofs.Stores.{then}
 use Rattle.text.specs.Digits.{plain}
@@ -19,7 +20,6 @@ use Rattle.values.specs.Offsets.{is_negative}
 use Rattle.converted.proofs.Offsets.{east_is, whole_negative, whole_positive, size}
 use Rattle.strftime.specs.Writing.{is_seconds, first_seconds}
 use Rattle.converted.specs.Zones.{hours_minutes, east, whole}
-use Rattle.strftime.specs.declared.Lack.TheVariants.{Nothing, ZoneOffset}
 
 -- ---- how it is put
 
@@ -30,12 +30,12 @@ kept {x} {before} {after} {at} p = ap length p.stores ∙ length-sets before at 
 -- ---- the first %s
 
 module _ (es : List ℕ) (i : ℕ) where
-  pub no_more : length es ≤ i → first_seconds (drop i es) ≡ Nothing
+  pub no_more : length es ≤ i → first_seconds (drop i es) ≡ None
   unfolding first_seconds
   no_more h = rw (drop_of_length-le es h)
 
   module _ (h : i < length es) {t : Bool} (e : t ≡ is_seconds (get_or es i 0)) where
-    pub seconds_here : t ≡ true → first_seconds (drop i es) ≡ ZoneOffset (after_sign (get_or es i 0) - 1)
+    pub seconds_here : t ≡ true → first_seconds (drop i es) ≡ Some (after_sign (get_or es i 0) - 1)
     unfolding first_seconds
     seconds_here q = rw (drop-cons es i 0 h, ← e, q)
 

@@ -15,8 +15,6 @@ use Rattle.laws.specs.Stores.{Puts}
 use Rattle.laws.proofs.Cases.{either, clash}
 use Rattle.calendar.specs.Calendar.{date}
 use Rattle.format.specs.Opening.{opening, opened, opened_into, longest, most_elements, is_element, elements_in}
-use Rattle.format.specs.declared.opening.Opened.{Opened}
-use Rattle.format.specs.declared.opening.Opened.TheVariants.{Done as Opened-to, TooLong, Bad}
 use Rattle.format.specs.declared.opening.Side.{Side}
 use Rattle.format.specs.declared.opening.Side.TheVariants.{Writer, Reader}
 use Rattle.format.proofs.Bound.{bound}
@@ -27,32 +25,30 @@ use Rattle.format.proofs.Openings.{Opens, opened_done, opened_bad, opened_long, 
 use Rattle.format.proofs.Sides.{same_opening}
 use Rattle.values.specs.Moments.{moment_fault, moment_of}
 use Rattle.values.specs.declared.Moment.{Moment}
-use Rattle.values.specs.declared.MomentFields.{MomentFields}
-use Rattle.values.specs.declared.MomentFields.TheVariants.{Valid, Bad}
-use Rattle.strftime.specs.Private.{moment_writing, CanWrite, opened_writing, IsMoment}
-use Rattle.strftime.specs.Writing.{Result, text, writing_of, refused, put, is_seconds, first_seconds, lacking, offered}
+use Rattle.strftime.specs.Private.{fields_moment, moment_writing, unopened_refusal, IsMoment}
+use Rattle.strftime.specs.Writing.{Outcome, text, writing_of, refused, put, is_seconds, first_seconds, lacking, offered}
 use Rattle.strftime.specs.Writing.{by_format, by_elements}
 use Rattle.strftime.specs.Writing.{for_moment, for_fields, writing, elements_writing}
-use Rattle.values.specs.declared.offsets.Offset.{Offset}
-use Rattle.values.specs.declared.offsets.Offset.TheVariants.{Unsaid, Minutes}
 use Rattle.strftime.specs.declared.Fields.{Fields}
-use Rattle.strftime.specs.declared.Lack.{Lack}
-use Rattle.strftime.specs.declared.Lack.TheVariants.{Nothing, ZoneOffset}
 use Rattle.strftime.specs.declared.Writing.{Writing}
-use Rattle.strftime.specs.declared.Written.TheVariants.{Done, FormatTooLong, BadMoment, BadConversion, NoOffset, BufferTooSmall}
+use Rattle.strftime.specs.declared.WriteRefusal.TheVariants.{FormatTooLong, BadMoment, BadConversion, NoOffset, BufferTooSmall}
+use Rattle.std.specs.Prelude.{Option, None, Some, Err, Ok, Result, ℤ}
+use Rattle.format.specs.declared.opening.Unopened.TheVariants.{Bad, TooLong}
+use Rattle.format.specs.declared.opening.Unopened.{Unopened}
+use Rattle.values.specs.declared.fields.Field.{Field}
 
 -- the answer is a, and the buffer is left as c
-abbrev pub Gives : Writing → List ℕ → Result → Type 0
+abbrev pub Gives : Writing → List ℕ → Outcome → Type 0
 Gives a c w = record { result_value : a ≡ w.answer; out_after : c ≡ w.buffer }
 
 -- ---- the bytes to put: 4 and 0
 
 module _ (s b : List ℕ) where
-  pub too_small : {n : ℕ} → n ≡ length s → length b < n → Gives (writing_of (BufferTooSmall n)) b (put s b)
+  pub too_small : {n : ℕ} → n ≡ length s → length b < n → Gives (writing_of (Err (BufferTooSmall n))) b (put s b)
   unfolding put refused writing_of
   too_small e h = rw (← e, lt-leb _ (length b) h) (record { result_value = refl; out_after = refl })
 
-  pub fits : {n : ℕ} {c : List ℕ} → length s ≤ length b → Puts s b 0 c n → Gives (writing_of (Done n)) c (put s b)
+  pub fits : {n : ℕ} {c : List ℕ} → length s ≤ length b → Puts s b 0 c n → Gives (writing_of (Ok n)) c (put s b)
   unfolding put writing_of
   fits h p = rw (le-leb (length s) (length b) h, p.ends, zero-add (length s)) (record { result_value = refl; out_after = p.stores })
 
@@ -65,9 +61,9 @@ pub record Stored (side : Side) (f : List ℕ) (n : ℕ) (ys : List ℕ) : Type 
   pub first : take n ys ≡ (opening side f).elements
 
 -- opened into xs, which has room for 13 elements to two bytes
-pub all_stored : (side : Side) (f xs : List ℕ) {r : Opened} {ys : List ℕ} {n : ℕ} → 13 * min longest (length f) ≤ 2 * length xs
+pub all_stored : (side : Side) (f xs : List ℕ) {r : Result ℕ Unopened} {ys : List ℕ} {n : ℕ} → 13 * min longest (length f) ≤ 2 * length xs
     → r ≡ opened side f
-    → ys ≡ opened_into side f xs → r ≡ Opened-to n → Stored side f n ys
+    → ys ≡ opened_into side f xs → r ≡ Ok n → Stored side f n ys
 all_stored side f xs {ys = ys} {n = n} h a s e =
     let o = opened_done side f a e in
     let first = stored side f xs s o (omega (arith, o.count, o.short, bound side f)) in
@@ -80,7 +76,7 @@ all_unstyled f b h =
     rw h.first (omega (arith, h.opens.few, h.opens.count), elements Reader f h.opens.short (are_bytes f (λ k l. b k)))
 
 -- elements that are read have no %s, and so a moment lacks nothing to be written by them
-plain_first : (es : List ℕ) → every (is_element Reader) es ≡ true → first_seconds es ≡ Nothing
+plain_first : (es : List ℕ) → every (is_element Reader) es ≡ true → first_seconds es ≡ None
 unfolding first_seconds every
 plain_first [] p = refl
 plain_first (e ∷ es) p =
@@ -94,10 +90,10 @@ plain_first (e ∷ es) p =
           | no h ↦ unfold is_seconds in rw (lt-ltb e 256 (lt_of_not-le h))
         ]
 
-plain_lacking : (o : Offset) (es : List ℕ) → every (is_element Reader) es ≡ true → lacking o es ≡ Nothing
+plain_lacking : (o : Option ℤ) (es : List ℕ) → every (is_element Reader) es ≡ true → lacking o es ≡ None
 unfolding lacking
-plain_lacking Unsaid es p = plain_first es p
-plain_lacking (Minutes z) es p = refl
+plain_lacking None es p = plain_first es p
+plain_lacking (Some z) es p = refl
 
 plain_offered : (es b : List ℕ) (m : Moment) → every (is_element Reader) es ≡ true → offered es b m ≡ put (text m es) b
 unfolding offered
@@ -118,102 +114,91 @@ module _ (f : List ℕ) (m : Moment) (b : List ℕ) where
       let all = rw h.first at (all_unstyled f k h).1 in
       rw (le-leb (length f) longest h.opens.short, same, h.opens.whole, same, plain_offered _ b m all) (rw h.first at g)
 
--- what opening a format answered, and stored in xs, which has room for 13 elements to two bytes
-module _ (f xs : List ℕ) (room : 13 * min longest (length f) ≤ 2 * length xs) {r : Opened} {ys : List ℕ} (a : r ≡ opened Writer f)
-    (s : ys ≡ opened_into Writer f xs) where
-  pub can_write : CanWrite r ys
-  can_write = go r refl
-    where
-      go : (o : Opened) → r ≡ o → CanWrite o ys
-      go (Opened-to n) e = let h = all_stored Writer f xs room a s e in (h.room, h.opens.few)
-      go TooLong e = tt
-      go (Bad p) e = tt
-
-  pub opened_format : (m : Moment) (b : List ℕ) {w : Writing} {c : List ℕ} → Gives w c (opened_writing r ys b m)
-      → Gives w c (moment_writing f m b)
-  unfolding opened_writing moment_writing by_format
-  opened_format m b {w} {c} = go r refl
-    where
-      go : (o : Opened) → r ≡ o → Gives w c (opened_writing o ys b m) → Gives w c (moment_writing f m b)
-      go (Opened-to n) e g = whole_format f m b (all_stored Writer f xs room a s e) g
-      go TooLong e g = rw (lt-leb (length f) longest (opened_long Writer f a e)) g
-      go (Bad p) e g = let h = opened_bad Writer f a e in rw (le-leb (length f) longest h.short, h.bad) g
-
-pub counted : (r : Opened) (es : List ℕ) {n : ℕ} → CanWrite r es → r ≡ Opened-to n → (n ≤ length es) × (n ≤ most_elements)
-counted r es w e = rw e at w
+  -- what opening a format answered, where it did not open whole
+  module _ {r : Result ℕ Unopened} (a : r ≡ opened Writer f) where
+    pub not_opened : (why : Unopened) → r ≡ Err why → Gives (writing_of (Err (unopened_refusal why))) b (moment_writing f m b)
+    unfolding moment_writing by_format refused writing_of
+    not_opened TooLong e = rw (lt-leb (length f) longest (opened_long Writer f a e)) (record { result_value = refl; out_after = refl })
+    not_opened (Bad p) e =
+        let h = opened_bad Writer f a e in
+        rw (le-leb (length f) longest h.short, h.bad) (record { result_value = refl; out_after = refl })
 
 -- ---- 12, then what is put
 
-module _ (es b : List ℕ) (m : Moment) {l : Lack} (e : l ≡ lacking m.offset es) where
-  pub no_offset : {p : ℕ} → l ≡ ZoneOffset p → Gives (writing_of (NoOffset p)) b (offered es b m)
+module _ (es b : List ℕ) (m : Moment) {l : Option ℕ} (e : l ≡ lacking m.offset es) where
+  pub no_offset : {p : ℕ} → l ≡ Some p → Gives (writing_of (Err (NoOffset p))) b (offered es b m)
   unfolding offered refused writing_of
   no_offset q = rw (← e, q) (record { result_value = refl; out_after = refl })
 
-  pub lacks_nothing : {a : Writing} {c : List ℕ} → l ≡ Nothing → Gives a c (put (text m es) b) → Gives a c (offered es b m)
+  pub lacks_nothing : {a : Writing} {c : List ℕ} → l ≡ None → Gives a c (put (text m es) b) → Gives a c (offered es b m)
   unfolding offered
   lacks_nothing q g = rw (← e, q) g
 
 -- ---- the fields: 2
 
-valid_moment : (y n d h i s : ℕ) (o : Offset) {m : Moment} → moment_of y n d h i s o ≡ Valid m → IsMoment m
+valid_moment : (y n d h i s : ℕ) (o : Option ℤ) {m : Moment} → moment_of y n d h i s o ≡ Ok m → IsMoment m
 unfolding moment_of
 valid_moment y n d h i s o {m} =
-    either (λ (r : MomentFields). r ≡ Valid m → IsMoment m) (eqb (moment_fault y n d h i s o) 0) (λ z q. good z q) (λ z q. clash (cc))
+    either (λ (r : Result Moment Field). r ≡ Ok m → IsMoment m) (eqb (moment_fault y n d h i s o) 0) (λ z q. good z q) (λ z q. clash (cc))
   where
     good : eqb (moment_fault y n d h i s o) 0 ≡ true
-        → Valid (record { date = date y n d; hour = h; minute = i; second = s; offset = o }) ≡ Valid m → IsMoment m
+        → ◌≡◌ {A = Result Moment Field} (Ok (record { date = date y n d; hour = h; minute = i; second = s; offset = o })) (Ok m)
+        → IsMoment m
     good z q =
         let e : record { date = date y n d; hour = h; minute = i; second = s; offset = o } ≡ m = cc in
         rw (← e) (eqb-true (moment_fault y n d h i s o) 0 z)
 
-module _ (t : Fields) {r : MomentFields}
-    (e : r ≡ moment_of t.year t.month t.day t.hour t.minute t.second t.offset) where
-  with-fields : (rest : Moment → Result) (b : List ℕ) {s : MomentFields} → r ≡ s → for_fields rest b t ≡ for_moment rest b s
-  unfolding for_fields
-  with-fields rest b q = rw (← e, q)
+-- where they are a moment, that is valid
+pub is_moment : (t : Fields) {r : Result Moment Field} → r ≡ moment_of t.year t.month t.day t.hour t.minute t.second t.offset → {m : Moment}
+    → r ≡ Ok m → IsMoment m
+is_moment t e q = valid_moment _ _ _ _ _ _ _ (sym e ∙ q)
 
-  -- where they are a moment, that is valid
-  pub is_moment : {m : Moment} → r ≡ Valid m → IsMoment m
-  is_moment q = valid_moment _ _ _ _ _ _ _ (sym e ∙ q)
+module _ (t : Fields) where
+  with-fields : (rest : Moment → Outcome) (b : List ℕ) {s : Result Moment Field} → fields_moment t ≡ s → for_fields rest b t
+      ≡ for_moment rest b s
+  unfolding for_fields
+  with-fields rest b q = rw q
 
   module _ (f b : List ℕ) where
-    pub too_long_lem : longest < length f → Gives (writing_of FormatTooLong) b (writing f t b)
+    pub too_long_lem : longest < length f → Gives (writing_of (Err FormatTooLong)) b (writing f t b)
     unfolding writing refused writing_of
     too_long_lem h = rw (lt-leb (length f) longest h) (record { result_value = refl; out_after = refl })
 
-    pub bad_moment : {n : ℕ} → length f ≤ longest → r ≡ Bad n → Gives (writing_of (BadMoment n)) b (writing f t b)
+    pub bad_moment : {d : Field} → length f ≤ longest → fields_moment t ≡ Err d → Gives (writing_of (Err (BadMoment d))) b (writing f t b)
     unfolding writing for_moment refused writing_of
     bad_moment h q = rw (le-leb (length f) longest h, with-fields (by_format f b) b q) (record { result_value = refl; out_after = refl })
 
-    pub good_moment : {m : Moment} {a : Writing} {c : List ℕ} → r ≡ Valid m → Gives a c (moment_writing f m b) → Gives a c (writing f t b)
+    pub good_moment : {m : Moment} {a : Writing} {c : List ℕ} → fields_moment t ≡ Ok m → Gives a c (moment_writing f m b)
+        → Gives a c (writing f t b)
     unfolding writing for_moment moment_writing
     good_moment q g = rw (with-fields (by_format f b) b q) g
 
   -- ---- elements: 2 and 3
 
   module _ (es b : List ℕ) where
-    pub bad_fields : {n : ℕ} → r ≡ Bad n → Gives (writing_of (BadMoment n)) b (elements_writing es t b)
+    pub bad_fields : {d : Field} → fields_moment t ≡ Err d → Gives (writing_of (Err (BadMoment d))) b (elements_writing es t b)
     unfolding elements_writing for_moment refused writing_of
     bad_fields q = rw (with-fields (by_elements es b) b q) (record { result_value = refl; out_after = refl })
 
-    module _ {m : Moment} (q : r ≡ Valid m) (k : length es ≡ elements_in Reader most_elements es) where
-      pub plain_elements : {a : Writing} {c : List ℕ} → Gives a c (put (text m es) b) → Gives a c (elements_writing es t b)
+    module _ {m : Moment} (q : fields_moment t ≡ Ok m) where
+      pub plain_elements : length es ≡ elements_in Reader most_elements es → {a : Writing} {c : List ℕ} → Gives a c (put (text m es) b)
+          → Gives a c (elements_writing es t b)
       unfolding elements_writing for_moment by_elements
-      plain_elements g =
+      plain_elements k g =
           let all = eq-eqb (elements_in Writer most_elements es) (length es) (all_plain most_elements es (sym k)) in
           rw (with-fields (by_elements es b) b q, all, plain_offered es b m (counted_all Reader most_elements es (sym k))) g
 
-    module _ {m : Moment} {good : ℕ} (q : r ≡ Valid m) (k : good ≡ elements_in Writer most_elements es) where
-      pub bad_entry : good < length es → Gives (writing_of (BadConversion good)) b (elements_writing es t b)
-      unfolding elements_writing for_moment by_elements refused writing_of
-      bad_entry h =
-          rw
-          (with-fields (by_elements es b) b q, ← k, ne_eqb good (length es) (λ (e : good ≡ length es). omega arith))
-          (record { result_value = refl; out_after = refl })
+      module _ {good : ℕ} (k : good ≡ elements_in Writer most_elements es) where
+        pub bad_entry : good < length es → Gives (writing_of (Err (BadConversion good))) b (elements_writing es t b)
+        unfolding elements_writing for_moment by_elements refused writing_of
+        bad_entry h =
+            rw
+            (with-fields (by_elements es b) b q, ← k, ne_eqb good (length es) (λ (e : good ≡ length es). omega arith))
+            (record { result_value = refl; out_after = refl })
 
-      pub all_elements : {a : Writing} {c : List ℕ} → length es ≤ good → Gives a c (offered es b m)
-          → Gives a c (elements_writing es t b)
-      unfolding elements_writing for_moment by_elements
-      all_elements h g =
-          rw
-          (with-fields (by_elements es b) b q, ← k, eq-eqb good (length es) (omega (arith, k, counted_within Writer most_elements es))) g
+        pub all_elements : {a : Writing} {c : List ℕ} → length es ≤ good → Gives a c (offered es b m)
+            → Gives a c (elements_writing es t b)
+        unfolding elements_writing for_moment by_elements
+        all_elements h g =
+            rw
+            (with-fields (by_elements es b) b q, ← k, eq-eqb good (length es) (omega (arith, k, counted_within Writer most_elements es))) g

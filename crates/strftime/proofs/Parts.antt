@@ -1,11 +1,10 @@
 -- What is put into a part of a buffer is put into the whole from the part's start on: a number, a name, and its first bytes.
 -- Assumes nothing.
-use Prim.Native.Nat.{ℕ, zero, suc, max, ◌+◌, ◌-◌, ◌≤◌, ◌<◌}
+use Prim.Native.Nat.{ℕ, zero, suc, ◌+◌, ◌-◌, ◌≤◌}
 use mathlib.Core.List.{List, [], ◌∷◌, ◌++◌, map}
 use mathlib.Core.Path.{◌≡◌, refl, sym, ap, ◌∙◌}
-use native.Mathlib.Numerals.{add-one}
 use native.Mathlib.Omega.{arith}
-use lib.ListN.{length, take, drop, set, replicate, length-take, length-drop, length-set, length-replicate}
+use lib.ListN.{length, take, drop, replicate, length-take, length-drop, length-replicate}
 use lib.Seq.{sets, take_all, length-sets}
 use Rattle.laws.specs.Stores.{Puts}
 use Rattle.laws.proofs.Stores.{sets_all, sets_part, then}
@@ -19,11 +18,6 @@ use Rattle.text.proofs.Fill.{fill_length, plain_places}
 use Rattle.text.proofs.ReadBack.{filled_length}
 use Rattle.conversions.specs.declared.following.Style.{Style}
 use Rattle.converted.specs.Converted.{fill_by, places_by, number, case_by, name}
-
-take_part : (k : ℕ) (x : List ℕ) → take (length (take k x)) x ≡ take k x
-take_part zero x = refl
-take_part (suc k) [] = refl
-take_part (suc k) (a ∷ x) = ap (λ (s : List ℕ). a ∷ s) (take_part k x)
 
 -- the first letters of a name in a case are its first letters in that case
 take_map : (f : ℕ → ℕ) (n : ℕ) (s : List ℕ) → take n (map f s) ≡ map f (take n s)
@@ -45,79 +39,43 @@ module _ (b : List ℕ) (at : ℕ) where
   part_length : (k : ℕ) → at + k ≤ length b → length (take k (drop at b)) ≡ k
   part_length k h = simp (length-take, length-drop) (omega arith)
 
-  -- a number fills a part as long as its width
-  pub puts_number : {end : ℕ} {y : List ℕ} (f w v : ℕ) → end ≡ at + w → at + w ≤ length b
-      → y ≡ filled f (length (take (end - at) (drop at b))) v → Puts (filled f w v) b at (changed b at (end - at) y) end
-  puts_number {end} {y} f w v e h q =
-      let k : end - at ≡ w = omega arith in
-      let l = part_length w h in
-      let z : y ≡ sets (take w (drop at b)) 0 (filled f w v) =
-      rw (k, l) at q ∙ sym (sets_all (take w (drop at b)) (filled f w v) (filled_length f w v ∙ sym l)) in
-      record {
-        ends = rw (filled_length f w v) e;
-        stores =
-            rw (k, z)
-            (sets_part b at w (filled f w v)
-            ∙ ap (sets b at) (take_all w (filled f w v) (omega (arith, filled_length f w v))));
-      }
+  -- a text that is as long as the part
+  puts-all : {end : ℕ} {y : List ℕ} (x : List ℕ) → end ≡ at + length x → at + length x ≤ length b → y ≡ x
+      → Puts x b at (changed b at (end - at) y) end
+  puts-all {end} {y} x e h q =
+      let k : end - at ≡ length x = omega arith in
+      let part = take (length x) (drop at b) in
+      let z : y ≡ sets part 0 x = q ∙ sym (sets_all part x (sym (part_length (length x) h))) in
+      record { ends = e; stores = rw (k, z) (sets_part b at (length x) x ∙ ap (sets b at) (take_all (length x) x (omega arith))) }
 
-  -- a text is put into the part from a place on, which has room for it
-  puts-rest : {n : ℕ} {y : List ℕ} (x : List ℕ) → at + length x ≤ length b → n ≡ length x
-      → y ≡ sets (take (length b - at) (drop at b)) 0 x → Puts x b at (changed b at (length b - at) y) (at + n)
-  puts-rest x h e q =
-      record {
-        ends = rw e;
-        stores = rw q (sets_part b at (length b - at) x ∙ ap (sets b at) (take_all (length b - at) x (omega arith)));
-      }
+  -- a number, and a fill
+  module _ {end : ℕ} (f k : ℕ) (e : end ≡ at + k) (h : at + k ≤ length b) where
+    part-length : length (take (end - at) (drop at b)) ≡ k
+    part-length = let n : end - at ≡ k = omega arith in rw n (part_length k h)
 
-  -- the first bytes of a text are put, as many as the part has
-  puts_first : {end : ℕ} {y : List ℕ} (k : ℕ) (x : List ℕ) → end ≡ at + length (take k x)
-      → y ≡ sets (take (end - at) (drop at b)) 0 x → Puts (take k x) b at (changed b at (end - at) y) end
-  puts_first {end} k x e q =
-      let l : end - at ≡ length (take k x) = omega arith in
-      record { ends = e; stores = rw (q, l) (sets_part b at (length (take k x)) x ∙ ap (sets b at) (take_part k x)) }
+    pub puts_number : {y : List ℕ} (v : ℕ) → y ≡ filled f (length (take (end - at) (drop at b))) v
+        → Puts (filled f k v) b at (changed b at (end - at) y) end
+    puts_number v q =
+        let l = filled_length f k v in
+        puts-all (filled f k v) (rw l e) (rw l h) (rw part-length at q)
+
+    pub puts_fill : {y : List ℕ} → y ≡ replicate (length (take (end - at) (drop at b))) f
+        → Puts (replicate k f) b at (changed b at (end - at) y) end
+    puts_fill q =
+        let l = length-replicate k f in
+        puts-all (replicate k f) (rw l e) (rw l h) (rw part-length at q)
 
   -- the first letters of a name
-  pub puts_short : {end : ℕ} {y : List ℕ} (c : Case) (k : ℕ) (x : List ℕ) → end ≡ at + length (take k x)
-      → y ≡ sets (take (end - at) (drop at b)) 0 (cased c x) → Puts (cased c (take k x)) b at (changed b at (end - at) y) end
-  puts_short c k x e q =
-      rw (← take_cased c k x)
-      (puts_first k (cased c x) (rw (take_cased c k x, cased_length c (take k x)) e) q)
-
-  -- a whole name
-  pub puts_full : {n : ℕ} {y : List ℕ} (c : Case) (x : List ℕ) → at + length x ≤ length b → n ≡ length x
-      → y ≡ sets (take (length b - at) (drop at b)) 0 (cased c x) → Puts (cased c x) b at (changed b at (length b - at) y) (at + n)
-  puts_full c x h e q = puts-rest (cased c x) (rw (cased_length c x) h) (rw (cased_length c x) e) q
-
--- ---- the fill, and what it fills
-
--- what k - n bytes of the fill leave to do
-pub record Filling (f places n : ℕ) (buf₀ : List ℕ) (at : ℕ) (buf : List ℕ) (end k : ℕ) : Type 0 where
-  pub from : n ≤ k
-  pub most : k ≤ max places n
-  pub ends : end + n ≡ at + k
-  pub kept : length buf ≡ length buf₀
-  pub rest : sets buf end (replicate (places - k) f) ≡ sets buf₀ at (replicate (places - n) f)
-
-pub fill_start : (f places n : ℕ) (buf : List ℕ) (at : ℕ) → Filling f places n buf at buf at n
-fill_start f places n buf at = record { from = omega arith; most = omega arith; ends = refl; kept = refl; rest = refl }
-
-module _ {f places n : ℕ} {buf₀ : List ℕ} {at : ℕ} {buf : List ℕ} {end k : ℕ} (p : Filling f places n buf₀ at buf end k) where
-  pub fill_next : k < places → Filling f places n buf₀ at (set buf end f) (end + 1) (k + 1)
-  fill_next h =
-      let q : places - k ≡ suc (places - (k + 1)) = omega arith in
+  pub puts_name : {end n : ℕ} {y : List ℕ} (c : Case) (s : List ℕ) → n ≤ length s → end ≡ at + n
+      → y ≡ sets (take (end - at) (drop at b)) 0 (cased c s) → Puts (cased c (take n s)) b at (changed b at (end - at) y) end
+  puts_name {end} {n} c s h e q =
+      let k : end - at ≡ n = omega arith in
       record {
-        from = omega (arith, p.from);
-        most = omega arith;
-        ends = omega (arith, p.ends);
-        kept = length-set buf end f ∙ p.kept;
-        rest = rw add-one (rw q at p.rest);
+        ends = rw (cased_length, length-take) (omega arith);
+        stores = rw (q, k, ← take_cased) (sets_part b at n (cased c s));
       }
 
-  pub fill_end : places ≤ k → Puts (replicate (places - n) f) buf₀ at buf end
-  fill_end h =
-      let q : places - k ≡ 0 = omega arith in
-      record { ends = rw length-replicate (omega (arith, p.from, p.most, p.ends)); stores = rw q at p.rest }
+-- ---- the fill, and what it fills
 
 -- a text s is put after its fill
 module _ (f w : ℕ) (s before : List ℕ) (at : ℕ) (room : at + length (fill f w s) ≤ length before) {n : ℕ} (l : n ≡ length s) where

@@ -2,22 +2,24 @@
 #![tactic(auto)]
 
 mod measuring;
+mod moments;
 mod putting;
 mod zones;
 
-ghost use Rattle.std.specs.Prelude.{◌≡◌, min, ◌-◌, ◌*◌, ◌≤◌, length};
+ghost use Rattle.std.specs.Prelude.{◌≡◌, min, ◌-◌, ◌*◌, ◌≤◌, length, MatchResult};
 ghost use Rattle.format.specs.Opening.{longest, after_sign, most_elements};
-ghost use Rattle.values.specs.Moments.{moment_of};
-ghost use Rattle.strftime.specs.Private.{moment_writing, CanWrite, opened_writing, IsMoment};
+ghost use Rattle.strftime.specs.Private.{fields_moment, moment_writing, unopened_refusal};
+ghost use Rattle.strftime.specs.declared.WriteRefusal.TheVariants.{BadMoment};
 ghost use Rattle.strftime.specs.Writing.{text, put, is_seconds, first_seconds, lacking, offered, writing_of, writing, elements_writing};
 
 use format::{
-    LONGEST, MIDDLE_BYTES, MIDDLE_ELEMENTS, MOST_ELEMENTS, Opened, SHORT_BYTES, SHORT_ELEMENTS,
-    Side, elements_in, open,
+    LONGEST, MIDDLE_BYTES, MIDDLE_ELEMENTS, MOST_ELEMENTS, SHORT_BYTES, SHORT_ELEMENTS, Side,
+    Unopened, elements_in, open,
 };
 use measuring::measure;
+use moments::ValidMoment;
 use putting::put_elements;
-use values::{Moment, MomentFields, Offset};
+use values::{Field, Moment};
 
 #[derive(Clone, Copy)]
 pub struct Fields {
@@ -27,26 +29,40 @@ pub struct Fields {
     pub hour: u32,
     pub minute: u32,
     pub second: u32,
-    pub offset: Offset,
+    pub offset: Option<i32>,
 }
 
-// The answer to a writing, in the order in which refusals are judged.
-#[derive(Clone, Copy)]
-pub enum Written {
-    Done { count: usize },
+// Why nothing is written, in the order in which refusals are judged.
+#[derive(Clone, Copy, PartialEq, Eq)]
+pub enum WriteRefusal {
     FormatTooLong,
-    BadMoment { field: u8 },
+    BadMoment { field: Field },
     BadConversion { at: usize },
     NoOffset { at: usize },
     BufferTooSmall { needed: usize },
 }
 
-// What a moment lacks to be written by some elements: nothing, or its zone offset for the first %s, by the offset of its %.
-#[derive(Clone, Copy)]
-pub enum Lack {
-    Nothing,
-    ZoneOffset { at: usize },
+impl From<Field> for WriteRefusal {
+    ghost from_gives = { λ f w. w ≡ BadMoment f };
+
+    fn from(field: Field) -> WriteRefusal {
+        WriteRefusal::BadMoment { field }
+    }
 }
+
+impl From<Unopened> for WriteRefusal {
+    ghost from_gives = { λ why w. w ≡ unopened_refusal why };
+
+    fn from(why: Unopened) -> WriteRefusal {
+        match why {
+            Unopened::TooLong => WriteRefusal::FormatTooLong,
+            Unopened::Bad { at } => WriteRefusal::BadConversion { at },
+        }
+    }
+}
+
+// The answer to a writing: how many bytes were written.
+pub type Written = Result<usize, WriteRefusal>;
 
 // The number and place of an answer (RULES 3).
 #[derive(Clone, Copy)]
@@ -55,31 +71,32 @@ pub struct Writing {
     pub place: usize,
 }
 
+#[tactic(auto, unfolding(crate::specs::Writing::writing_of))]
 pub fn writing_of(w: Written) -> Writing
     ensures { result ≡ writing_of w }
 {
     match w {
-        Written::Done { count } => Writing {
+        Ok(count) => Writing {
             number: 0,
             place: count,
         },
-        Written::FormatTooLong => Writing {
+        Err(WriteRefusal::FormatTooLong) => Writing {
             number: 1,
             place: 0,
         },
-        Written::BadMoment { field } => Writing {
+        Err(WriteRefusal::BadMoment { field }) => Writing {
             number: 2,
-            place: field as usize,
+            place: field.number() as usize,
         },
-        Written::BadConversion { at } => Writing {
+        Err(WriteRefusal::BadConversion { at }) => Writing {
             number: 3,
             place: at,
         },
-        Written::NoOffset { at } => Writing {
+        Err(WriteRefusal::NoOffset { at }) => Writing {
             number: 12,
             place: at,
         },
-        Written::BufferTooSmall { needed } => Writing {
+        Err(WriteRefusal::BufferTooSmall { needed }) => Writing {
             number: 4,
             place: needed,
         },
@@ -97,26 +114,18 @@ pub fn strftime(format: &[u8], fields: Fields, out: &mut [u8]) -> Written
     ensures result_value { writing_of result ≡ (writing format.now fields out.old).answer }
     ensures out_after { out.new ≡ (writing format.now fields out.old).buffer }
 {
-    match moment_of(fields) {
-        MomentFields::Bad(field) => {
-            // 1 is judged before 2.
-            if LONGEST < format.len() {
-                return Written::FormatTooLong;
-            }
-            Written::BadMoment { field }
-        }
-        MomentFields::Valid(moment) => {
-            if format.len() <= SHORT_BYTES {
-                let mut elements = [0u32; SHORT_ELEMENTS];
-                return write_format(format, moment, &mut elements, out);
-            }
-            if format.len() <= MIDDLE_BYTES {
-                let mut elements = [0u32; MIDDLE_ELEMENTS];
-                return write_format(format, moment, &mut elements, out);
-            }
-            write_styled(format, moment, out)
-        }
+    // 1 is judged before 2.
+    if LONGEST < format.len() {
+        return Err(WriteRefusal::FormatTooLong);
     }
+    let valid = moment_of(fields)?;
+    if format.len() <= SHORT_BYTES {
+        return write_plain::<SHORT_ELEMENTS>(format, valid, out);
+    }
+    if format.len() <= MIDDLE_BYTES {
+        return write_plain::<MIDDLE_ELEMENTS>(format, valid, out);
+    }
+    write_styled(format, valid, out)
 }
 
 // Writes a moment by the elements of a format that was opened before, whose entries are looked at first.
@@ -124,153 +133,127 @@ pub fn write_elements(elements: &[u32], fields: Fields, out: &mut [u8]) -> Writt
     ensures result_value { writing_of result ≡ (elements_writing elements.now fields out.old).answer }
     ensures out_after { out.new ≡ (elements_writing elements.now fields out.old).buffer }
 {
-    match moment_of(fields) {
-        MomentFields::Bad(field) => Written::BadMoment { field },
-        MomentFields::Valid(moment) => {
-            if elements_in(Side::Reader, elements) == elements.len() {
-                return write_opened(elements, moment, out, WIDEST * elements.len());
-            }
-            let good = elements_in(Side::Writer, elements);
-            if good < elements.len() {
-                return Written::BadConversion { at: good };
-            }
-            return write_any(elements, moment, out);
-        }
+    let valid = moment_of(fields)?;
+    if elements_in(Side::Reader, elements) == elements.len() {
+        return write_opened(elements, valid, out, WIDEST * elements.len());
     }
+    let good = elements_in(Side::Writer, elements);
+    if good < elements.len() {
+        return Err(WriteRefusal::BadConversion { at: good });
+    }
+    write_any(elements, valid, out)
 }
 
 // The moment with these fields, or the first bad one.
-fn moment_of(t: Fields) -> MomentFields
-    ensures { result ≡ moment_of t.year t.month t.day t.hour t.minute t.second t.offset }
+fn moment_of(t: Fields) -> Result<ValidMoment, Field>
+    ensures { MatchResult result (λ v. fields_moment t ≡ Ok v.moment) (λ f. fields_moment t ≡ Err f) }
 {
-    let offset = t.offset;
-    Moment::from_fields(t.year, t.month, t.day, t.hour, t.minute, t.second, offset)
+    let moment = Moment::from_fields(t.year, t.month, t.day, t.hour, t.minute, t.second, t.offset)?;
+    Ok(ValidMoment { moment })
 }
 
-// Opens the format into `elements`, which has room for 13 to two bytes, and writes those where they are elements for reading too: such
+// Opens the format into N entries, which have room for 13 to two bytes, and writes those where they are elements for reading too: such
 // need not be measured in a buffer of usual size.
-fn write_format(format: &[u8], moment: Moment, elements: &mut [u32], out: &mut [u8]) -> Written
-    requires format_bound { 13 * min longest (length format.now) ≤ 2 * length elements.old }
-    requires moment { IsMoment moment }
-    ensures result_value { writing_of result ≡ (moment_writing format.now moment out.old).answer }
-    ensures out_after { out.new ≡ (moment_writing format.now moment out.old).buffer }
+fn write_plain<const N: usize>(format: &[u8], valid: ValidMoment, out: &mut [u8]) -> Written
+    requires format_bound { 13 * min longest (length format.now) ≤ 2 * N }
+    requires entries_bound { N ≤ most_elements }
+    ensures result_value { writing_of result ≡ (moment_writing format.now valid.moment out.old).answer }
+    ensures out_after { out.new ≡ (moment_writing format.now valid.moment out.old).buffer }
 {
-    let Opened::Done { count } = open(Side::Reader, format, elements) else {
-        return write_styled(format, moment, out);
+    let mut elements = [0u32; N];
+    let Ok(count) = open(Side::Reader, format, &mut elements) else {
+        return write_styled(format, valid, out);
     };
-    write_opened(&elements[..count], moment, out, WIDEST * count)
+    write_opened(&elements[..count], valid, out, WIDEST * count)
 }
 
 // The same by any format, opened into the smallest of three arrays that has room for it.
-fn write_styled(format: &[u8], moment: Moment, out: &mut [u8]) -> Written
-    requires { IsMoment moment }
-    ensures result_value { writing_of result ≡ (moment_writing format.now moment out.old).answer }
-    ensures out_after { out.new ≡ (moment_writing format.now moment out.old).buffer }
+fn write_styled(format: &[u8], valid: ValidMoment, out: &mut [u8]) -> Written
+    ensures result_value { writing_of result ≡ (moment_writing format.now valid.moment out.old).answer }
+    ensures out_after { out.new ≡ (moment_writing format.now valid.moment out.old).buffer }
 {
     if format.len() <= SHORT_BYTES {
-        let mut elements = [0u32; SHORT_ELEMENTS];
-        let opened = open(Side::Writer, format, &mut elements);
-        return write_by(opened, &elements, moment, out);
+        return write_in::<SHORT_ELEMENTS>(format, valid, out);
     }
     if format.len() <= MIDDLE_BYTES {
-        let mut elements = [0u32; MIDDLE_ELEMENTS];
-        let opened = open(Side::Writer, format, &mut elements);
-        return write_by(opened, &elements, moment, out);
+        return write_in::<MIDDLE_ELEMENTS>(format, valid, out);
     }
-    let mut elements = [0u32; MOST_ELEMENTS];
-    let opened = open(Side::Writer, format, &mut elements);
-    write_by(opened, &elements, moment, out)
+    write_in::<MOST_ELEMENTS>(format, valid, out)
 }
 
-// Writes a moment by what opening a format answered, and by the elements that it stored.
-fn write_by(opened: Opened, elements: &[u32], moment: Moment, out: &mut [u8]) -> Written
-    requires can_write { CanWrite opened elements.now }
-    requires moment { IsMoment moment }
-    ensures result_value { writing_of result ≡ (opened_writing opened elements.now out.old moment).answer }
-    ensures out_after { out.new ≡ (opened_writing opened elements.now out.old moment).buffer }
+// The same, opened into N entries, which have room for 13 to two bytes.
+fn write_in<const N: usize>(format: &[u8], valid: ValidMoment, out: &mut [u8]) -> Written
+    requires format_bound { 13 * min longest (length format.now) ≤ 2 * N }
+    requires entries_bound { N ≤ most_elements }
+    ensures result_value { writing_of result ≡ (moment_writing format.now valid.moment out.old).answer }
+    ensures out_after { out.new ≡ (moment_writing format.now valid.moment out.old).buffer }
 {
-    match opened {
-        Opened::Done { count } => {
-            return write_any(&elements[..count], moment, out);
-        }
-        Opened::TooLong => Written::FormatTooLong,
-        Opened::Bad { at } => Written::BadConversion { at },
-    }
+    let mut elements = [0u32; N];
+    let count = open(Side::Writer, format, &mut elements)?;
+    write_any(&elements[..count], valid, out)
 }
 
 // The offset of the % of a conversion.
 fn sign_of(e: u32) -> usize
     ensures { result ≡ after_sign e - 1 }
 {
-    let after = e / 256 % 1024;
-    if after == 0 {
-        return 0;
-    }
-    (after - 1) as usize
+    (e / 256 % 1024).saturating_sub(1) as usize
 }
 
 fn is_seconds(e: u32) -> bool
     ensures { result ≡ is_seconds e }
 {
-    if e < 256 {
-        return false;
-    }
-    e % 256 == 115
+    256 <= e && e % 256 == 115
 }
 
-// The first %s among some elements.
-fn first_seconds(elements: &[u32]) -> Lack
+// The first %s among some elements, by the offset of its %.
+fn first_seconds(elements: &[u32]) -> Option<usize>
     ensures { result ≡ first_seconds elements.now }
 {
-    let mut i = 0;
-    while i < elements.len() {
-        let e = elements[i];
-        if is_seconds(e) {
-            return Lack::ZoneOffset { at: sign_of(e) };
+    for e in elements {
+        if is_seconds(*e) {
+            return Some(sign_of(*e));
         }
-        i += 1;
     }
-    Lack::Nothing
+    None
 }
 
-fn lacking(offset: Offset, elements: &[u32]) -> Lack
+// What a moment lacks to be written by some elements: its zone offset for the first %s, or nothing.
+fn lacking(offset: Option<i32>, elements: &[u32]) -> Option<usize>
     ensures { result ≡ lacking offset elements.now }
 {
     match offset {
-        Offset::Unsaid => first_seconds(elements),
-        Offset::Minutes(_) => Lack::Nothing,
+        None => first_seconds(elements),
+        Some(_) => None,
     }
 }
 
 // Writes a moment by any elements, where it has what they want.
-fn write_any(elements: &[u32], moment: Moment, out: &mut [u8]) -> Written
-    requires elements_len_bound { length elements.now ≤ most_elements }
-    requires moment { IsMoment moment }
-    ensures result_value { writing_of result ≡ (offered elements.now out.old moment).answer }
-    ensures out_after { out.new ≡ (offered elements.now out.old moment).buffer }
+fn write_any(elements: &[u32], valid: ValidMoment, out: &mut [u8]) -> Written
+    requires { length elements.now ≤ most_elements }
+    ensures result_value { writing_of result ≡ (offered elements.now out.old valid.moment).answer }
+    ensures out_after { out.new ≡ (offered elements.now out.old valid.moment).buffer }
 {
-    let offset = moment.offset;
-    match lacking(offset, elements) {
-        Lack::Nothing => write_opened(elements, moment, out, WIDEST_STYLED * elements.len()),
-        Lack::ZoneOffset { at } => Written::NoOffset { at },
+    match lacking(valid.moment.offset, elements) {
+        Some(at) => Err(WriteRefusal::NoOffset { at }),
+        None => write_opened(elements, valid, out, WIDEST_STYLED * elements.len()),
     }
 }
 
 // Writes a moment by elements, which write at most `most` bytes. Their text is measured first, unless the buffer has room for so many:
 // nothing is put before it is known to fit.
-fn write_opened(elements: &[u32], moment: Moment, out: &mut [u8], most: usize) -> Written
+fn write_opened(elements: &[u32], valid: ValidMoment, out: &mut [u8], most: usize) -> Written
     requires elements_len_bound { length elements.now ≤ most_elements }
-    requires elements_len_bound_2 { length (text moment elements.now) ≤ most }
-    requires moment { IsMoment moment }
-    ensures result_value { writing_of result ≡ (put (text moment elements.now) out.old).answer }
-    ensures out_after { out.new ≡ (put (text moment elements.now) out.old).buffer }
+    requires most_bound { length (text valid.moment elements.now) ≤ most }
+    ensures result_value { writing_of result ≡ (put (text valid.moment elements.now) out.old).answer }
+    ensures out_after { out.new ≡ (put (text valid.moment elements.now) out.old).buffer }
 {
     if out.len() < most {
-        let needed = measure(elements, moment);
+        let needed = measure(elements, valid);
         if out.len() < needed {
-            return Written::BufferTooSmall { needed };
+            return Err(WriteRefusal::BufferTooSmall { needed });
         }
     }
-    let n = put_elements(out, elements, moment);
-    Written::Done { count: n }
+    let n = put_elements(out, elements, valid);
+    Ok(n)
 }

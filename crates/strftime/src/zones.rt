@@ -7,16 +7,15 @@ ghost use Rattle.converted.specs.Zones.{hours_minutes, east, zone, whole, epoch_
 use crate::putting::put_number;
 use converted::{BILLION, zone_sign};
 use text::digit_count;
-use values::{Moment, Offset, is_negative, magnitude};
+use values::{Moment, is_negative, magnitude};
 
 pub(crate) fn put_zone(out: &mut [u8], at: usize, moment: Moment) -> usize
     requires { at + length (zone moment.offset) ≤ length out.old }
     ensures { Puts (zone moment.offset) out.old at out.new result }
 {
-    let offset = moment.offset;
-    match offset {
-        Offset::Unsaid => at,
-        Offset::Minutes(minutes) => put_east(out, at, minutes as i64),
+    match moment.offset {
+        None => at,
+        Some(minutes) => put_east(out, at, minutes as i64),
     }
 }
 
@@ -51,10 +50,9 @@ pub(crate) fn put_seconds(out: &mut [u8], at: usize, moment: Moment) -> usize
     requires { at + length (epoch_seconds moment moment.offset) ≤ length out.old }
     ensures { Puts (epoch_seconds moment moment.offset) out.old at out.new result }
 {
-    let offset = moment.offset;
-    match offset {
-        Offset::Unsaid => at,
-        Offset::Minutes(east) => put_whole(out, at, moment.seconds(east)),
+    match moment.offset {
+        None => at,
+        Some(east) => put_whole(out, at, moment.seconds(east)),
     }
 }
 

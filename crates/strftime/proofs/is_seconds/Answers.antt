@@ -1,12 +1,12 @@
 -- `strftime::is_seconds` meets its contract.
-use borrow.Author.Tests.{lt-ltb, le-ltb}
+use borrow.Author.Tests.{lt-leb, lt-ltb, le-ltb}
 use Rattle.strftime.specs.Writing.{is_seconds}
 use Rattle.strftime.proofs.is_seconds.Goals as goal
 
-pub returns-then-e-lt256 : goal.returns-then-e-lt256
+pub returns-then-e-ge256 : goal.returns-then-e-ge256
 unfolding is_seconds
-returns-then-e-lt256 c = rw (lt-ltb c.args.e 256 c.if-e-lt256.true)
+returns-then-e-ge256 c = rw (le-ltb c.args.e 256 c.if-e-ge256.true)
 
-pub returns : goal.returns
+pub returns-else-e-ge256 : goal.returns-else-e-ge256
 unfolding is_seconds
-returns c = rw (le-ltb c.args.e 256 c.if-e-lt256.false)
+returns-else-e-ge256 c = rw (lt-ltb c.args.e 256 c.if-e-ge256.false) (lt-leb 256 c.args.e c.if-e-ge256.false)

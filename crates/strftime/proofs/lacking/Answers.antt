@@ -2,10 +2,10 @@
 use Rattle.strftime.specs.Writing.{lacking}
 use Rattle.strftime.proofs.lacking.Goals as goal
 
-pub returns-in-Unsaid : goal.returns-in-Unsaid
+pub returns-in-None : goal.returns-in-None
 unfolding lacking
-returns-in-Unsaid c = rw c.in-Unsaid.is c.first_seconds.ensures
+returns-in-None c = rw c.in-None.is c.first_seconds.ensures
 
-pub returns-in-Minutes : goal.returns-in-Minutes
+pub returns-in-Some : goal.returns-in-Some
 unfolding lacking
-returns-in-Minutes c = rw c.in-Minutes.is
+returns-in-Some c = rw c.in-Some.is

@@ -9,4 +9,4 @@ returns-then-style-eq45 c = rw (eq-eqb _ 45 c.if-style-eq45.true)
 
 pub returns : goal.returns
 unfolding places_by
-returns c = rw (ne_eqb _ 45 c.if-style-eq45.false) c.larger.ensures
+returns c = rw (ne_eqb _ 45 c.if-style-eq45.false) c.max.ensures

@@ -1,5 +1,6 @@
 -- `converted::styles::fill_by` meets its contract: the definition makes the same tests.
-use borrow.Author.Tests.{ne_eqb}
+use native.Mathlib.Omega.{arith}
+use Rattle.std.proofs.lemmas.Bool.Decides.{nat_tests}
 use Rattle.converted.specs.Converted.{fill_by}
 use Rattle.converted.proofs.styles.fill_by.Goals as goal
 
@@ -13,6 +14,4 @@ returns-in-48 c = rw c.in-48.is
 
 pub returns-in_default : goal.returns-in_default
 unfolding fill_by
-returns-in_default c =
-    let r = c.in_default.in_default-own.rest in
-    rw (ne_eqb _ 95 r.0.1, ne_eqb _ 48 r.1)
+returns-in_default c = grind (arith, nat_tests)

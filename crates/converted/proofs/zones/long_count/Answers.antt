@@ -8,10 +8,7 @@ use Rattle.converted.proofs.zones.long_count.Goals as goal
 
 pub overflow_add-result : goal.overflow_add-result
 overflow_add-result c =
-    let s = c in
-    omega (arith, c.digit_count-2.ensures, plain_most 10 (s.args.n / 1000000000) (lit≤ tt) (omega arith))
+    omega (arith, c.digit_count-2.ensures, plain_most 10 (c.args.n / 1000000000) (lit≤ tt) (omega arith))
 
 pub returns : goal.returns
-returns c =
-    let s = c in
-    omega (arith, c.digit_count-2.ensures, long_length s.args.n (omega arith))
+returns c = omega (arith, c.digit_count-2.ensures, long_length c.args.n (omega arith))

@@ -1,20 +1,14 @@
 -- `converted::zones::seconds_length` meets its contract.
 use mathlib.Core.Path.{sym, ap, ◌∙◌}
+use native.Mathlib.Omega.{arith}
 use lib.ListN.{length}
-use Rattle.converted.proofs.Offsets.{epoch_unsaid, epoch_said, still_small}
+use Rattle.converted.proofs.Offsets.{epoch_unsaid, epoch_said}
 use Rattle.converted.proofs.zones.seconds_length.Goals as goal
 
-pub whole_length-requires : goal.whole_length-requires
-whole_length-requires c = still_small c.seconds.result c.seconds.ensures.small
+pub returns-in-None : goal.returns-in-None
+returns-in-None c = ap length (sym (epoch_unsaid c.args.moment c.in-None.is))
 
-pub returns-in-Unsaid : goal.returns-in-Unsaid
-returns-in-Unsaid c = ap length (sym (epoch_unsaid c.args.moment c.in-Unsaid.is))
-
-pub returns-in-Minutes : goal.returns-in-Minutes
-returns-in-Minutes c =
-    let r = c in
-    let o = c in
-    let m = o.args.moment in
-    c.whole_length.ensures
-    ∙ ap length
-    (sym (epoch_said m o.in-Minutes.is r.in-Minutes.known_told-1-own.given.0.1 r.seconds.ensures.value r.seconds.ensures.small))
+pub returns-in-Some : goal.returns-in-Some
+returns-in-Some c =
+    let r = c.seconds.ensures in
+    c.whole_length.ensures ∙ ap length (sym (epoch_said c.args.moment c.in-Some.is (omega arith) r.value r.small))

@@ -4,10 +4,10 @@ use Rattle.converted.specs.Zones.{zone}
 use Rattle.converted.proofs.Offsets.{east_length}
 use Rattle.converted.proofs.zones.zone_length.Goals as goal
 
-pub returns-in-Unsaid : goal.returns-in-Unsaid
+pub returns-in-None : goal.returns-in-None
 unfolding zone
-returns-in-Unsaid c = rw c.in-Unsaid.is
+returns-in-None c = rw c.in-None.is
 
-pub returns-in-Minutes : goal.returns-in-Minutes
+pub returns-in-Some : goal.returns-in-Some
 unfolding zone
-returns-in-Minutes c = rw c.in-Minutes.is (sym (east_length _))
+returns-in-Some c = rw c.in-Some.is (sym (east_length _))

@@ -1,6 +1,12 @@
 -- `strftime::measuring::converted_length` meets its contract: one return for each form.
+use mathlib.Core.Logic.{inl, inr}
 use mathlib.Core.Path.{refl, ◌∙◌}
 use native.Mathlib.Omega.{arith}
+use Prim.Native.Nat.{◌^◌, ◌≤◌, ◌<◌}
+use mathlib.Core.Bool.{true}
+use mathlib.Core.Path.{◌≡◌}
+use Rattle.conversions.specs.declared.conversions.Form.{Form}
+use Rattle.values.specs.Values.{value}
 use Rattle.conversions.specs.Conversions.{is_number}
 use Rattle.conversions.specs.Pieces.{unstyled}
 use Rattle.converted.specs.Converted.{converted, formed}
@@ -12,44 +18,36 @@ use Rattle.strftime.proofs.measuring.converted_length.Goals as goal
 pub returns-in-Zeros : goal.returns-in-Zeros
 unfolding formed is_number
 returns-in-Zeros c =
-    let f = c.in-Zeros.is in
-    let r = room_of c.args.c c.args.moment c.requires f refl refl in
-    rw (by_form unstyled c.args.c c.args.moment f refl) (plain_length 48 _ _ r.0 (omega (arith, r.1)))
+    elim c.in-Zeros.is [
+      | inl e ↦ let r = room e refl in rw (form e) (plain_length 48 _ _ r.0 r.1)
+      | inr b ↦ elim b [
+        | inl e ↦ let r = room e refl in rw (form e) (plain_length 32 _ _ r.0 r.1)
+        | inr e ↦ let r = room e refl in rw (form e) (plain_length 48 _ _ r.0 (omega (arith, r.1)))
+      ]
+    ]
+  where
+    form : {f : Form} → c.args.c.form ≡ f → converted unstyled c.args.c c.args.moment
+        ≡ formed c.args.moment unstyled f c.args.c.width (value c.args.c.kind c.args.moment)
+    form e = by_form unstyled c.args.c c.args.moment e refl
 
-pub returns-in-Blanks : goal.returns-in-Blanks
-unfolding formed is_number
-returns-in-Blanks c =
-    let f = c.in-Blanks.is in
-    let r = room_of c.args.c c.args.moment c.requires f refl refl in
-    rw (by_form unstyled c.args.c c.args.moment f refl) (plain_length 32 _ _ r.0 (omega (arith, r.1)))
-
-pub returns-in-FromSunday : goal.returns-in-FromSunday
-unfolding formed is_number
-returns-in-FromSunday c =
-    let f = c.in-FromSunday.is in
-    let r = room_of c.args.c c.args.moment c.requires f refl refl in
-    rw (by_form unstyled c.args.c c.args.moment f refl) (plain_length 48 _ _ r.0 (omega (arith, r.1)))
+    room : {f : Form} → c.args.c.form ≡ f → is_number f ≡ true → (1 ≤ c.args.c.width)
+        × (value c.args.c.kind c.args.moment < 10 ^ c.args.c.width)
+    room e n = room_of c.args.c c.args.moment c.requires e n refl
 
 pub returns-in-Short : goal.returns-in-Short
 unfolding formed
 returns-in-Short c =
     let a = c.args in
-    rw (by_form unstyled a.c a.moment c.in-Short.is c.value.ensures)
-    (c.short_length.ensures ∙ plain_name_length _ _)
+    rw (by_form unstyled a.c a.moment c.in-Short.is c.value.ensures) (c.short_length.ensures ∙ plain_name_length _ _)
 
 pub returns-in-Full : goal.returns-in-Full
 unfolding formed
 returns-in-Full c =
     let a = c.args in
-    rw (by_form unstyled a.c a.moment c.in-Full.is c.value-in-Full.ensures)
-    (c.full_length.ensures ∙ plain_name_length _ _)
-
-pub returns-in-Lower : goal.returns-in-Lower
-unfolding formed
-returns-in-Lower c =
-    let a = c.args in
-    rw (by_form unstyled a.c a.moment c.in-Lower.is c.value-in-Lower.ensures)
-    (c.full_length-in-Lower.ensures ∙ plain_name_length _ _)
+    elim c.in-Full.is [
+      | inl e ↦ rw (by_form unstyled a.c a.moment e c.value-in-Full.ensures) (c.full_length.ensures ∙ plain_name_length _ _)
+      | inr e ↦ rw (by_form unstyled a.c a.moment e c.value-in-Full.ensures) (c.full_length.ensures ∙ plain_name_length _ _)
+    ]
 
 pub returns-in-Zone : goal.returns-in-Zone
 unfolding converted formed

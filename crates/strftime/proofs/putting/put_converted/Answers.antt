@@ -4,13 +4,14 @@ use mathlib.Core.Bool.{true}
 use mathlib.Core.Path.{◌≡◌, refl, sym}
 use native.Mathlib.Nat.{add-zero}
 use native.Mathlib.Omega.{arith}
-use lib.ListN.{length}
+use lib.ListN.{length, length-take}
+use Rattle.names.specs.Naming.{name_for}
 use Rattle.conversions.specs.Conversions.{is_number}
 use Rattle.conversions.specs.Pieces.{unstyled}
 use Rattle.conversions.specs.declared.conversions.Form.{Form}
 use Rattle.names.specs.declared.names.Case.TheVariants.{AsIs, Small}
 use Rattle.converted.specs.Converted.{formed, converted}
-use Rattle.converted.proofs.Lengths.{by_form, plain_length, plain_name_length, number_plain, name_plain}
+use Rattle.converted.proofs.Lengths.{by_form, plain_length, plain_name_length, number_plain, name_plain, letters_taken, name_taken}
 use Rattle.strftime.proofs.Lengths.{room_of}
 use Rattle.strftime.proofs.putting.put_converted.Goals as goal
 use Rattle.strftime.proofs.putting.put_converted.Goals.{After-value-value}
@@ -54,20 +55,32 @@ put_number-requires-in-FromSunday c =
     let e = plain_length 48 c.args.c.width (c.value-value.result % 7) d.0 (omega (arith, d.1)) in
     rw (← e) at (room (goal.at.put_number-requires-in-FromSunday c).After-value-value f)
 
-pub put_short-requires : goal.put_short-requires
+pub put_name-requires : goal.put_name-requires
 unfolding formed
-put_short-requires c =
-    rw (← plain_name_length AsIs _) at (room (goal.at.put_short-requires c).After-value-value c.in-Short.is)
+put_name-requires c =
+    record {
+      n_bound = omega (arith, c.short_length.ensures, length-take 3 (name_for c.in-Short.t c.value-value.result));
+      n_in_bounds = rw (← plain_name_length AsIs _, ← c.short_length.ensures) at
+          (room (goal.at.put_name-requires c).After-value-value c.in-Short.is);
+    }
 
-pub put_full-requires : goal.put_full-requires
+pub put_name-requires-in-Full : goal.put_name-requires-in-Full
 unfolding formed
-put_full-requires c =
-    rw (← plain_name_length AsIs _) at (room (goal.at.put_full-requires c).After-value-value c.in-Full.is)
+put_name-requires-in-Full c =
+    record {
+      n_bound = omega (arith, c.full_length.ensures);
+      n_in_bounds = rw (← plain_name_length AsIs _, ← c.full_length.ensures) at
+          (room (goal.at.put_name-requires-in-Full c).After-value-value c.in-Full.is);
+    }
 
-pub put_full-requires-in-Lower : goal.put_full-requires-in-Lower
+pub put_name-requires-in-Lower : goal.put_name-requires-in-Lower
 unfolding formed
-put_full-requires-in-Lower c =
-    rw (← plain_name_length Small _) at (room (goal.at.put_full-requires-in-Lower c).After-value-value c.in-Lower.is)
+put_name-requires-in-Lower c =
+    record {
+      n_bound = omega (arith, c.full_length-in-Lower.ensures);
+      n_in_bounds = rw (← plain_name_length Small _, ← c.full_length-in-Lower.ensures) at
+          (room (goal.at.put_name-requires-in-Lower c).After-value-value c.in-Lower.is);
+    }
 
 pub put_zone-requires : goal.put_zone-requires
 unfolding formed
@@ -104,17 +117,20 @@ returns-in-FromSunday c =
 pub returns-in-Short : goal.returns-in-Short
 unfolding formed
 returns-in-Short c =
-    rw (written (goal.at.returns-in-Short c).After-value-value c.in-Short.is, name_plain _ _) c.put_short.ensures
+    rw (written (goal.at.returns-in-Short c).After-value-value c.in-Short.is, name_plain)
+    (rw (letters_taken 3 _ c.short_length.ensures) at c.put_name.ensures)
 
 pub returns-in-Full : goal.returns-in-Full
 unfolding formed
 returns-in-Full c =
-    rw (written (goal.at.returns-in-Full c).After-value-value c.in-Full.is, name_plain _ _) c.put_full.ensures
+    rw (written (goal.at.returns-in-Full c).After-value-value c.in-Full.is, name_plain)
+    (rw (name_taken _ c.full_length.ensures) at c.put_name-in-Full.ensures)
 
 pub returns-in-Lower : goal.returns-in-Lower
 unfolding formed
 returns-in-Lower c =
-    rw (written (goal.at.returns-in-Lower c).After-value-value c.in-Lower.is, name_plain _ _) c.put_full-in-Lower.ensures
+    rw (written (goal.at.returns-in-Lower c).After-value-value c.in-Lower.is, name_plain)
+    (rw (name_taken _ c.full_length-in-Lower.ensures) at c.put_name-in-Lower.ensures)
 
 pub returns-in-Zone : goal.returns-in-Zone
 unfolding formed

@@ -2,10 +2,12 @@
 use Prim.Native.Nat.{◌+◌, ◌≤◌}
 use mathlib.Core.Path.{◌≡◌, refl, sym}
 use native.Mathlib.Nat.{add-zero}
-use lib.ListN.{length}
+use native.Mathlib.Omega.{arith}
+use lib.ListN.{length, length-take}
+use Rattle.names.specs.Naming.{name_for}
 use Rattle.conversions.specs.declared.conversions.Form.{Form}
 use Rattle.converted.specs.Converted.{formed, converted}
-use Rattle.converted.proofs.Lengths.{by_form}
+use Rattle.converted.proofs.Lengths.{by_form, letters_taken, name_taken}
 use Rattle.strftime.proofs.putting.put_styled.Goals as goal
 use Rattle.strftime.proofs.putting.put_styled.Goals.{After-value-value}
 
@@ -30,17 +32,32 @@ pub put_styled_number-requires-in-FromSunday : goal.put_styled_number-requires-i
 unfolding formed
 put_styled_number-requires-in-FromSunday c = room (goal.at.put_styled_number-requires-in-FromSunday c).After-value-value c.in-FromSunday.is
 
-pub put_styled_short-requires : goal.put_styled_short-requires
+pub put_styled_name-requires : goal.put_styled_name-requires
 unfolding formed
-put_styled_short-requires c = room (goal.at.put_styled_short-requires c).After-value-value c.in-Short.is
+put_styled_name-requires c =
+    record {
+      n_bound = omega (arith, c.short_length.ensures, length-take 3 (name_for c.in-Short.t c.value-value.result));
+      n_in_bounds = rw (letters_taken 3 _ c.short_length.ensures)
+          (room (goal.at.put_styled_name-requires c).After-value-value c.in-Short.is);
+    }
 
-pub put_styled_full-requires : goal.put_styled_full-requires
+pub put_styled_name-requires-in-Full : goal.put_styled_name-requires-in-Full
 unfolding formed
-put_styled_full-requires c = room (goal.at.put_styled_full-requires c).After-value-value c.in-Full.is
+put_styled_name-requires-in-Full c =
+    record {
+      n_bound = omega (arith, c.full_length.ensures);
+      n_in_bounds = rw (name_taken _ c.full_length.ensures)
+          (room (goal.at.put_styled_name-requires-in-Full c).After-value-value c.in-Full.is);
+    }
 
-pub put_styled_full-requires-in-Lower : goal.put_styled_full-requires-in-Lower
+pub put_styled_name-requires-in-Lower : goal.put_styled_name-requires-in-Lower
 unfolding formed
-put_styled_full-requires-in-Lower c = room (goal.at.put_styled_full-requires-in-Lower c).After-value-value c.in-Lower.is
+put_styled_name-requires-in-Lower c =
+    record {
+      n_bound = omega (arith, c.full_length-in-Lower.ensures);
+      n_in_bounds = rw (name_taken _ c.full_length-in-Lower.ensures)
+          (room (goal.at.put_styled_name-requires-in-Lower c).After-value-value c.in-Lower.is);
+    }
 
 pub put_zone-requires : goal.put_zone-requires
 unfolding formed
@@ -68,17 +85,20 @@ returns-in-FromSunday c =
 pub returns-in-Short : goal.returns-in-Short
 unfolding formed
 returns-in-Short c =
-    rw (written (goal.at.returns-in-Short c).After-value-value c.in-Short.is) c.put_styled_short.ensures
+    rw (written (goal.at.returns-in-Short c).After-value-value c.in-Short.is)
+    (rw (letters_taken 3 _ c.short_length.ensures) at c.put_styled_name.ensures)
 
 pub returns-in-Full : goal.returns-in-Full
 unfolding formed
 returns-in-Full c =
-    rw (written (goal.at.returns-in-Full c).After-value-value c.in-Full.is) c.put_styled_full.ensures
+    rw (written (goal.at.returns-in-Full c).After-value-value c.in-Full.is)
+    (rw (name_taken _ c.full_length.ensures) at c.put_styled_name-in-Full.ensures)
 
 pub returns-in-Lower : goal.returns-in-Lower
 unfolding formed
 returns-in-Lower c =
-    rw (written (goal.at.returns-in-Lower c).After-value-value c.in-Lower.is) c.put_styled_full-in-Lower.ensures
+    rw (written (goal.at.returns-in-Lower c).After-value-value c.in-Lower.is)
+    (rw (name_taken _ c.full_length-in-Lower.ensures) at c.put_styled_name-in-Lower.ensures)
 
 pub returns-in-Zone : goal.returns-in-Zone
 unfolding formed

@@ -1,6 +1,6 @@
 -- `strftime::zones::put_east` meets its contract: the sign, then hours and minutes.
 use native.Mathlib.Omega.{arith}
-use Rattle.converted.proofs.Offsets.{east_length, size}
+use Rattle.converted.proofs.Offsets.{east_length}
 use Rattle.strftime.proofs.Offsets.{kept, puts_east}
 use Rattle.strftime.proofs.zones.put_east.Goals as goal
 
@@ -8,13 +8,10 @@ pub put_byte-next-requires : goal.put_byte-next-requires
 put_byte-next-requires c =
     omega (arith, c.requires.minutes_in_bounds, east_length c.args.minutes)
 
-pub put_hours-requires : goal.put_hours-requires
-put_hours-requires c =
+pub put_hours-requires-clause-at_in_bounds : goal.put_hours-requires-clause-at_in_bounds
+put_hours-requires-clause-at_in_bounds c =
     let p = c.put_byte-next.ensures in
-    record {
-      minutes_bound = omega (arith, size c.args.minutes c.ranges.minutes c.magnitude.ensures, c.requires.minutes_bound);
-      at_in_bounds = omega (arith, c.requires.minutes_in_bounds, east_length c.args.minutes, p.ends, kept p);
-    }
+    omega (arith, c.requires.minutes_in_bounds, east_length c.args.minutes, p.ends, kept p)
 
 pub returns : goal.returns
 returns c =

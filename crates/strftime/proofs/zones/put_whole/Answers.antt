@@ -14,17 +14,13 @@ put_byte-next-requires c =
     let n = whole_negative c.args.z below in
     omega (arith, c.requires.z_in_bounds, ap length n)
 
-pub put_long-requires : goal.put_long-requires
-put_long-requires c =
+pub put_long-requires-clause-n_in_bounds : goal.put_long-requires-clause-n_in_bounds
+put_long-requires-clause-n_in_bounds c =
     let z = c.args.z in
     let e = size z c.ranges.z c.magnitude.ensures in
     let n = whole_negative z (sign z c.ranges.z c.is_negative.ensures c.if-is_negative.true) in
     let p = c.put_byte-next.ensures in
-    record {
-      n_bound = omega (arith, e, c.requires.z_bound);
-      n_in_bounds =
-          omega (arith, c.requires.z_in_bounds, ap length n, ap (λ (k : ℕ). length (plain k)) e, p.ends, kept p);
-    }
+    omega (arith, c.requires.z_in_bounds, ap length n, ap (λ (k : ℕ). length (plain k)) e, p.ends, kept p)
 
 pub returns-then-is_negative : goal.returns-then-is_negative
 returns-then-is_negative c =
@@ -32,15 +28,12 @@ returns-then-is_negative c =
     (sign c.args.z c.ranges.z c.is_negative.ensures c.if-is_negative.true) c.put_byte-next.ensures
     c.put_long.ensures
 
-pub put_long-requires-2 : goal.put_long-requires-2
-put_long-requires-2 c =
+pub put_long-requires-2-clause-n_in_bounds : goal.put_long-requires-2-clause-n_in_bounds
+put_long-requires-2-clause-n_in_bounds c =
     let z = c.args.z in
     let e = size z c.ranges.z c.magnitude-2.ensures in
     let n = whole_positive z (sign z c.ranges.z c.is_negative.ensures c.if-is_negative.false) in
-    record {
-      n_bound = omega (arith, e, c.requires.z_bound);
-      n_in_bounds = omega (arith, c.requires.z_in_bounds, ap length n, ap (λ (k : ℕ). length (plain k)) e);
-    }
+    omega (arith, c.requires.z_in_bounds, ap length n, ap (λ (k : ℕ). length (plain k)) e)
 
 pub returns : goal.returns
 returns c =
