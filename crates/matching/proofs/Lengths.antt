@@ -11,12 +11,12 @@ use Rattle.text.specs.Digits.{is_digit, digit_run}
 use Rattle.names.specs.Names as names
 use Rattle.names.specs.Names.{names_of, forms_of, read_name}
 use Rattle.text.specs.Space.{is_space, spaces}
-use Rattle.names.specs.declared.names.NameForm.{NameForm}
-use Rattle.names.specs.declared.names.NameRead.TheVariants.{Found}
 use Rattle.names.specs.declared.names.Names.{Names}
 use Rattle.names.specs.declared.names.Names.TheVariants.{Weekdays, Months, Halves}
 use Rattle.names.proofs.Forms.{of_name_lem, is_read}
 use Rattle.names.proofs.Goes.{goes_length}
+use Rattle.std.specs.Prelude.{Some}
+use Rattle.names.specs.declared.names.NameRead.{NameRead}
 
 -- ---- white space and digits
 pub spaces_most : (s : List ℕ) → spaces s ≤ length s
@@ -45,10 +45,10 @@ few_names Weekdays = lit≤ tt
 few_names Months = lit≤ tt
 few_names Halves = lit≤ tt
 
-pub name_named : (t : Names) (s : List ℕ) {j n : ℕ} {f : NameForm} → read_name t s ≡ Found j n f → Named (length (names_of t)) s j n
+pub name_named : (t : Names) (s : List ℕ) {x : NameRead} → read_name t s ≡ Some x → Named (length (names_of t)) s x.index x.length
 unfolding read_name
-name_named t s e =
-    let r = is_read (forms_of t) s e in
+name_named t s {x} e =
+    let r = is_read (forms_of t) s {j = x.index} {n = x.length} {f = x.form} e in
     let o = of_name_lem t r.form r.listed in
     record {
       place = rw (← r.place) o.place;

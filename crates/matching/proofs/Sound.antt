@@ -17,31 +17,37 @@ use Rattle.conversions.specs.declared.conversions.Form.{Form}
 use Rattle.conversions.specs.declared.conversions.Form.TheVariants.{Zeros, Blanks, FromSunday, Short, Full, Lower, Zone, Seconds, Unknown}
 use Rattle.matching.specs.Elements.{ordinary, read_byte, ranged, read_number, from_sunday, named, read_named, read_form}
 use Rattle.matching.specs.Elements.{read_conversion, read_element}
-use Rattle.matching.specs.declared.elements.Item.{Item}
-use Rattle.matching.specs.declared.elements.Item.TheVariants.{Skip, Fact, NoMatch, OutOfRange}
 use Rattle.text.specs.Digits.{digit_run, decimal, read_digits}
 use Rattle.names.specs.Names.{names_of, read_name}
 use Rattle.names.specs.Naming.{first_value, value_at}
 use Rattle.text.specs.Space.{is_space, spaces}
-use Rattle.names.specs.declared.names.NameForm.{NameForm}
-use Rattle.names.specs.declared.names.NameForm.TheVariants.{NoName}
-use Rattle.names.specs.declared.names.NameRead.{NameRead}
-use Rattle.names.specs.declared.names.NameRead.TheVariants.{Found, Nothing}
 use Rattle.names.specs.declared.names.Names.{Names}
 use Rattle.values.specs.Offsets.{offset_number}
 use Rattle.matching.specs.Zones.{is_sign, signed_by, offset_at, signed_at, read_zone}
 use Rattle.matching.proofs.Lengths.{spaces_most, run_most, name_named}
 use Rattle.matching.proofs.Zoned.{number_most, four_most}
 use Rattle.matching.proofs.Told.{Told, spans, spans_told, spans_names, spans_form, conversion_spans}
+use Rattle.std.specs.Prelude.{Err, None, Ok, Option, Result, Some}
+use Rattle.matching.specs.declared.Refused.TheVariants.{Mismatch, Range, Conflict}
+use Rattle.matching.specs.declared.Refused.{Refused}
+use Rattle.matching.specs.declared.elements.Item.TheVariants.{Fact, Skip}
+use Rattle.matching.specs.declared.elements.Item.{Item}
+use Rattle.names.specs.declared.names.NameForm.{NameForm}
+use Rattle.names.specs.declared.names.NameRead.{NameRead}
+
+-- where an element is refused
+abbrev pub place : Refused → ℕ
+place (Mismatch p) = p
+place (Range p) = p
+place (Conflict p) = p
 
 -- what an element found: offsets of the text, and a fact of which P holds
-unfoldable pub Finds : (ℕ → ℕ → Type 0) → List ℕ → Item → Type 0
-Finds P s (Skip n) = n ≤ length s
-Finds P s (Fact k v f from n) = P k v × (from < n) × (n ≤ length s)
-Finds P s (NoMatch p) = p ≤ length s
-Finds P s (OutOfRange p) = p ≤ length s
+unfoldable pub Finds : (ℕ → ℕ → Type 0) → List ℕ → Result Item Refused → Type 0
+Finds P s (Ok (Skip n)) = n ≤ length s
+Finds P s (Ok (Fact k v f from n)) = P k v × (from < n) × (n ≤ length s)
+Finds P s (Err why) = place why ≤ length s
 
-abbrev pub Sound : List ℕ → Item → Type 0
+abbrev pub Sound : List ℕ → Result Item Refused → Type 0
 Sound s i = Finds Told s i
 
 module _ (s : List ℕ) (at : ℕ) (h : at ≤ length s) where
@@ -66,7 +72,7 @@ module _ (s : List ℕ) (at : ℕ) (h : at ≤ length s) where
         (λ (e : eqb (length ds) 0 ≡ false). go (eqb-false (length ds) 0 e) (leb c.low v) (leb v c.high) refl refl)
       where
         go : (length ds ≡ 0 → ⊥) → (a b : Bool) → leb c.low (decimal 0 ds) ≡ a → leb (decimal 0 ds) c.high ≡ b
-            → Finds P s (cond (a && b) (Fact c.kind (decimal 0 ds) NoName from (from + length ds)) (OutOfRange from))
+            → Finds P s (cond (a && b) (Ok (Fact c.kind (decimal 0 ds) None from (from + length ds))) (Err (Range from)))
         go m false b e f = omega arith
         go m true false e f = omega arith
         go m true true e f =
@@ -80,26 +86,25 @@ module _ (s : List ℕ) (at : ℕ) (h : at ≤ length s) where
         finds-ranged (digit_run c.width (drop from s)) from
         (omega (arith, run_most c.width (drop from s), length-drop from s, spaces_most (drop at s), length-drop at s))
 
-  sound-sunday : (i : Item) → Finds (λ k v. Told k (cond (eqb v 0) 7 v)) s i → Sound s (from_sunday i)
+  sound-sunday : (i : Result Item Refused) → Finds (λ k v. Told k (cond (eqb v 0) 7 v)) s i → Sound s (from_sunday i)
   unfolding from_sunday Finds
-  sound-sunday (Skip n) t = t
-  sound-sunday (Fact k v f from n) t = t
-  sound-sunday (NoMatch p) t = t
-  sound-sunday (OutOfRange p) t = t
+  sound-sunday (Ok (Skip n)) t = t
+  sound-sunday (Ok (Fact k v f from n)) t = t
+  sound-sunday (Err why) t = t
 
   sound-named : (t : Names) (c : Conversion) → T (spans_names t c) → Sound s (read_named t c s at)
   unfolding read_named named value_at spans_names Finds
   sound-named t c m = go (read_name t (drop at s)) refl
     where
-      go : (r : NameRead) → read_name t (drop at s) ≡ r → Sound s (named t c.kind r at)
-      go (Found i n f) e =
+      go : (r : Option NameRead) → read_name t (drop at s) ≡ r → Sound s (named t c.kind r at)
+      go (Some r) e =
           let x = name_named t (drop at s) e in (
-            spans_told c.kind (first_value t) (first_value t + length (names_of t) - 1) m (first_value t + i)
+            spans_told c.kind (first_value t) (first_value t + length (names_of t) - 1) m (first_value t + r.index)
                 (omega arith) (omega (arith, x.place)),
             omega (arith, x.some),
             omega (arith, x.long, length-drop at s),
           )
-      go Nothing e = h
+      go None e = h
 
   sound-zone : (c : Conversion) → T (spans c.kind 0 2878) → Sound s (read_zone c s at)
   unfolding read_zone signed_at Finds
@@ -157,7 +162,8 @@ module _ (s : List ℕ) (at : ℕ) (h : at ≤ length s) where
 
   -- what an element says is a fact that a text can say, and it stands in the text
   module _
-      (e : ℕ) {m : Item} {k n from next : ℕ} {x : NameForm} (g : m ≡ read_element e s at) (f : m ≡ Fact k n x from next)
+      (e : ℕ) {m : Result Item Refused} {k n from next : ℕ} {x : Option NameForm} (g : m ≡ read_element e s at)
+      (f : m ≡ Ok (Fact k n x from next))
     where
       pub fact_told : Told k n
       unfolding Finds

@@ -1,9 +1,11 @@
 -- Where a kind of fact was first said in a text (RULES 8.5): from its first digit or letter up to the byte after its last.
 use Rattle.std.specs.Prelude.{ℕ, ◌-◌, cond, List, [], ◌∷◌, eqb, take, drop}
 use Rattle.matching.specs.Elements.{read_element}
-use Rattle.matching.specs.declared.elements.Item.{Item}
-use Rattle.matching.specs.declared.elements.Item.TheVariants.{Skip, Fact, NoMatch, OutOfRange}
 use Rattle.matching.specs.declared.extents.Extent.{Extent}
+use Rattle.std.specs.Prelude.{Err, Ok, Result}
+use Rattle.matching.specs.declared.Refused.{Refused}
+use Rattle.matching.specs.declared.elements.Item.TheVariants.{Fact, Skip}
+use Rattle.matching.specs.declared.elements.Item.{Item}
 
 abbrev pub extent : ℕ → ℕ → Extent
 extent from next = record { from = from; next = next }
@@ -17,11 +19,10 @@ unfoldable pub nowhere : Extent
 nowhere = extent 0 0
 
 -- where an item says kind k, or else what `on` finds from the offset after it on; after a refusal nothing is read
-unfoldable pub said_at : ℕ → (ℕ → Extent) → Item → Extent
-said_at k on (Skip next) = on next
-said_at k on (Fact j n f from next) = cond (eqb j k) (extent from next) (on next)
-said_at k on (NoMatch p) = nowhere
-said_at k on (OutOfRange p) = nowhere
+unfoldable pub said_at : ℕ → (ℕ → Extent) → Result Item Refused → Extent
+said_at k on (Ok (Skip next)) = on next
+said_at k on (Ok (Fact j n f from next)) = cond (eqb j k) (extent from next) (on next)
+said_at k on (Err why) = nowhere
 
 -- where kind k is first said by elements, one after the other, from an offset of the text on
 unfoldable pub first_said : ℕ → List ℕ → List ℕ → ℕ → Extent

@@ -3,4 +3,3 @@ pub mod Zones
 pub mod Elements
 pub mod Steps
 pub mod Extents
-pub mod Private

@@ -5,15 +5,15 @@ use Rattle.agreement.specs.Agreement.{said}
 use Rattle.agreement.specs.declared.Facts.{Facts}
 use Rattle.matching.specs.Elements.{read_element}
 use Rattle.matching.specs.declared.Forms.{Forms}
-use Rattle.matching.specs.declared.Outcome.{Outcome}
-use Rattle.matching.specs.declared.Outcome.TheVariants.{Read, Mismatch, Range, Conflict}
 use Rattle.matching.specs.declared.State.{State}
 use Rattle.matching.specs.declared.Stepped.{Stepped}
-use Rattle.matching.specs.declared.elements.Item.{Item}
-use Rattle.matching.specs.declared.elements.Item.TheVariants.{Skip, Fact, NoMatch, OutOfRange}
 use Rattle.matching.specs.declared.steps.Step.{Step}
+use Rattle.std.specs.Prelude.{Err, None, Ok, Option, Result, Some}
+use Rattle.matching.specs.declared.Refused.TheVariants.{Conflict}
+use Rattle.matching.specs.declared.Refused.{Refused}
+use Rattle.matching.specs.declared.elements.Item.TheVariants.{Fact, Skip}
+use Rattle.matching.specs.declared.elements.Item.{Item}
 use Rattle.names.specs.declared.names.NameForm.{NameForm}
-use Rattle.names.specs.declared.names.NameForm.TheVariants.{NoName, Full, Middle, Short}
 
 -- nothing said yet
 unfoldable pub unsaid : Facts
@@ -27,17 +27,17 @@ abbrev pub here : List ℕ → ℕ → State
 here said at = record { facts = record { said = said }; at = at }
 
 -- the forms of the last weekday name and of the last month name; none of either
-abbrev pub both : NameForm → NameForm → Forms
+abbrev pub both : Option NameForm → Option NameForm → Forms
 both w m = record { weekday = w; month = m }
 
 unfoldable pub no_forms : Forms
-no_forms = both NoName NoName
+no_forms = both None None
 
 -- a reading that goes on, and one that is refused and stays where it was
 unfoldable pub goes : Facts → Forms → ℕ → Stepped
-goes f fs at = record { state = record { facts = f; at = at }; forms = fs; outcome = Read }
+goes f fs at = record { state = record { facts = f; at = at }; forms = fs; outcome = Ok tt }
 
-unfoldable pub stays : State → Forms → Outcome → Stepped
+unfoldable pub stays : State → Forms → Result (Unit {0}) Refused → Stepped
 stays t fs o = record { state = t; forms = fs; outcome = o }
 
 -- what one step answers, with what was said after it
@@ -49,45 +49,40 @@ unfoldable pub noted : Facts → ℕ → ℕ → Facts
 noted f k n = record { said = set f.said k (suc n) }
 
 -- the form of a later name takes the place of the one before; where no name stands, that one stays
-unfoldable pub later : NameForm → NameForm → NameForm
-later before NoName = before
-later before Full = Full
-later before Middle = Middle
-later before Short = Short
+unfoldable pub later : Option NameForm → Option NameForm → Option NameForm
+later before None = before
+later before (Some f) = Some f
 
 -- the form of the last name of the kind `own`, after a fact of kind k
-unfoldable pub latest : ℕ → NameForm → ℕ → NameForm → NameForm
+unfoldable pub latest : ℕ → Option NameForm → ℕ → Option NameForm → Option NameForm
 latest own before k f = cond (eqb k own) (later before f) before
 
 -- both forms after a fact
-unfoldable pub met : Forms → ℕ → NameForm → Forms
+unfoldable pub met : Forms → ℕ → Option NameForm → Forms
 met fs k f = both (latest weekday fs.weekday k f) (latest month fs.month k f)
 
 -- a kind may be said again with the same number; with another, that is 8 (RULES 7)
-unfoldable pub tell : State → Forms → ℕ → ℕ → NameForm → ℕ → ℕ → Stepped
+unfoldable pub tell : State → Forms → ℕ → ℕ → Option NameForm → ℕ → ℕ → Stepped
 tell t fs k n f from next =
     cond (eqb (said t.facts k) 0 || eqb (said t.facts k) (suc n)) (goes (noted t.facts k n) (met fs k f) next)
-    (stays t fs (Conflict from))
+    (stays t fs (Err (Conflict from)))
 
-unfoldable pub taken : State → Forms → Item → Stepped
-taken t fs (Skip next) = goes t.facts fs next
-taken t fs (Fact k n f from next) = tell t fs k n f from next
-taken t fs (NoMatch p) = stays t fs (Mismatch p)
-taken t fs (OutOfRange p) = stays t fs (Range p)
+unfoldable pub taken : State → Forms → Result Item Refused → Stepped
+taken t fs (Ok (Skip next)) = goes t.facts fs next
+taken t fs (Ok (Fact k n f from next)) = tell t fs k n f from next
+taken t fs (Err why) = stays t fs (Err why)
 
 -- one element is read
 unfoldable pub step_on : ℕ → List ℕ → State → Forms → Stepped
 step_on e s t fs = taken t fs (read_element e s t.at)
 
-unfoldable pub is_read : Outcome → Bool
-is_read Read = true
-is_read (Mismatch p) = false
-is_read (Range p) = false
-is_read (Conflict p) = false
+unfoldable pub is_read : Result (Unit {0}) Refused → Bool
+is_read (Ok u) = true
+is_read (Err why) = false
 
 -- the elements in order, up to the first refusal
 unfoldable pub read_all : List ℕ → List ℕ → State → Forms → Stepped
-read_all [] s t fs = stays t fs Read
+read_all [] s t fs = stays t fs (Ok tt)
 read_all (e ∷ es) s t fs =
     let r = step_on e s t fs in
     let more = read_all es s r.state r.forms in

@@ -1,7 +1,6 @@
 // Where a kind of fact was first said.
 ghost use Rattle.std.specs.Prelude.{◌≡◌};
 ghost use Rattle.matching.specs.Extents.{nowhere, first_said};
-ghost use Rattle.matching.specs.Private.{sought_in};
 
 use crate::elements::{Item, read_element};
 
@@ -12,42 +11,12 @@ pub struct Extent {
     pub next: usize,
 }
 
-// How the search for a kind goes on: from an offset, or it ends with what was found.
-#[derive(Clone, Copy)]
-pub enum Sought {
-    On { next: usize },
-    Ends { extent: Extent },
-}
-
 // No words.
+#[tactic(auto, unfolding(crate::specs::Extents::nowhere))]
 pub fn nowhere() -> Extent
     ensures { result ≡ nowhere }
 {
     Extent { from: 0, next: 0 }
-}
-
-fn sought_in(kind: u32, item: Item) -> Sought
-    ensures { result ≡ sought_in kind item }
-{
-    match item {
-        Item::Skip { next } => Sought::On { next },
-        Item::Fact {
-            kind: said,
-            number: _,
-            form: _,
-            from,
-            next,
-        } => {
-            if said == kind {
-                return Sought::Ends {
-                    extent: Extent { from, next },
-                };
-            }
-            Sought::On { next }
-        }
-        Item::NoMatch { at: _ } => Sought::Ends { extent: nowhere() },
-        Item::OutOfRange { at: _ } => Sought::Ends { extent: nowhere() },
-    }
 }
 
 // Where elements first say a kind, read one after the other from the text's start on.
@@ -55,17 +24,24 @@ pub fn first_said(kind: u32, elements: &[u32], s: &[u8]) -> Extent
     ensures { result ≡ first_said kind elements.now s.now 0 }
 {
     let mut at = 0;
-    let mut i = 0;
-    while i < elements.len() {
-        match sought_in(kind, read_element(elements[i], s, at)) {
-            Sought::On { next } => {
-                at = next;
+    for element in elements {
+        let Ok(item) = read_element(*element, s, at) else {
+            return nowhere();
+        };
+        at = match item {
+            Item::Skip { next } => next,
+            Item::Fact {
+                kind: said,
+                from,
+                next,
+                ..
+            } => {
+                if said == kind {
+                    return Extent { from, next };
+                }
+                next
             }
-            Sought::Ends { extent } => {
-                return extent;
-            }
-        }
-        i += 1;
+        };
     }
     nowhere()
 }

@@ -22,23 +22,23 @@ pub struct State {
 // The forms of the last weekday name and of the last month name that were read.
 #[derive(Clone, Copy)]
 pub struct Forms {
-    pub weekday: NameForm,
-    pub month: NameForm,
+    pub weekday: Option<NameForm>,
+    pub month: Option<NameForm>,
 }
 
-// How the reading of elements went: all are read, or one is refused, with its place.
-#[derive(Clone, Copy)]
-pub enum Outcome {
-    Read,
+// Why an element is refused: the text does not match it, its number is out of range, or it was said before, differently; with the place.
+#[derive(Clone, Copy, PartialEq, Eq)]
+pub enum Refused {
     Mismatch { at: usize },
     Range { at: usize },
     Conflict { at: usize },
 }
 
+// Where a reading ended, and whether all elements were read.
 // The forms stand beside the state, and not in it: as two bytes of what is copied whole they would cost 7 ns a reading.
 #[derive(Clone, Copy)]
 pub struct Stepped {
     pub state: State,
     pub forms: Forms,
-    pub outcome: Outcome,
+    pub outcome: Result<(), Refused>,
 }

@@ -3,7 +3,7 @@ ghost use Rattle.std.specs.Prelude.{not, ◌||◌, ◌≡◌, suc, ◌≤◌, eq
 ghost use Rattle.matching.specs.Steps.{both, no_forms, later, latest, start, here, stays, stepped, step_on, read_all};
 
 use crate::elements::{Item, read_element};
-use crate::{Forms, Outcome, State, Stepped};
+use crate::{Forms, Refused, State, Stepped};
 use agreement::Facts;
 use names::NameForm;
 
@@ -12,9 +12,9 @@ use names::NameForm;
 #[derive(Clone, Copy)]
 pub struct Step {
     pub at: usize,
-    pub weekday: NameForm,
-    pub month: NameForm,
-    pub outcome: Outcome,
+    pub weekday: Option<NameForm>,
+    pub month: Option<NameForm>,
+    pub outcome: Result<(), Refused>,
 }
 
 // Whether a number differs from what was said before, if anything was.
@@ -22,26 +22,20 @@ fn conflicts(said: u32, number: u32) -> bool
     requires { number ≤ 9999 }
     ensures { result ≡ not (eqb said 0 || eqb said (suc number)) }
 {
-    if said == 0 {
-        return false;
-    }
-    said != number + 1
+    said != 0 && said != number + 1
 }
 
 // The form of the last name of a kind: this one, or the one before where this is no name.
-fn later(before: NameForm, form: NameForm) -> NameForm
+#[tactic(auto, unfolding(crate::specs::Steps::later))]
+fn later(before: Option<NameForm>, form: Option<NameForm>) -> Option<NameForm>
     ensures { result ≡ later before form }
 {
-    match form {
-        NameForm::NoName => before,
-        NameForm::Full => NameForm::Full,
-        NameForm::Middle => NameForm::Middle,
-        NameForm::Short => NameForm::Short,
-    }
+    form.or(before)
 }
 
 // The form of the last name of the kind `own`, after one more fact.
-fn latest(own: u32, before: NameForm, kind: u32, form: NameForm) -> NameForm
+#[tactic(auto, unfolding(crate::specs::Steps::latest))]
+fn latest(own: u32, before: Option<NameForm>, kind: u32, form: Option<NameForm>) -> Option<NameForm>
     ensures { result ≡ latest own before kind form }
 {
     if kind == own {
@@ -55,8 +49,8 @@ fn step_on(
     element: u32,
     s: &[u8],
     at: usize,
-    weekday: NameForm,
-    month: NameForm,
+    weekday: Option<NameForm>,
+    month: Option<NameForm>,
     said: &mut [u32; kinds::KINDS],
 ) -> Step
     requires { at ≤ length s.now }
@@ -64,25 +58,27 @@ fn step_on(
         ≡ step_on element s.now (here said.old at) (both weekday month) }
 {
     match read_element(element, s, at) {
-        Item::Skip { next } => Step {
+        Ok(Item::Skip { next }) => Step {
             at: next,
             weekday,
             month,
-            outcome: Outcome::Read,
+            outcome: Ok(()),
         },
-        Item::Fact {
-            kind,
-            number,
-            form,
-            from,
-            next,
-        } => {
+        Ok(
+            Item::Fact {
+                kind,
+                number,
+                form,
+                from,
+                next,
+            },
+        ) => {
             if conflicts(said[kind as usize], number) {
                 return Step {
                     at,
                     weekday,
                     month,
-                    outcome: Outcome::Conflict { at: from },
+                    outcome: Err(Refused::Conflict { at: from }),
                 };
             }
             said[kind as usize] = number + 1;
@@ -90,31 +86,26 @@ fn step_on(
                 at: next,
                 weekday: latest(kinds::WEEKDAY, weekday, kind, form),
                 month: latest(kinds::MONTH, month, kind, form),
-                outcome: Outcome::Read,
+                outcome: Ok(()),
             }
         }
-        Item::NoMatch { at: p } => Step {
+        Err(why) => Step {
             at,
             weekday,
             month,
-            outcome: Outcome::Mismatch { at: p },
-        },
-        Item::OutOfRange { at: p } => Step {
-            at,
-            weekday,
-            month,
-            outcome: Outcome::Range { at: p },
+            outcome: Err(why),
         },
     }
 }
 
 // A reading that ends here.
+#[tactic(auto, unfolding(crate::specs::Steps::stays))]
 fn stopped(
     said: [u32; kinds::KINDS],
     at: usize,
-    weekday: NameForm,
-    month: NameForm,
-    outcome: Outcome,
+    weekday: Option<NameForm>,
+    month: Option<NameForm>,
+    outcome: Result<(), Refused>,
 ) -> Stepped
     ensures { result ≡ stays (here said at) (both weekday month) outcome }
 {
@@ -134,19 +125,16 @@ pub fn read_all(elements: &[u32], s: &[u8]) -> Stepped
 {
     let mut said = [0; kinds::KINDS];
     let mut at = 0;
-    let mut weekday = NameForm::NoName;
-    let mut month = NameForm::NoName;
-    let mut i = 0;
-    while i < elements.len() {
-        let step = step_on(elements[i], s, at, weekday, month, &mut said);
+    let mut weekday = None;
+    let mut month = None;
+    for element in elements {
+        let step = step_on(*element, s, at, weekday, month, &mut said);
         at = step.at;
         weekday = step.weekday;
         month = step.month;
-        let outcome = step.outcome;
-        let Outcome::Read = outcome else {
-            return stopped(said, at, weekday, month, outcome);
+        let Ok(()) = step.outcome else {
+            return stopped(said, at, weekday, month, step.outcome);
         };
-        i += 1;
     }
-    stopped(said, at, weekday, month, Outcome::Read)
+    stopped(said, at, weekday, month, Ok(()))
 }

@@ -21,11 +21,12 @@ use Rattle.reasons.specs.Quarrels.{is_named}
 use Rattle.reasons.specs.Reasons.{reason_of, facts_in, quarrel_words, words_for, explained, format_elements}
 use Rattle.reasons.specs.Reasons.{explained_by, elements_explained_by}
 use Rattle.reasons.specs.declared.About.{About}
-use Rattle.reasons.specs.declared.Reason.{Reason}
-use Rattle.reasons.specs.declared.Reason.TheVariants.{NoReason, Quarrel, Differ, Hours}
 use Rattle.reasons.proofs.Named.{entry, past, no_word}
 use Rattle.strptime.specs.Answers.{showing, refused, by_format, by_elements, unless_long, reading_by, elements_reading_by}
 use Rattle.strptime.specs.declared.Reading.{Reading}
+use Rattle.std.specs.Prelude.{None, Option, Some}
+use Rattle.reasons.specs.declared.Reason.TheVariants.{Differ, Hours, Quarrel}
+use Rattle.reasons.specs.declared.Reason.{Reason}
 
 -- an extent at most n
 abbrev pub Below : ℕ → Extent → Type 0
@@ -43,13 +44,13 @@ quarrel_below a es s n h k =
     ]
 
 -- the words of a reason that is a quarrel only about such a text
-pub words_below : (r : Reason) (es s : List ℕ) (n : ℕ) → ((a : About) → r ≡ Quarrel a → length s ≤ n)
+pub words_below : (r : Option Reason) (es s : List ℕ) (n : ℕ) → ((a : About) → r ≡ Some (Quarrel a) → length s ≤ n)
     → (k : ℕ) → Below n (get_or (words_for r es s) k nowhere)
 unfolding words_for nowhere
-words_below NoReason es s n h k = rw (no_word k) (omega arith, omega arith)
-words_below (Quarrel a) es s n h k = quarrel_below a es s n (h a refl) k
-words_below (Differ p) es s n h k = rw (no_word k) (omega arith, omega arith)
-words_below (Hours a b) es s n h k = rw (no_word k) (omega arith, omega arith)
+words_below None es s n h k = rw (no_word k) (omega arith, omega arith)
+words_below (Some (Quarrel a)) es s n h k = quarrel_below a es s n (h a refl) k
+words_below (Some (Differ p)) es s n h k = rw (no_word k) (omega arith, omega arith)
+words_below (Some (Hours a b)) es s n h k = rw (no_word k) (omega arith, omega arith)
 
 -- of any reason within any text
 pub explained_inside : (r : Reading) (es s : List ℕ) (k : ℕ) → Below (length s) (get_or (explained r es s).words k nowhere)
@@ -57,19 +58,19 @@ unfolding explained
 explained_inside r es s k = words_below (reason_of r) es s (length s) (λ a e. omega arith) k
 
 -- a longer text is refused by another number
-pub unless_quarrel : (s : List ℕ) (r : Reading) (a : About) → reason_of (unless_long s r) ≡ Quarrel a → length s ≤ longest
+pub unless_quarrel : (s : List ℕ) (r : Reading) (a : About) → reason_of (unless_long s r) ≡ Some (Quarrel a) → length s ≤ longest
 unfolding unless_long reason_of refused showing
 unless_quarrel s r a = go (leb (length s) longest) refl
   where
-    go : (b : Bool) → leb (length s) longest ≡ b → reason_of (cond b r (refused 5 0)) ≡ Quarrel a → length s ≤ longest
+    go : (b : Bool) → leb (length s) longest ≡ b → reason_of (cond b r (refused 5 0)) ≡ Some (Quarrel a) → length s ≤ longest
     go true e q = leb-true (length s) longest e
     go false e q = clash (cc)
 
-format_quarrel : (e : Engine) (f s : List ℕ) (a : About) → reason_of (reading_by e f s) ≡ Quarrel a → length s ≤ longest
+format_quarrel : (e : Engine) (f s : List ℕ) (a : About) → reason_of (reading_by e f s) ≡ Some (Quarrel a) → length s ≤ longest
 unfolding reading_by reason_of refused showing
 format_quarrel e f s a = go (leb (length f) longest)
   where
-    go : (b : Bool) → reason_of (cond b (unless_long s (by_format e f s)) (refused 1 0)) ≡ Quarrel a → length s ≤ longest
+    go : (b : Bool) → reason_of (cond b (unless_long s (by_format e f s)) (refused 1 0)) ≡ Some (Quarrel a) → length s ≤ longest
     go true q = unless_quarrel s (by_format e f s) a q
     go false q = clash (cc)
 

@@ -34,6 +34,8 @@ module _ (a : About) (k : ℕ) (f : Facts) where
   unfolding tried
   tried_kept e = rw e
 
+pub ruleset tried_ways = (tried_unsaid, tried_out, tried_kept)
+
 -- one kind more of those in a row
 module _ (a : About) (k last : ℕ) (f : Facts) where
   pub row_more : k ≤ last → all_tried a (range k (last + 1 - k)) f ≡ all_tried a (range (k + 1) (last + 1 - (k + 1))) (tried a k f)

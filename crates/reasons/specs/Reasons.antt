@@ -2,8 +2,6 @@
 use Rattle.std.specs.Prelude.{ℕ, cond, not, List, [], map, eqb}
 use Rattle.calendar.specs.declared.Date.{Date}
 use Rattle.format.specs.Opening.{opening, opened}
-use Rattle.format.specs.declared.opening.Opened.{Opened}
-use Rattle.format.specs.declared.opening.Opened.TheVariants.{Done, TooLong, Bad}
 use Rattle.format.specs.declared.opening.Side.TheVariants.{Reader}
 use Rattle.agreement.specs.declared.Facts.{Facts}
 use Rattle.judge.specs.declared.Engine.{Engine}
@@ -18,32 +16,34 @@ use Rattle.reasons.specs.declared.About.TheVariants.{Day as TheDay, Hour as TheH
 use Rattle.reasons.specs.declared.Explained.{Explained}
 use Rattle.reasons.specs.declared.Part.{Part}
 use Rattle.reasons.specs.declared.Part.TheVariants.{Year, Month, Day}
-use Rattle.reasons.specs.declared.Reason.{Reason}
-use Rattle.reasons.specs.declared.Reason.TheVariants.{NoReason, Quarrel, Differ, Hours}
 use Rattle.strptime.specs.Answers.{reading_by, elements_reading_by}
 use Rattle.strptime.specs.declared.Reading.{Reading}
+use Rattle.std.specs.Prelude.{Err, None, Ok, Option, Result, Some}
+use Rattle.format.specs.declared.opening.Unopened.{Unopened}
+use Rattle.reasons.specs.declared.Reason.TheVariants.{Differ, Hours, Quarrel}
+use Rattle.reasons.specs.declared.Reason.{Reason}
+use Rattle.strptime.specs.declared.Shown.TheVariants.{Days, Hours as TwoHours}
 use Rattle.strptime.specs.declared.Shown.{Shown}
-use Rattle.strptime.specs.declared.Shown.TheVariants.{Nothing, Days, Hours as TwoHours}
 
 -- the first of year, month and day in which two dates differ
 unfoldable pub differing : Date → Date → Part
 differing a b = cond (not (eqb a.year b.year)) Year (cond (not (eqb a.month b.month)) Month Day)
 
 -- 10: in what the two days differ, or the two hours
-unfoldable pub open_reason : Shown → Reason
-open_reason Nothing = NoReason
-open_reason (Days a b) = Differ (differing a b)
-open_reason (TwoHours a b) = Hours a b
+unfoldable pub open_reason : Option Shown → Option Reason
+open_reason None = None
+open_reason (Some (Days a b)) = Some (Differ (differing a b))
+open_reason (Some (TwoHours a b)) = Some (Hours a b)
 
 -- 9 has place 1 for the day, and 2 for the hour
 unfoldable pub about : ℕ → About
 about place = cond (eqb place 1) TheDay TheHour
 
 -- the reason of a reading: with every other number there is none
-unfoldable pub reason_of : Reading → Reason
+unfoldable pub reason_of : Reading → Option Reason
 reason_of r =
-    cond (eqb r.number 9) (Quarrel (about r.place))
-    (cond (eqb r.number 10) (open_reason r.shown) NoReason)
+    cond (eqb r.number 9) (Some (Quarrel (about r.place)))
+    (cond (eqb r.number 10) (open_reason r.shown) None)
 
 -- the facts that a text says by elements
 unfoldable pub facts_in : List ℕ → List ℕ → Facts
@@ -56,11 +56,11 @@ quarrel_words a es s = map (λ k. cond (is_named a (facts_in es s) k) (first_sai
 unfoldable pub no_words : List Extent
 no_words = map (λ k. nowhere) (range 0 kinds)
 
-unfoldable pub words_for : Reason → List ℕ → List ℕ → List Extent
-words_for NoReason es s = no_words
-words_for (Quarrel a) es s = quarrel_words a es s
-words_for (Differ p) es s = no_words
-words_for (Hours a b) es s = no_words
+unfoldable pub words_for : Option Reason → List ℕ → List ℕ → List Extent
+words_for None es s = no_words
+words_for (Some (Quarrel a)) es s = quarrel_words a es s
+words_for (Some (Differ p)) es s = no_words
+words_for (Some (Hours a b)) es s = no_words
 
 -- why a text that was read by elements is answered so
 unfoldable pub explained : Reading → List ℕ → List ℕ → Explained
@@ -70,10 +70,9 @@ explained r es s = record { reason = reason_of r; words = words_for (reason_of r
 unfoldable pub format_elements : List ℕ → List ℕ
 format_elements f = go (opened Reader f)
   where
-    go : Opened → List ℕ
-    go (Done n) = (opening Reader f).elements
-    go TooLong = []
-    go (Bad p) = []
+    go : Result ℕ Unopened → List ℕ
+    go (Ok n) = (opening Reader f).elements
+    go (Err why) = []
 
 -- why a text is answered as it is: by a format, and by the elements of one that was opened before, with an engine
 abbrev pub explained_by : Engine → List ℕ → List ℕ → Explained

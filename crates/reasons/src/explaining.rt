@@ -1,19 +1,19 @@
 // The reason of an answer, and the words that it names.
-ghost use Rattle.std.specs.Prelude.{◌≡◌, ◌<◌};
-ghost use Rattle.kinds.specs.Kinds.{kinds};
-ghost use Rattle.reasons.specs.Private.{word_in, words_in};
+ghost use Rattle.std.specs.Prelude.{◌≡◌};
+ghost use Rattle.reasons.specs.Private.{words_in};
 ghost use Rattle.reasons.specs.Reasons.{differing, reason_of, quarrel_words, words_for, explained, format_elements};
 ghost use Rattle.strptime.specs.Answers.{reading_of};
 
-use crate::quarrels::{first_kind, last_kind, quarrelling};
+use crate::quarrels::quarrelling;
 use crate::{About, Explained, Part, Reason};
 use agreement::Facts;
 use calendar::Date;
-use format::{MOST_ELEMENTS, Opened, Side, open};
+use format::{MOST_ELEMENTS, Side, open};
 use matching::{Extent, first_said, nowhere, read_all};
-use strptime::Answer;
+use strptime::{Answer, ReadRefusal};
 
 // The first part in which two dates differ.
+#[tactic(auto, unfolding(crate::specs::Reasons::differing))]
 pub fn differing(a: Date, b: Date) -> Part
     ensures { result ≡ differing a b }
 {
@@ -26,52 +26,30 @@ pub fn differing(a: Date, b: Date) -> Part
     Part::Day
 }
 
-fn reason_of(answer: Answer) -> Reason
+#[tactic(auto, unfolding(crate::specs::Reasons::computes, strptime::specs::Answers::computes))]
+fn reason_of(answer: Answer) -> Option<Reason>
     ensures { result ≡ reason_of (reading_of answer) }
 {
     match answer {
-        Answer::NoDay { examined: _ } => Reason::Quarrel(About::Day),
-        Answer::NoHour { examined: _ } => Reason::Quarrel(About::Hour),
-        Answer::OpenDay {
-            first,
-            second,
-            examined: _,
-        } => Reason::Differ(differing(first, second)),
-        Answer::OpenHour {
-            first,
-            second,
-            examined: _,
-        } => Reason::Hours { first, second },
-        _ => Reason::NoReason,
+        Err(ReadRefusal::NoDay { .. }) => Some(Reason::Quarrel(About::Day)),
+        Err(ReadRefusal::NoHour { .. }) => Some(Reason::Quarrel(About::Hour)),
+        Err(ReadRefusal::OpenDay { first, second, .. }) => Some(Reason::Differ(differing(
+            first, second,
+        ))),
+        Err(ReadRefusal::OpenHour { first, second, .. }) => Some(Reason::Hours { first, second }),
+        _ => None,
     }
 }
 
-// Where a kind was first said, if it is among those that are left.
-fn word_in(about: About, left: Facts, kind: u32, elements: &[u32], s: &[u8]) -> Extent
-    requires { kind < kinds }
-    ensures { result ≡ word_in about left elements.now s.now kind }
-{
-    let said = left.said;
-    if kind < first_kind(about) {
-        return nowhere();
-    }
-    if last_kind(about) < kind {
-        return nowhere();
-    }
-    if said[kind as usize] == 0 {
-        return nowhere();
-    }
-    first_said(kind, elements, s)
-}
-
+// Where each kind that is left was first said, of those that bear on what is judged.
 fn words_in(about: About, left: Facts, elements: &[u32], s: &[u8]) -> [Extent; kinds::KINDS]
     ensures { result ≡ words_in about left elements.now s.now }
 {
-    let mut words = [Extent { from: 0, next: 0 }; kinds::KINDS];
-    let mut kind: u32 = 0;
-    while kind < kinds::KINDS as u32 {
-        words[kind as usize] = word_in(about, left, kind, elements, s);
-        kind += 1;
+    let mut words = [nowhere(); kinds::KINDS];
+    for kind in about.first_kind()..=about.last_kind() {
+        if left.said[kind as usize] != 0 {
+            words[kind as usize] = first_said(kind, elements, s);
+        }
     }
     words
 }
@@ -81,20 +59,21 @@ fn quarrel_words(about: About, elements: &[u32], s: &[u8]) -> [Extent; kinds::KI
     ensures { result ≡ quarrel_words about elements.now s.now }
 {
     let stepped = read_all(elements, s);
-    let state = stepped.state;
-    words_in(about, quarrelling(about, state.facts), elements, s)
+    words_in(about, quarrelling(about, stepped.state.facts), elements, s)
 }
 
-fn words_for(reason: Reason, elements: &[u32], s: &[u8]) -> [Extent; kinds::KINDS]
+#[tactic(auto, unfolding(crate::specs::Reasons::words_for, crate::specs::Reasons::no_words, laws::specs::Lists::range))]
+fn words_for(reason: Option<Reason>, elements: &[u32], s: &[u8]) -> [Extent; kinds::KINDS]
     ensures { result ≡ words_for reason elements.now s.now }
 {
     match reason {
-        Reason::Quarrel(about) => quarrel_words(about, elements, s),
-        _ => [Extent { from: 0, next: 0 }; kinds::KINDS],
+        Some(Reason::Quarrel(about)) => quarrel_words(about, elements, s),
+        _ => [nowhere(); kinds::KINDS],
     }
 }
 
 // Why a text that was read by elements has its answer.
+#[tactic(auto, unfolding(crate::specs::Reasons::explained))]
 pub fn explain(answer: Answer, elements: &[u32], text: &[u8]) -> Explained
     ensures { result ≡ explained (reading_of answer) elements.now text.now }
 {
@@ -111,8 +90,7 @@ pub fn explain_by_format(answer: Answer, format: &[u8], text: &[u8]) -> Explaine
 {
     let mut elements = [0; MOST_ELEMENTS];
     match open(Side::Reader, format, &mut elements) {
-        Opened::Done { count } => explain(answer, &elements[..count], text),
-        Opened::TooLong => explain(answer, &elements[..0], text),
-        Opened::Bad { at: _ } => explain(answer, &elements[..0], text),
+        Ok(count) => explain(answer, &elements[..count], text),
+        Err(_) => explain(answer, &[], text),
     }
 }

@@ -24,18 +24,18 @@ pub enum Part {
     Day,
 }
 
-// With 9 a quarrel; with 10 the first part in which the two days differ, or the two hours; with every other number none.
+// With 9 a quarrel; with 10 the first part in which the two days differ, or the two hours.
 #[derive(Clone, Copy)]
 pub enum Reason {
-    NoReason,
     Quarrel(About),
     Differ(Part),
     Hours { first: u32, second: u32 },
 }
 
-// A reason, and where each kind that quarrels was first said, at the kind's number; every other kind stands nowhere.
+// A reason, or none with every other number; and where each kind that quarrels was first said, at the kind's number. Every other kind
+// stands nowhere.
 #[derive(Clone, Copy)]
 pub struct Explained {
-    pub reason: Reason,
+    pub reason: Option<Reason>,
     pub words: [Extent; kinds::KINDS],
 }

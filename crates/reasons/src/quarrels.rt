@@ -8,20 +8,15 @@ use crate::About;
 use agreement::{Facts, Found, search_hours};
 use judge::search_days;
 
+#[tactic(auto, unfolding(crate::specs::Quarrels::is_nothing))]
 fn is_nothing(found: Found) -> bool
     ensures { result ≡ is_nothing found }
 {
-    match found {
-        Found::Nothing => true,
-        Found::One(_) => false,
-        Found::Two {
-            first: _,
-            second: _,
-        } => false,
-    }
+    matches!(found, Found::Nothing)
 }
 
 // Whether no day, or no hour, agrees with the facts.
+#[tactic(auto, unfolding(crate::specs::Quarrels::none_agrees))]
 fn none_agrees(about: About, facts: Facts) -> bool
     ensures { result ≡ none_agrees about facts }
 {
@@ -32,22 +27,23 @@ fn none_agrees(about: About, facts: Facts) -> bool
 }
 
 // The facts without those of one kind.
+#[tactic(auto, unfolding(crate::specs::Quarrels::without))]
 fn without(kind: u32, facts: Facts) -> Facts
     requires { kind < kinds }
     ensures { result ≡ without kind facts }
 {
-    let mut said = facts.said;
-    said[kind as usize] = 0;
-    Facts { said }
+    let mut less = facts;
+    less.said[kind as usize] = 0;
+    less
 }
 
 // A kind is left out if without it still none agrees. What was not said need not be tried.
+#[tactic(auto, using(crate::proofs::Trying::tried_ways))]
 fn tried(about: About, kind: u32, facts: Facts) -> Facts
     requires { kind < kinds }
     ensures { result ≡ tried about kind facts }
 {
-    let said = facts.said;
-    if said[kind as usize] == 0 {
+    if facts.said[kind as usize] == 0 {
         return facts;
     }
     let less = without(kind, facts);
@@ -58,21 +54,25 @@ fn tried(about: About, kind: u32, facts: Facts) -> Facts
 }
 
 // The first and the last of the kinds that bear on the day, or on the hour.
-pub(crate) fn first_kind(about: About) -> u32
-    ensures { result ≡ first_kind about }
-{
-    match about {
-        About::Day => kinds::FIRST_DAY_KIND,
-        About::Hour => kinds::FIRST_HOUR_KIND,
+impl About {
+    #[tactic(auto, unfolding(crate::specs::Private::first_kind))]
+    pub(crate) fn first_kind(self) -> u32
+        ensures { result ≡ first_kind self }
+    {
+        match self {
+            About::Day => kinds::FIRST_DAY_KIND,
+            About::Hour => kinds::FIRST_HOUR_KIND,
+        }
     }
-}
 
-pub(crate) fn last_kind(about: About) -> u32
-    ensures { result ≡ last_kind about }
-{
-    match about {
-        About::Day => kinds::LAST_DAY_KIND,
-        About::Hour => kinds::LAST_HOUR_KIND,
+    #[tactic(auto, unfolding(crate::specs::Private::last_kind))]
+    pub(crate) fn last_kind(self) -> u32
+        ensures { result ≡ last_kind self }
+    {
+        match self {
+            About::Day => kinds::LAST_DAY_KIND,
+            About::Hour => kinds::LAST_HOUR_KIND,
+        }
     }
 }
 
@@ -80,12 +80,9 @@ pub(crate) fn last_kind(about: About) -> u32
 pub fn quarrelling(about: About, facts: Facts) -> Facts
     ensures { result ≡ quarrelling about facts }
 {
-    let last = last_kind(about);
     let mut left = facts;
-    let mut kind = first_kind(about);
-    while kind <= last {
+    for kind in about.first_kind()..=about.last_kind() {
         left = tried(about, kind, left);
-        kind += 1;
     }
     left
 }

@@ -8,8 +8,6 @@ use Rattle.laws.proofs.Cases.{clash}
 use Rattle.calendar.specs.Calendar.{date, days, date_of}
 use Rattle.calendar.specs.Dates.{from_day_number}
 use Rattle.calendar.specs.declared.Date.{Date}
-use Rattle.calendar.specs.declared.FromNumber.{FromNumber}
-use Rattle.calendar.specs.declared.FromNumber.TheVariants.{Day, Outside}
 use Rattle.agreement.specs.Agreement.{said}
 use Rattle.agreement.specs.Demand.{DayAgrees}
 use Rattle.agreement.specs.declared.Facts.{Facts}
@@ -18,12 +16,13 @@ use Rattle.kinds.specs.Kinds.{day_kinds}
 use Rattle.values.specs.Values.{date_value, date_values}
 use Rattle.calendar.proofs.Dates.{Valid, number_day, number_of_date}
 use Rattle.calendar.proofs.Months.{month_most}
+use Rattle.std.specs.Prelude.{None, Option, Some}
 
-module _ (k : ℕ) (h : 0 < k) (l : k ≤ days) {r : FromNumber} (e : r ≡ from_day_number k) where
-  pub day_is : {x : Date} → r ≡ Day x → x ≡ date_of k
+module _ (k : ℕ) (h : 0 < k) (l : k ≤ days) {r : Option Date} (e : r ≡ from_day_number k) where
+  pub day_is : {x : Date} → r ≡ Some x → x ≡ date_of k
   day_is f = let n = number_day k h l in cc
 
-  pub never_outside : {A : Type 0} → r ≡ Outside → A
+  pub never_outside : {A : Type 0} → r ≡ None → A
   never_outside f = let n = number_day k h l in clash (cc)
 
 -- the date of a day that agrees is as it was said

@@ -2,24 +2,37 @@
 -- Assumes nothing.
 use Prim.Native.Nat.{ℕ, ◌≤◌, ◌<◌}
 use mathlib.Core.List.{List}
-use mathlib.Core.Path.{◌≡◌, sym, ap, ◌∙◌}
+use mathlib.Core.Path.{◌≡◌, refl, sym, ap, ◌∙◌}
 use borrow.Author.Tests.{le-leb, lt-leb, eq-eqb, ne_eqb}
 use lib.ListN.{length}
 use Rattle.format.specs.Opening.{Whole, BadAt, longest, opening, most_elements, elements_in, entry_place}
 use Rattle.format.specs.declared.opening.Side.TheVariants.{Reader}
 use Rattle.judge.specs.declared.Engine.{Engine}
-use Rattle.strptime.specs.Answers.{refused, concluded, read_by, by_format, by_elements, unless_long, reading_by, elements_reading_by}
+use Rattle.strptime.specs.Answers.{refused, reading_of, refusal_of, concluded, read_by, by_format, by_elements, unless_long, reading_by}
+use Rattle.strptime.specs.Answers.{elements_reading_by}
 use Rattle.matching.specs.Steps.{start, no_forms, read_all}
-use Rattle.matching.specs.declared.Outcome.{Outcome}
 use Rattle.strptime.specs.declared.Reading.{Reading}
 use Rattle.matching.specs.declared.Stepped.{Stepped}
+use Rattle.std.specs.Prelude.{Result, Err}
+use Rattle.matching.specs.declared.Forms.{Forms}
+use Rattle.matching.specs.declared.State.{State}
+use Rattle.matching.specs.declared.Refused.{Refused}
+use Rattle.matching.specs.declared.Refused.TheVariants.{Mismatch, Range, Conflict}
+use Rattle.strptime.specs.Private.{refusal_by}
 
 -- ---- what the elements' reading comes to
-pub by_outcome : (e : Engine) (es s : List ℕ) {r : Stepped} {o : Outcome} {a : Reading}
+pub by_outcome : (e : Engine) (es s : List ℕ) {r : Stepped} {o : Result (Unit {0}) Refused} {a : Reading}
     → r ≡ read_all es s start no_forms → r.outcome ≡ o → a ≡ concluded e r.state r.forms o → a ≡ read_by e es s
 unfolding read_by
 by_outcome e es s {r} q g h =
     h ∙ ap (concluded e r.state r.forms) (sym g) ∙ ap (λ (x : Stepped). concluded e x.state x.forms x.outcome) q
+
+-- 6, 7 or 8
+pub refused_by : (e : Engine) (t : State) (fs : Forms) (why : Refused) → reading_of (Err (refusal_by why)) ≡ concluded e t fs (Err why)
+unfolding concluded reading_of refusal_of
+refused_by e t fs (Mismatch p) = refl
+refused_by e t fs (Range p) = refl
+refused_by e t fs (Conflict p) = refl
 
 -- ---- 5
 module _ (s : List ℕ) (r : Reading) where

@@ -20,20 +20,22 @@ use Rattle.agreement.specs.declared.Verdict.TheVariants.{Unsaid, Impossible, Ope
 use Rattle.judge.specs.Engines.{searched}
 use Rattle.judge.specs.declared.Engine.{Engine}
 use Rattle.judge.specs.declared.Engine.TheVariants.{Skipping, Plain, Within as Budget}
-use Rattle.judge.specs.declared.Searched.{Searched}
-use Rattle.judge.specs.declared.Searched.TheVariants.{Judged, OverBudget}
 use Rattle.judge.proofs.Engines.{searched_over}
 use Rattle.strptime.specs.Answers.{showing, refused, finished, naming, examining, over_budget, done, with_hour, with_day, with_searched}
 use Rattle.strptime.specs.Answers.{judged, concluded, read_by, by_format, by_elements, unless_long, reading_by, elements_reading_by}
 use Rattle.strptime.specs.Answers.{reading, elements_reading}
 use Rattle.matching.specs.Steps.{start, stays, no_forms, step_on, is_read, read_all}
-use Rattle.strptime.specs.declared.Day.{Day}
 use Rattle.matching.specs.declared.Forms.{Forms}
-use Rattle.matching.specs.declared.Outcome.{Outcome}
-use Rattle.matching.specs.declared.Outcome.TheVariants.{Read, Mismatch, Range, Conflict}
 use Rattle.strptime.specs.declared.Reading.{Reading}
 use Rattle.matching.specs.declared.State.{State}
 use Rattle.matching.proofs.Walk.{Placed, Within, step_placed}
+use Rattle.std.specs.Prelude.{Err, Ok, Option, Result}
+use Rattle.calendar.specs.declared.Date.{Date}
+use Rattle.judge.specs.Engines.{over_by}
+use Rattle.judge.specs.declared.Judged.{Judged}
+use Rattle.judge.specs.declared.OverBudget.{OverBudget}
+use Rattle.matching.specs.declared.Refused.TheVariants.{Conflict, Mismatch, Range}
+use Rattle.matching.specs.declared.Refused.{Refused}
 
 pub all_within : (es s : List ℕ) (t : State) (fs : Forms) → t.at ≤ length s → Within s (read_all es s t fs)
 unfolding read_all stays Placed
@@ -44,7 +46,7 @@ all_within (e ∷ es) s t fs h =
     picked (Within s) (is_read r.outcome) (all_within es s r.state r.forms w.0) w
 
 module _ (t : State) (n : ℕ) (h : t.at ≤ n) (l : longest ≤ n) where
-  hour-place : (d : Day) (v : Verdict) → (with_hour t d v).place ≤ n
+  hour-place : (d : Option Date) (v : Verdict) → (with_hour t d v).place ≤ n
   unfolding with_hour done showing refused finished
   hour-place d Unsaid = h
   hour-place d Impossible = omega arith
@@ -58,10 +60,10 @@ module _ (t : State) (n : ℕ) (h : t.at ≤ n) (l : longest ≤ n) where
   day-place (Open a b) w = omega arith
   day-place (Agreed k) w = hour-place _ w
 
-  searched-place : (x : Searched) (w : Verdict) → ((b : ℕ) → x ≡ OverBudget b → b ≤ n) → (with_searched t x w).place ≤ n
+  searched-place : (x : Result Judged OverBudget) (w : Verdict) → ((b : ℕ) → x ≡ Err (over_by b) → b ≤ n) → (with_searched t x w).place ≤ n
   unfolding with_searched examining over_budget showing refused
-  searched-place (Judged v k) w m = day-place _ _
-  searched-place (OverBudget b) w m = m b refl
+  searched-place (Ok j) w m = day-place _ _
+  searched-place (Err o) w m = m o.budget refl
 
 -- an engine, and a bound of the longest format and text and of the engine's budget
 unfoldable pub budget : Engine → ℕ
@@ -77,12 +79,13 @@ module _ (e : Engine) (n : ℕ) (l : longest ≤ n) (m : budget e ≤ n) where
       (λ b q. omega (arith, m, ap budget (searched_over e t.facts q)))
 
   module _ (s : List ℕ) (short : length s ≤ longest) where
-    concluded-place : (t : State) (fs : Forms) (o : Outcome) → t.at ≤ length s → Placed s o → (concluded e t fs o).place ≤ n
+    concluded-place : (t : State) (fs : Forms) (o : Result (Unit {0}) Refused) → t.at ≤ length s → Placed s o
+        → (concluded e t fs o).place ≤ n
     unfolding concluded naming showing refused Placed
-    concluded-place t fs Read h p = judged-place t (omega arith)
-    concluded-place t fs (Mismatch q) h p = omega arith
-    concluded-place t fs (Range q) h p = omega arith
-    concluded-place t fs (Conflict q) h p = omega arith
+    concluded-place t fs (Ok u) h p = judged-place t (omega arith)
+    concluded-place t fs (Err (Mismatch q)) h p = omega arith
+    concluded-place t fs (Err (Range q)) h p = omega arith
+    concluded-place t fs (Err (Conflict q)) h p = omega arith
 
     by_place : (es : List ℕ) → (read_by e es s).place ≤ n
     unfolding read_by start

@@ -11,51 +11,48 @@ use Rattle.agreement.specs.declared.Verdict.TheVariants.{Unsaid as NotSaid, Impo
 use Rattle.judge.specs.Engines.{searched}
 use Rattle.judge.specs.declared.Engine.{Engine}
 use Rattle.judge.specs.declared.Engine.TheVariants.{Skipping}
-use Rattle.judge.specs.declared.Searched.{Searched}
-use Rattle.judge.specs.declared.Searched.TheVariants.{Judged, OverBudget as TooFew}
 use Rattle.matching.specs.Steps.{start, no_forms, read_all}
-use Rattle.strptime.specs.declared.Answer.{Answer}
-use Rattle.strptime.specs.declared.Answer.TheVariants.{Done, FormatTooLong, TextTooLong, BadConversion}
-use Rattle.strptime.specs.declared.Answer.TheVariants.{NoMatch, OutOfRange, Contradiction}
-use Rattle.strptime.specs.declared.Answer.TheVariants.{NoDay, NoHour, OpenDay, OpenHour, OverBudget}
-use Rattle.strptime.specs.declared.Day.{Day}
-use Rattle.strptime.specs.declared.Day.TheVariants.{NoDate, On}
+use Rattle.strptime.specs.declared.Done.{Done}
+use Rattle.strptime.specs.declared.ReadRefusal.{ReadRefusal}
+use Rattle.strptime.specs.declared.ReadRefusal.TheVariants.{FormatTooLong, TextTooLong, BadConversion}
+use Rattle.strptime.specs.declared.ReadRefusal.TheVariants.{NoMatch, OutOfRange, Contradiction}
+use Rattle.strptime.specs.declared.ReadRefusal.TheVariants.{NoDay, NoHour, OpenDay, OpenHour, OverBudget as TooFew}
 use Rattle.matching.specs.declared.Forms.{Forms}
-use Rattle.matching.specs.declared.Outcome.{Outcome}
-use Rattle.matching.specs.declared.Outcome.TheVariants.{Read, Mismatch, Range, Conflict}
 use Rattle.strptime.specs.declared.Reading.{Reading}
-use Rattle.strptime.specs.declared.Said.{Said}
-use Rattle.strptime.specs.declared.Said.TheVariants.{Unsaid, Is}
-use Rattle.strptime.specs.declared.Shown.{Shown}
-use Rattle.strptime.specs.declared.Shown.TheVariants.{Nothing, Days, Hours}
 use Rattle.matching.specs.declared.State.{State}
 use Rattle.values.specs.Offsets.{offset_of}
-use Rattle.values.specs.declared.offsets.Offset.{Offset}
-use Rattle.values.specs.declared.offsets.Offset.TheVariants.{Unsaid as NoOffset}
+use Rattle.std.specs.Prelude.{Err, None, Ok, Option, Result, Some, ℤ}
+use Rattle.calendar.specs.declared.Date.{Date}
+use Rattle.judge.specs.declared.Judged.{Judged}
+use Rattle.judge.specs.declared.OverBudget.{OverBudget}
+use Rattle.matching.specs.declared.Refused.TheVariants.{Mismatch, Range, Conflict}
+use Rattle.matching.specs.declared.Refused.{Refused}
+use Rattle.strptime.specs.declared.Shown.TheVariants.{Days, Hours}
+use Rattle.strptime.specs.declared.Shown.{Shown}
 
 -- ---- the numbers
 
 -- a number and a place, and what is shown; all else is unsaid, no name has a form, and no day was examined
-unfoldable pub showing : ℕ → ℕ → Shown → Reading
+unfoldable pub showing : ℕ → ℕ → Option Shown → Reading
 showing n p x =
     record {
       number = n;
       place = p;
-      day = NoDate;
-      hour = Unsaid;
-      minute = Unsaid;
-      second = Unsaid;
-      offset = NoOffset;
+      day = None;
+      hour = None;
+      minute = None;
+      second = None;
+      offset = None;
       forms = no_forms;
       shown = x;
       examined = 0;
     }
 
 unfoldable pub refused : ℕ → ℕ → Reading
-refused n p = showing n p Nothing
+refused n p = showing n p None
 
 -- 0, with the first offset that was not read, and what is said of day, hour, minute, second and zone offset
-unfoldable pub finished : ℕ → Day → Said → Said → Said → Offset → Reading
+unfoldable pub finished : ℕ → Option Date → Option ℕ → Option ℕ → Option ℕ → Option ℤ → Reading
 finished p d h m s o =
     record {
       number = 0;
@@ -66,7 +63,7 @@ finished p d h m s o =
       second = s;
       offset = o;
       forms = no_forms;
-      shown = Nothing;
+      shown = None;
       examined = 0;
     }
 
@@ -107,50 +104,53 @@ unfoldable pub over_budget : ℕ → Reading
 over_budget b = examining b (refused 11 b)
 
 -- the number, place and values of each answer
-unfoldable pub reading_of : Answer → Reading
-reading_of (Done p d h m s o fs n) = naming fs (examining n (finished p d h m s o))
-reading_of FormatTooLong = refused 1 0
-reading_of TextTooLong = refused 5 0
-reading_of (BadConversion p) = refused 3 p
-reading_of (NoMatch p) = refused 6 p
-reading_of (OutOfRange p) = refused 7 p
-reading_of (Contradiction p) = refused 8 p
-reading_of (OverBudget b) = over_budget b
-reading_of (NoDay n) = examining n (refused 9 1)
-reading_of (NoHour n) = examining n (refused 9 2)
-reading_of (OpenDay a b n) = examining n (showing 10 1 (Days a b))
-reading_of (OpenHour a b n) = examining n (showing 10 2 (Hours a b))
+unfoldable pub refusal_of : ReadRefusal → Reading
+refusal_of FormatTooLong = refused 1 0
+refusal_of TextTooLong = refused 5 0
+refusal_of (BadConversion p) = refused 3 p
+refusal_of (NoMatch p) = refused 6 p
+refusal_of (OutOfRange p) = refused 7 p
+refusal_of (Contradiction p) = refused 8 p
+refusal_of (TooFew b) = over_budget b
+refusal_of (NoDay n) = examining n (refused 9 1)
+refusal_of (NoHour n) = examining n (refused 9 2)
+refusal_of (OpenDay a b n) = examining n (showing 10 1 (Some (Days a b)))
+refusal_of (OpenHour a b n) = examining n (showing 10 2 (Some (Hours a b)))
+
+unfoldable pub reading_of : Result Done ReadRefusal → Reading
+reading_of (Ok d) = naming d.forms (examining d.examined (finished d.unread d.day d.hour d.minute d.second d.offset))
+reading_of (Err r) = refusal_of r
 
 -- ---- 11, 9 and 10
 
 -- what was said of a kind, as an answer gives it
-unfoldable pub said_of : ℕ → Said
-said_of s = cond (eqb s 0) Unsaid (Is (s - 1))
+unfoldable pub said_of : ℕ → Option ℕ
+said_of s = cond (eqb s 0) None (Some (s - 1))
 
 -- a finished reading has the minute, the second and the zone offset as they were said
-unfoldable pub done : State → Day → Said → Reading
+unfoldable pub done : State → Option Date → Option ℕ → Reading
 done t d h =
     finished t.at d h (said_of (said t.facts kinds.minute)) (said_of (said t.facts kinds.second))
     (offset_of (said t.facts kinds.zone_offset))
 
 -- then 9 or 10 for the hour, which hand out no day though one may have agreed
-unfoldable pub with_hour : State → Day → Verdict → Reading
-with_hour t d NotSaid = done t d Unsaid
+unfoldable pub with_hour : State → Option Date → Verdict → Reading
+with_hour t d NotSaid = done t d None
 with_hour t d Impossible = refused 9 2
-with_hour t d (Open a b) = showing 10 2 (Hours a b)
-with_hour t d (Agreed h) = done t d (Is h)
+with_hour t d (Open a b) = showing 10 2 (Some (Hours a b))
+with_hour t d (Agreed h) = done t d (Some h)
 
 -- 9 or 10 for the day first, by the verdicts on the day and on the hour
 unfoldable pub with_day : State → Verdict → Verdict → Reading
-with_day t NotSaid w = with_hour t NoDate w
+with_day t NotSaid w = with_hour t None w
 with_day t Impossible w = refused 9 1
-with_day t (Open a b) w = showing 10 1 (Days (date_of a) (date_of b))
-with_day t (Agreed k) w = with_hour t (On (date_of k)) w
+with_day t (Open a b) w = showing 10 1 (Some (Days (date_of a) (date_of b)))
+with_day t (Agreed k) w = with_hour t (Some (date_of k)) w
 
 -- 11 in their place where the engine's budget is too small
-unfoldable pub with_searched : State → Searched → Verdict → Reading
-with_searched t (Judged v n) w = examining n (with_day t v w)
-with_searched t (TooFew b) w = over_budget b
+unfoldable pub with_searched : State → Result Judged OverBudget → Verdict → Reading
+with_searched t (Ok j) w = examining j.examined (with_day t j.verdict w)
+with_searched t (Err o) w = over_budget o.budget
 
 unfoldable pub judged : Engine → State → Reading
 judged e t = with_searched t (searched e t.facts) (hour_verdict t.facts)
@@ -158,11 +158,11 @@ judged e t = with_searched t (searched e t.facts) (hour_verdict t.facts)
 -- ---- the whole order, by an engine
 
 -- 6, 7 or 8 where the reading of the elements met one, else the judging, with the forms of names
-unfoldable pub concluded : Engine → State → Forms → Outcome → Reading
-concluded e t fs Read = naming fs (judged e t)
-concluded e t fs (Mismatch p) = refused 6 p
-concluded e t fs (Range p) = refused 7 p
-concluded e t fs (Conflict p) = refused 8 p
+unfoldable pub concluded : Engine → State → Forms → Result (Unit {0}) Refused → Reading
+concluded e t fs (Ok u) = naming fs (judged e t)
+concluded e t fs (Err (Mismatch p)) = refused 6 p
+concluded e t fs (Err (Range p)) = refused 7 p
+concluded e t fs (Err (Conflict p)) = refused 8 p
 
 -- a text read by elements
 unfoldable pub read_by : Engine → List ℕ → List ℕ → Reading
@@ -205,6 +205,6 @@ elements_reading es s = elements_reading_by Skipping es s
 
 -- everything here, for proofs that compute
 unfoldable pub computes : Unit {0}
-unfolding showing refused finished naming examining over_budget reading_of said_of done with_hour with_day with_searched judged concluded
-    read_by by_format by_elements unless_long reading_by elements_reading_by
+unfolding showing refused finished naming examining over_budget refusal_of reading_of said_of done with_hour with_day with_searched judged
+    concluded read_by by_format by_elements unless_long reading_by elements_reading_by
 computes = tt

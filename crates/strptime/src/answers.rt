@@ -1,67 +1,71 @@
 // The reader's answer: what was read, then the day, then the hour.
 ghost use Rattle.std.specs.Prelude.{◌≡◌, ◌*◌, ◌≤◌, ◌<◌, length};
 ghost use Rattle.calendar.specs.Calendar.{days, date_of};
-ghost use Rattle.format.specs.Opening.{longest};
+ghost use Rattle.format.specs.Opening.{longest, most_elements};
 ghost use Rattle.agreement.specs.Demand.{DayAgrees};
 ghost use Rattle.agreement.specs.Verdicts.{day_verdict, hour_verdict};
 ghost use Rattle.strptime.specs.Answers.{showing, refused, examining, naming, reading_of, said_of, done, with_hour, with_day, judged};
-ghost use Rattle.strptime.specs.Private.{ComesTo};
+ghost use Rattle.strptime.specs.Private.{ComesTo, refusal_by, over_by};
 ghost use Rattle.strptime.specs.Answers.{read_by, unless_long, reading_by, elements_reading_by};
 
-use crate::{Answer, Day, Reading, Said, Shown};
+use crate::{Answer, Done, ReadRefusal, Reading, Shown};
 use agreement::{Facts, Verdict};
-use calendar::{Date, FromNumber};
+use calendar::Date;
 use format::{
-    LONGEST, MIDDLE_BYTES, MIDDLE_ELEMENTS, MOST_ELEMENTS, Opened, SHORT_BYTES, SHORT_ELEMENTS,
-    Side, elements_in, entry_place, open,
+    LONGEST, MIDDLE_BYTES, MIDDLE_ELEMENTS, MOST_ELEMENTS, SHORT_BYTES, SHORT_ELEMENTS, Side,
+    Unopened, elements_in, entry_place, open,
 };
-use judge::{Engine, Searched, judge_day, judge_hour};
-use matching::{Forms, Outcome, State, read_all};
-use names::NameForm;
-use values::{Offset, offset_of};
+use judge::{Engine, Judged, OverBudget, judge_day, judge_hour};
+use matching::{Forms, Refused, State, read_all};
+use values::offset_of;
 
 // A number and a place, what is shown, and the days examined; all else is unsaid.
-fn showing(number: u32, place: usize, shown: Shown, examined: u32) -> Reading
+#[tactic(auto, unfolding(crate::specs::Answers::computes, matching::specs::Steps::no_forms))]
+fn showing(number: u32, place: usize, shown: Option<Shown>, examined: u32) -> Reading
     ensures { result ≡ examining examined (showing number place shown) }
 {
     Reading {
         number,
         place,
-        day: Day::NoDate,
-        hour: Said::Unsaid,
-        minute: Said::Unsaid,
-        second: Said::Unsaid,
-        offset: Offset::Unsaid,
+        day: None,
+        hour: None,
+        minute: None,
+        second: None,
+        offset: None,
         forms: Forms {
-            weekday: NameForm::NoName,
-            month: NameForm::NoName,
+            weekday: None,
+            month: None,
         },
         shown,
         examined,
     }
 }
 
+#[tactic(auto, unfolding(crate::specs::Answers::computes))]
 fn refused(number: u32, place: usize, examined: u32) -> Reading
     ensures { result ≡ examining examined (refused number place) }
 {
-    showing(number, place, Shown::Nothing, examined)
+    showing(number, place, None, examined)
 }
 
 // The number, place and values of each answer.
+#[tactic(auto, unfolding(crate::specs::Answers::computes))]
 pub fn reading_of(answer: Answer) -> Reading
     ensures { result ≡ reading_of answer }
 {
     match answer {
-        Answer::Done {
-            unread,
-            day,
-            hour,
-            minute,
-            second,
-            offset,
-            forms,
-            examined,
-        } => Reading {
+        Ok(
+            Done {
+                unread,
+                day,
+                hour,
+                minute,
+                second,
+                offset,
+                forms,
+                examined,
+            },
+        ) => Reading {
             number: 0,
             place: unread,
             day,
@@ -70,48 +74,50 @@ pub fn reading_of(answer: Answer) -> Reading
             second,
             offset,
             forms,
-            shown: Shown::Nothing,
+            shown: None,
             examined,
         },
-        Answer::FormatTooLong => refused(1, 0, 0),
-        Answer::TextTooLong => refused(5, 0, 0),
-        Answer::BadConversion { at } => refused(3, at, 0),
-        Answer::NoMatch { at } => refused(6, at, 0),
-        Answer::OutOfRange { at } => refused(7, at, 0),
-        Answer::Contradiction { at } => refused(8, at, 0),
-        Answer::OverBudget { budget } => refused(11, budget as usize, budget),
-        Answer::NoDay { examined } => refused(9, 1, examined),
-        Answer::NoHour { examined } => refused(9, 2, examined),
-        Answer::OpenDay {
-            first,
-            second,
-            examined,
-        } => showing(10, 1, Shown::Days { first, second }, examined),
-        Answer::OpenHour {
-            first,
-            second,
-            examined,
-        } => showing(10, 2, Shown::Hours { first, second }, examined),
+        Err(ReadRefusal::FormatTooLong) => refused(1, 0, 0),
+        Err(ReadRefusal::TextTooLong) => refused(5, 0, 0),
+        Err(ReadRefusal::BadConversion { at }) => refused(3, at, 0),
+        Err(ReadRefusal::NoMatch { at }) => refused(6, at, 0),
+        Err(ReadRefusal::OutOfRange { at }) => refused(7, at, 0),
+        Err(ReadRefusal::Contradiction { at }) => refused(8, at, 0),
+        Err(ReadRefusal::OverBudget { budget }) => refused(11, budget as usize, budget),
+        Err(ReadRefusal::NoDay { examined }) => refused(9, 1, examined),
+        Err(ReadRefusal::NoHour { examined }) => refused(9, 2, examined),
+        Err(
+            ReadRefusal::OpenDay {
+                first,
+                second,
+                examined,
+            },
+        ) => showing(10, 1, Some(Shown::Days { first, second }), examined),
+        Err(
+            ReadRefusal::OpenHour {
+                first,
+                second,
+                examined,
+            },
+        ) => showing(10, 2, Some(Shown::Hours { first, second }), examined),
     }
 }
 
-fn said_of(s: u32) -> Said
+#[tactic(auto, unfolding(crate::specs::Answers::computes))]
+fn said_of(s: u32) -> Option<u32>
     ensures { result ≡ said_of s }
 {
-    if s == 0 {
-        return Said::Unsaid;
-    }
-    Said::Is(s - 1)
+    s.checked_sub(1)
 }
 
 // What follows has the days examined in its answer, and the forms of names where it is finished.
 
-fn done(state: State, forms: Forms, day: Day, hour: Said, examined: u32) -> Answer
+#[tactic(auto, unfolding(crate::specs::Answers::computes))]
+fn done(state: State, forms: Forms, day: Option<Date>, hour: Option<u32>, examined: u32) -> Answer
     ensures { reading_of result ≡ naming forms (examining examined (done state day hour)) }
 {
-    let facts = state.facts;
-    let said = facts.said;
-    Answer::Done {
+    let said = state.facts.said;
+    Ok(Done {
         unread: state.at,
         day,
         hour,
@@ -120,31 +126,32 @@ fn done(state: State, forms: Forms, day: Day, hour: Said, examined: u32) -> Answ
         offset: offset_of(said[kinds::ZONE_OFFSET as usize]),
         forms,
         examined,
-    }
+    })
 }
 
-fn with_hour(state: State, forms: Forms, day: Day, examined: u32) -> Answer
+#[tactic(auto, unfolding(crate::specs::Answers::computes))]
+fn with_hour(state: State, forms: Forms, day: Option<Date>, examined: u32) -> Answer
     ensures { reading_of result ≡ naming forms (examining examined (with_hour state day (hour_verdict state.facts))) }
 {
     match judge_hour(state.facts) {
-        Verdict::Unsaid => done(state, forms, day, Said::Unsaid, examined),
-        Verdict::Impossible => Answer::NoHour { examined },
-        Verdict::Open { first, second } => Answer::OpenHour {
+        Verdict::Unsaid => done(state, forms, day, None, examined),
+        Verdict::Impossible => Err(ReadRefusal::NoHour { examined }),
+        Verdict::Open { first, second } => Err(ReadRefusal::OpenHour {
             first,
             second,
             examined,
-        },
-        Verdict::Agreed(hour) => done(state, forms, day, Said::Is(hour), examined),
+        }),
+        Verdict::Agreed(hour) => done(state, forms, day, Some(hour), examined),
     }
 }
 
 // ---- The day
 
-// What the verdict on the day leaves: a day or none, with the days examined, or the answer that refuses it.
+// The day that the verdict on it fixes, or none where nothing was said of it, and the days examined.
 #[derive(Clone, Copy)]
-pub enum Dated {
-    Fixed { day: Day, examined: u32 },
-    Refused { answer: Answer },
+pub struct Dated {
+    pub day: Option<Date>,
+    pub examined: u32,
 }
 
 // The date of a day number. A number of no day is the first day; the search gives none.
@@ -152,10 +159,7 @@ fn date_at(number: u32) -> Date
     requires { (0 < number) × (number ≤ days) }
     ensures { result ≡ date_of number }
 {
-    match Date::from_day_number(number) {
-        FromNumber::Day(date) => date,
-        FromNumber::Outside => Date::FIRST,
-    }
+    Date::from_day_number(number).unwrap_or(Date::FIRST)
 }
 
 // The date of the one day that agrees: as it was said, where year, month and day were.
@@ -178,50 +182,67 @@ fn said_date(facts: Facts, number: u32) -> Date
     }
 }
 
-fn by_verdict(state: State, verdict: Verdict, examined: u32) -> Dated
+#[tactic(auto, unfolding(crate::specs::Answers::computes, crate::specs::Private::with_dated))]
+fn by_verdict(state: State, verdict: Verdict, examined: u32) -> Result<Dated, ReadRefusal>
     requires { verdict ≡ day_verdict state.facts }
     ensures { ComesTo state (examining examined (with_day state verdict (hour_verdict state.facts))) result }
 {
     match verdict {
-        Verdict::Unsaid => Dated::Fixed {
-            day: Day::NoDate,
+        Verdict::Unsaid => Ok(Dated {
+            day: None,
             examined,
-        },
-        Verdict::Impossible => Dated::Refused {
-            answer: Answer::NoDay { examined },
-        },
-        Verdict::Open { first, second } => Dated::Refused {
-            answer: Answer::OpenDay {
-                first: date_at(first),
-                second: date_at(second),
-                examined,
-            },
-        },
-        Verdict::Agreed(day) => Dated::Fixed {
-            day: Day::On(said_date(state.facts, day)),
+        }),
+        Verdict::Impossible => Err(ReadRefusal::NoDay { examined }),
+        Verdict::Open { first, second } => Err(ReadRefusal::OpenDay {
+            first: date_at(first),
+            second: date_at(second),
             examined,
-        },
+        }),
+        Verdict::Agreed(day) => Ok(Dated {
+            day: Some(said_date(state.facts, day)),
+            examined,
+        }),
     }
 }
 
-fn date_by(engine: Engine, state: State) -> Dated
+// 11.
+impl From<OverBudget> for ReadRefusal {
+    ghost from_gives = { λ over r. r ≡ over_by over };
+
+    fn from(over: OverBudget) -> ReadRefusal {
+        ReadRefusal::OverBudget {
+            budget: over.budget,
+        }
+    }
+}
+
+#[tactic(auto, unfolding(crate::specs::Answers::computes, crate::specs::Private::with_dated))]
+fn date_by(engine: Engine, state: State) -> Result<Dated, ReadRefusal>
     ensures { ComesTo state (judged engine state) result }
 {
-    match judge_day(engine, state.facts) {
-        Searched::Judged { verdict, examined } => by_verdict(state, verdict, examined),
-        Searched::OverBudget { budget } => Dated::Refused {
-            answer: Answer::OverBudget { budget },
-        },
-    }
+    let Judged { verdict, examined } = judge_day(engine, state.facts)?;
+    by_verdict(state, verdict, examined)
 }
 
 // The day, then the hour. It is asked for at one place, so that the compiler puts it there: a call would hand the answer on in memory.
+#[tactic(auto, unfolding(crate::specs::Answers::computes, crate::specs::Private::with_dated))]
 fn judged(engine: Engine, state: State, forms: Forms) -> Answer
     ensures { reading_of result ≡ naming forms (judged engine state) }
 {
-    match date_by(engine, state) {
-        Dated::Fixed { day, examined } => with_hour(state, forms, day, examined),
-        Dated::Refused { answer } => answer,
+    let Dated { day, examined } = date_by(engine, state)?;
+    with_hour(state, forms, day, examined)
+}
+
+// 6, 7 or 8, where an element is refused.
+impl From<Refused> for ReadRefusal {
+    ghost from_gives = { λ why r. r ≡ refusal_by why };
+
+    fn from(why: Refused) -> ReadRefusal {
+        match why {
+            Refused::Mismatch { at } => ReadRefusal::NoMatch { at },
+            Refused::Range { at } => ReadRefusal::OutOfRange { at },
+            Refused::Conflict { at } => ReadRefusal::Contradiction { at },
+        }
     }
 }
 
@@ -230,13 +251,8 @@ fn read_by(engine: Engine, elements: &[u32], s: &[u8]) -> Answer
     ensures { reading_of result ≡ read_by engine elements.now s.now }
 {
     let stepped = read_all(elements, s);
-    let outcome = stepped.outcome;
-    match outcome {
-        Outcome::Read => judged(engine, stepped.state, stepped.forms),
-        Outcome::Mismatch { at } => Answer::NoMatch { at },
-        Outcome::Range { at } => Answer::OutOfRange { at },
-        Outcome::Conflict { at } => Answer::Contradiction { at },
-    }
+    stepped.outcome?;
+    judged(engine, stepped.state, stepped.forms)
 }
 
 // 5, then the reading.
@@ -244,7 +260,7 @@ fn read_short(engine: Engine, elements: &[u32], text: &[u8]) -> Answer
     ensures { reading_of result ≡ unless_long text.now (read_by engine elements.now text.now) }
 {
     if LONGEST < text.len() {
-        return Answer::TextTooLong;
+        return Err(ReadRefusal::TextTooLong);
     }
     read_by(engine, elements, text)
 }
@@ -254,9 +270,9 @@ fn bad_conversion(at: usize, text: &[u8]) -> Answer
     ensures { reading_of result ≡ unless_long text.now (refused 3 at) }
 {
     if text.len() <= LONGEST {
-        return Answer::BadConversion { at };
+        return Err(ReadRefusal::BadConversion { at });
     }
-    Answer::TextTooLong
+    Err(ReadRefusal::TextTooLong)
 }
 
 // Reads a text by the elements of a format that was opened before.
@@ -270,16 +286,25 @@ pub fn read_elements(engine: Engine, elements: &[u32], text: &[u8]) -> Answer
     read_short(engine, elements, text)
 }
 
-// Opens the format into `room`, which has space for all its elements, and reads.
+// Opens the format into `room`, which has space for all its elements, and reads. It is apart from `read_in`, which would be three readers.
 fn read_opened(engine: Engine, format: &[u8], text: &[u8], room: &mut [u32]) -> Answer
     requires { length format.now ≤ longest → 13 * length format.now ≤ 2 * length room.old }
     ensures { reading_of result ≡ reading_by engine format.now text.now }
 {
     match open(Side::Reader, format, room) {
-        Opened::TooLong => Answer::FormatTooLong,
-        Opened::Bad { at } => bad_conversion(at, text),
-        Opened::Done { count } => read_short(engine, &room[..count], text),
+        Err(Unopened::TooLong) => Err(ReadRefusal::FormatTooLong),
+        Err(Unopened::Bad { at }) => bad_conversion(at, text),
+        Ok(count) => read_short(engine, &room[..count], text),
     }
+}
+
+// The same in an array of N elements.
+fn read_in<const N: usize>(engine: Engine, format: &[u8], text: &[u8]) -> Answer
+    requires most { N ≤ most_elements }
+    requires room { length format.now ≤ longest → 13 * length format.now ≤ 2 * N }
+    ensures { reading_of result ≡ reading_by engine format.now text.now }
+{
+    read_opened(engine, format, text, &mut [0; N])
 }
 
 // Reads a text by a format: the day and hour that all its facts fix, or the refusal with its place. The format is opened into the smallest
@@ -288,13 +313,10 @@ pub fn strptime(engine: Engine, format: &[u8], text: &[u8]) -> Answer
     ensures { reading_of result ≡ reading_by engine format.now text.now }
 {
     if format.len() <= SHORT_BYTES {
-        let mut elements = [0; SHORT_ELEMENTS];
-        return read_opened(engine, format, text, &mut elements);
+        return read_in::<SHORT_ELEMENTS>(engine, format, text);
     }
     if format.len() <= MIDDLE_BYTES {
-        let mut elements = [0; MIDDLE_ELEMENTS];
-        return read_opened(engine, format, text, &mut elements);
+        return read_in::<MIDDLE_ELEMENTS>(engine, format, text);
     }
-    let mut elements = [0; MOST_ELEMENTS];
-    read_opened(engine, format, text, &mut elements)
+    read_in::<MOST_ELEMENTS>(engine, format, text)
 }

@@ -3,48 +3,35 @@
 
 use calendar::Date;
 use matching::Forms;
-use values::Offset;
 
 mod answers;
 
 pub use answers::{read_elements, reading_of, strptime};
 
-// The day of a finished reading.
-#[derive(Clone, Copy)]
-pub enum Day {
-    NoDate,
-    On(Date),
-}
-
-// An hour, minute or second of a finished reading.
-#[derive(Clone, Copy)]
-pub enum Said {
-    Unsaid,
-    Is(u32),
-}
-
 // The first two days, or hours, of an open reading.
 #[derive(Clone, Copy)]
 pub enum Shown {
-    Nothing,
     Days { first: Date, second: Date },
     Hours { first: u32, second: u32 },
 }
 
-// The answer to a reading: done, then the refusals 1, 5, 3, 6, 7, 8 in the order in which they are judged, then 11, then 9 and 10, each
-// for the day and for the hour. The day is judged before the hour. From 11 on, and where it is done, days may have been examined.
+// A finished reading: the first unread offset, what the text says and fixes, the forms of its names, and the days examined for it.
 #[derive(Clone, Copy)]
-pub enum Answer {
-    Done {
-        unread: usize,
-        day: Day,
-        hour: Said,
-        minute: Said,
-        second: Said,
-        offset: Offset,
-        forms: Forms,
-        examined: u32,
-    },
+pub struct Done {
+    pub unread: usize,
+    pub day: Option<Date>,
+    pub hour: Option<u32>,
+    pub minute: Option<u32>,
+    pub second: Option<u32>,
+    pub offset: Option<i32>,
+    pub forms: Forms,
+    pub examined: u32,
+}
+
+// Why a reading is refused: 1, 5, 3, 6, 7, 8 in the order in which they are judged, then 11, then 9 and 10, each for the day and for the
+// hour. The day is judged before the hour. From 11 on days may have been examined.
+#[derive(Clone, Copy)]
+pub enum ReadRefusal {
     FormatTooLong,
     TextTooLong,
     BadConversion {
@@ -80,17 +67,20 @@ pub enum Answer {
     },
 }
 
+// The answer to a reading.
+pub type Answer = Result<Done, ReadRefusal>;
+
 // The number, place and values of an answer (RULES 3), the forms of names in it, and how many days were examined for it.
 #[derive(Clone, Copy)]
 pub struct Reading {
     pub number: u32,
     pub place: usize,
-    pub day: Day,
-    pub hour: Said,
-    pub minute: Said,
-    pub second: Said,
-    pub offset: Offset,
+    pub day: Option<Date>,
+    pub hour: Option<u32>,
+    pub minute: Option<u32>,
+    pub second: Option<u32>,
+    pub offset: Option<i32>,
     pub forms: Forms,
-    pub shown: Shown,
+    pub shown: Option<Shown>,
     pub examined: u32,
 }

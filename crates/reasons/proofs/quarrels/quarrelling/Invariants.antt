@@ -1,4 +1,4 @@
-use Prim.Native.Nat.{◌+◌, ◌-◌, ◌≤◌}
+use Prim.Native.Nat.{◌+◌, ◌-◌}
 use mathlib.Core.Path.{◌≡◌}
 use Rattle.laws.specs.Lists.{range}
 use Rattle.reasons.specs.Quarrels.{quarrelling, all_tried}
@@ -7,8 +7,4 @@ use Rattle.reasons.proofs.quarrels.quarrelling.Given as goal
 
 abbrev pub invariant-loop-kind : goal.invariant-loop-kind
 invariant-loop-kind l =
-    (l.last ≡ last_kind l.about) × (l.kind ≤ l.last + 1)
-    × (all_tried l.about (range l.kind (l.last + 1 - l.kind)) l.left ≡ quarrelling l.about l.initial.left)
-
-abbrev pub decreases-loop-kind : goal.decreases-loop-kind
-decreases-loop-kind l = l.last + 1 - l.kind
+    all_tried l.about (range l.kind (last_kind l.about + 1 - l.kind)) l.left ≡ quarrelling l.about l.initial.left

@@ -2,7 +2,6 @@
 use Prim.Native.Nat.{◌≤◌, ◌<◌}
 use mathlib.Core.Path.{◌≡◌}
 use native.Mathlib.Omega.{arith}
-use borrow.Author.Tests.{eqb-false}
 use Rattle.calendar.specs.Calendar.{days}
 use Rattle.agreement.specs.Agreement.{said}
 use Rattle.agreement.specs.Demand.{DayAgrees}
@@ -27,10 +26,10 @@ module _ (c : Else-day-eq0) where
   some_year = c.if-year-eq0.false
 
   some_month : said f kinds.month ≡ 0 → ⊥
-  some_month = eqb-false (said f kinds.month) 0 c.if-month-eq0.false-raw
+  some_month = c.if-month-eq0.false
 
   some_day : said f kinds.day ≡ 0 → ⊥
-  some_day = eqb-false (said f kinds.day) 0 c.if-day-eq0.false-raw
+  some_day = c.if-day-eq0.false
 
 pub overflow_cast-result : goal.overflow_cast-result
 overflow_cast-result c = omega (arith, (year_said (f c) c.args.number (day c).0 (day c).1 (agrees-with c) (some_year c)).1)
