@@ -2,22 +2,19 @@
 -- zone offset, each with a word before it that says whether it is said. What is unsaid is 0, and an offset is in two's complement.
 use Rattle.std.specs.Prelude.{ℕ, ◌+◌, ◌*◌, ◌^◌, cond, List, [], ◌∷◌, get_or, replicate}
 use Rattle.sheets.specs.Packing.{unpacked}
-use Rattle.sheets.specs.Sheets.{fields_from}
-use Rattle.sheets.specs.declared.Packed.{Packed}
-use Rattle.sheets.specs.declared.Packed.TheVariants.{Word, NoDay, Bad}
+use Rattle.sheets.specs.Sheets.{words_fields}
 use Rattle.sheets.specs.declared.Sheet.{Sheet}
 use Rattle.sheets.specs.declared.SheetFields.{SheetFields}
-use Rattle.sheets.specs.declared.Unpacked.{Unpacked}
-use Rattle.sheets.specs.declared.Unpacked.TheVariants.{Holds, NoSheet}
 use Rattle.sheet_list.specs.Adding.{Held, held, is_held, Outcome}
 use Rattle.words.specs.Words.{flag, number_or0, offset_flag, offset_word}
+use Rattle.std.specs.Prelude.{Err, None, Ok, Option, Result, Some}
+use Rattle.values.specs.Moments.{field_number}
+use Rattle.sheets.specs.declared.Unpackable.TheVariants.{Bad, NoDay}
+use Rattle.sheets.specs.declared.Unpackable.{Unpackable}
 
 -- what the words of a sheet say
 abbrev pub fields_of : List ℕ → SheetFields
-fields_of ws =
-    fields_from (get_or ws 0 0) (get_or ws 1 0) (get_or ws 2 0) (get_or ws 3 0) (get_or ws 4 0) (get_or ws 5 0) (get_or ws 6 0)
-    (get_or ws 7 0)
-    (get_or ws 8 0) (get_or ws 9 0) (get_or ws 10 0)
+fields_of ws = words_fields ws
 
 -- the words of a sheet
 unfoldable pub words_of : Sheet → List ℕ
@@ -30,24 +27,24 @@ words_of s =
     ∷ []
 
 -- what unpacking gives: 1 and the sheet's words, or 0 and eleven zeros
-unfoldable pub unpacked_number : Unpacked → ℕ
-unpacked_number (Holds s) = 1
-unpacked_number NoSheet = 0
+unfoldable pub unpacked_number : Option Sheet → ℕ
+unpacked_number (Some s) = 1
+unpacked_number None = 0
 
-unfoldable pub unpacked_words : Unpacked → List ℕ
-unpacked_words (Holds s) = words_of s
-unpacked_words NoSheet = replicate 11 0
+unfoldable pub unpacked_words : Option Sheet → List ℕ
+unpacked_words (Some s) = words_of s
+unpacked_words None = replicate 11 0
 
 -- what packing gives: number * 2^32 + place, and the word, which is 0 where there is none
-unfoldable pub packed_number : Packed → ℕ
-packed_number (Word x) = 0
-packed_number NoDay = 13 * 2 ^ 32
-packed_number (Bad p) = 2 * 2 ^ 32 + p
+unfoldable pub packed_number : Result ℕ Unpackable → ℕ
+packed_number (Ok x) = 0
+packed_number (Err NoDay) = 13 * 2 ^ 32
+packed_number (Err (Bad p)) = 2 * 2 ^ 32 + field_number p
 
-unfoldable pub packed_word : Packed → ℕ
-packed_word (Word x) = x
-packed_word NoDay = 0
-packed_word (Bad p) = 0
+unfoldable pub packed_word : Result ℕ Unpackable → ℕ
+packed_word (Ok x) = x
+packed_word (Err NoDay) = 0
+packed_word (Err (Bad p)) = 0
 
 -- the fields of a week's word: ISO year 14 bits, week 6, sheets 44
 unfoldable pub week_fields : ℕ → List ℕ

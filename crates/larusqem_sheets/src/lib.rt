@@ -9,39 +9,25 @@ ghost use Rattle.larusqem_sheets.specs.Sheets.{fields_of, words_of, unpacked_num
 ghost use Rattle.larusqem_sheets.specs.Sheets.{week_fields, held_by, judged, counts_of, answer_of};
 
 use sheet_list::{add_all, is_held};
-use sheets::{Packed, Sheet, SheetFields, Unpacked, fields_from, pack, unpack};
+use sheets::{Sheet, Unpackable, pack, unpack, words_fields};
 use words::{flag, number_or_0, offset_flag, offset_word};
-
-fn fields_of(sheet: &[u32; 11]) -> SheetFields
-    ensures { result ≡ fields_of sheet.now }
-{
-    fields_from(
-        sheet[0], sheet[1], sheet[2], sheet[3], sheet[4], sheet[5], sheet[6], sheet[7], sheet[8],
-        sheet[9], sheet[10],
-    )
-}
 
 // Leaves the words of a sheet.
 fn tell(sheet: Sheet, words: &mut [u32; 11])
     ensures { words.new ≡ words_of sheet }
 {
-    let date = sheet.date;
-    let hour = sheet.hour;
-    let minute = sheet.minute;
-    let second = sheet.second;
-    let offset = sheet.offset;
     *words = [
-        date.year as u32,
-        date.month as u32,
-        date.day as u32,
-        flag(hour),
-        number_or_0(hour),
-        flag(minute),
-        number_or_0(minute),
-        flag(second),
-        number_or_0(second),
-        offset_flag(offset),
-        offset_word(offset),
+        sheet.date.year as u32,
+        sheet.date.month as u32,
+        sheet.date.day as u32,
+        flag(sheet.hour),
+        number_or_0(sheet.hour),
+        flag(sheet.minute),
+        number_or_0(sheet.minute),
+        flag(sheet.second),
+        number_or_0(sheet.second),
+        offset_flag(sheet.offset),
+        offset_word(sheet.offset),
     ];
 }
 
@@ -51,18 +37,18 @@ pub extern "C" fn larusqem_pack_words(sheet: &[u32; 11], word: &mut [u64; 1]) ->
     ensures value { result ≡ packed_number (packing (fields_of sheet.now)) }
     ensures word_after { word.new ≡ packed_word (packing (fields_of sheet.now)) ∷ [] }
 {
-    match pack(fields_of(sheet)) {
-        Packed::Word(packed) => {
+    match pack(words_fields(sheet)) {
+        Ok(packed) => {
             *word = [packed];
             0
         }
-        Packed::NoDay => {
+        Err(Unpackable::NoDay) => {
             *word = [0];
             13 * 4294967296
         }
-        Packed::Bad(field) => {
+        Err(Unpackable::Bad(field)) => {
             *word = [0];
-            2 * 4294967296 + field as u64
+            2 * 4294967296 + field.number() as u64
         }
     }
 }
@@ -74,11 +60,11 @@ pub extern "C" fn larusqem_unpack_words(word: u64, sheet: &mut [u32; 11]) -> u32
     ensures sheet_after { sheet.new ≡ unpacked_words (unpacking word) }
 {
     match unpack(word) {
-        Unpacked::Holds(held) => {
+        Some(held) => {
             tell(held, sheet);
             1
         }
-        Unpacked::NoSheet => {
+        None => {
             *sheet = [0; 11];
             0
         }
@@ -98,18 +84,12 @@ pub extern "C" fn larusqem_week_words(word: u64, week: &mut [u64; 3])
     ];
 }
 
-fn wide(n: u32) -> usize
-    ensures { (result ≡ n) × (result < 2 ^ 32) }
-{
-    n as usize
-}
-
 // Judges a list and its table: 0 or 15.
 #[unsafe(no_mangle)]
 pub extern "C" fn larusqem_list_words(words: &[u64], weeks: &[u64], counts: &[u32; 2]) -> u32
     ensures { result ≡ judged (held_by words.now weeks.now counts.now) }
 {
-    if is_held(words, wide(counts[0]), weeks, wide(counts[1])) {
+    if is_held(words, counts[0] as usize, weeks, counts[1] as usize) {
         return 0;
     }
     15
@@ -133,7 +113,11 @@ pub extern "C" fn larusqem_add_words(
     ensures answer_after { answer.new
         ≡ answer_of (adding_words sheets.now (held_by words.old weeks.old counts.old)) }
 {
-    let added = add_all(sheets, words, wide(counts[0]), weeks, wide(counts[1]));
+    let added = add_all(sheets, words, counts[0] as usize, weeks, counts[1] as usize);
     *counts = [added.count as u32, added.weeks as u32];
-    *answer = [added.number, added.place, added.index as u32];
+    let (number, place) = match added.refused {
+        Some(why) => (why.number(), why.place()),
+        None => (0, 0),
+    };
+    *answer = [number, place, added.index as u32];
 }

@@ -5,7 +5,7 @@ use mathlib.Core.Bool.{Bool, true, false, not, ◌&&◌, ◌||◌, and-eq-true_i
 use mathlib.Core.List.{List, [], ◌∷◌, map}
 use mathlib.Core.Path.{◌≡◌, refl, sym, ap, ◌∙◌}
 use native.Mathlib.Omega.{arith}
-use borrow.Author.Tests.{le-leb, lt-leb, leb-true, eq-eqb, ne_eqb, eqb-true, eqb-false}
+use borrow.Author.Tests.{le-leb, leb-true, eq-eqb, eqb-true, eqb-false}
 use lib.Dec.{eqb, leb}
 use lib.ListN.{length, take, drop, length-map, length-append, length-drop}
 use lib.Seq.{length-take-le, take_at, drop_at}
@@ -22,62 +22,22 @@ use Rattle.sheet_list.proofs.Tables.{counted_words, in_words, table_ascends}
 
 -- ---- the tests
 
-and_left : (a b c : Bool) → (a && b) ≡ false → (a && (b && c)) ≡ false
-and_left true b c e = rw e
-and_left false b c e = refl
-
 and_right : (a b c : Bool) → (a && b) ≡ true → (a && (b && c)) ≡ c
 and_right a b c e = let t = (and-eq-true_iff a b).0 e in rw (t.0, t.1)
 
-module _ (h : Held) where
-  pub too_long_lem : most_words < length h.words → false ≡ is_held h
-  unfolding is_held
-  too_long_lem l = rw (lt-leb (length h.words) most_words l)
-
-  module _ (short : length h.words ≤ most_words) where
-    pub past_end : length h.words < h.count → false ≡ is_held h
-    unfolding is_held
-    past_end l = rw (le-leb (length h.words) most_words short, lt-leb h.count (length h.words) l)
-
-    module _ (within : h.count ≤ length h.words) where
-      pub other_length : (length h.table ≡ table_length → ⊥) → false ≡ is_held h
-      unfolding is_held
-      other_length n =
-          rw (
-            le-leb (length h.words) most_words short,
-            le-leb h.count (length h.words) within,
-            ne_eqb (length h.table)
-                table_length n,
-          )
-
-      module _ (size : length h.table ≡ table_length) where
-        pub past_table : length h.table < h.weeks → false ≡ is_held h
-        unfolding is_held
-        past_table l =
-            rw (
-              le-leb (length h.words) most_words short,
-              le-leb h.count (length h.words) within,
-              eq-eqb (length h.table) table_length size,
-              lt-leb h.weeks (length h.table) l,
-            )
-
-        module _ (inside : h.weeks ≤ length h.table) where
-          left : is_held h ≡ (every is_packing (list_of h) && (ascending (list_of h) && same (take h.weeks h.table) (table_of (list_of h))))
-          unfolding is_held
-          left =
-              rw (
-                le-leb (length h.words) most_words short,
-                le-leb h.count (length h.words) within,
-                eq-eqb (length h.table) table_length size,
-                le-leb h.weeks (length h.table) inside,
-              )
-
-          pub no_list : (every is_packing (list_of h) && ascending (list_of h)) ≡ false → false ≡ is_held h
-          no_list e = sym (left ∙ and_left (every is_packing (list_of h)) (ascending (list_of h)) _ e)
-
-          pub by_table : (every is_packing (list_of h) && ascending (list_of h)) ≡ true
-              → is_held h ≡ same (take h.weeks h.table) (table_of (list_of h))
-          by_table e = left ∙ and_right (every is_packing (list_of h)) (ascending (list_of h)) _ e
+pub by_table : (h : Held) → length h.words ≤ most_words → h.count ≤ length h.words → length h.table ≡ table_length
+    → h.weeks ≤ length h.table
+    → (every is_packing (list_of h) && ascending (list_of h)) ≡ true
+    → is_held h ≡ same (take h.weeks h.table) (table_of (list_of h))
+unfolding is_held
+by_table h short within size inside e =
+    rw (
+      le-leb (length h.words) most_words short,
+      le-leb h.count (length h.words) within,
+      eq-eqb (length h.table) table_length size,
+      le-leb h.weeks (length h.table) inside,
+    )
+    (and_right (every is_packing (list_of h)) (ascending (list_of h)) _ e)
 
 pub listed : (s : List ℕ) → length s ≤ most_words → (every is_packing s && ascending s) ≡ true → Listed s
 listed s l e =
@@ -131,6 +91,16 @@ sound h e =
       ascends = g.0;
       table = same_is _ _ g.1;
     }
+
+pub not_held : (h : Held) → (Sound h → ⊥) → false ≡ is_held h
+not_held h n = go (is_held h) refl
+  where
+    go : (b : Bool) → is_held h ≡ b → false ≡ b
+    go true e = absurd (n (sound h e))
+    go false e = refl
+
+pub no_list : (h : Held) → (every is_packing (list_of h) && ascending (list_of h)) ≡ false → false ≡ is_held h
+no_list h e = not_held h (λ v. let f : true ≡ false = rw (v.packings, v.ascends) at e in clash (cc))
 
 pub is_held_lem : (h : Held) → Sound h → is_held h ≡ true
 unfolding is_held
@@ -229,10 +199,6 @@ module _ (h : Held) (v : Sound h) where
 
     list-fits : length (inserted x (list_of h)) ≤ length h.words
     list-fits = omega (arith, inserted_length x (list_of h), list_length, room_left)
-
-    pub with_words : length (with x h).words ≡ length h.words
-    unfolding with
-    with_words = over_length (inserted x (list_of h)) h.words list-fits
 
     pub with_sound : is_packing x ≡ true → Sound (with x h)
     unfolding with

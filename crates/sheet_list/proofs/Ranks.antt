@@ -1,14 +1,16 @@
 -- Words in ascending order: where one belongs, and that it is put there.
 -- Assumes nothing.
 use Prim.Native.Nat.{ℕ, zero, suc, ◌≤◌, ◌<◌}
-use mathlib.Core.Bool.{Bool, true, and-eq-true_iff}
+use mathlib.Core.Bool.{Bool, true, false, and-eq-true_iff}
 use mathlib.Core.List.{List, [], ◌∷◌}
 use mathlib.Core.Path.{◌≡◌, refl, ap}
-use native.Mathlib.Decide.{dec_le}
+use native.Mathlib.Decide.{dec_le, dec_lt}
 use native.Mathlib.Omega.{arith}
-use borrow.Author.Tests.{lt-ltb, le-ltb, le-leb, lt-leb, leb-true}
+use borrow.Author.Tests.{lt-ltb, le-ltb, le-leb, lt-leb, leb-true, ltb-true, ltb-false}
 use lib.Dec.{leb, ltb}
 use lib.ListN.{length, get_or}
+use Rattle.std.specs.List.{AllWithin}
+use Rattle.std.specs.List.Sorted.{IsNonDecreasing, IsPartitionPoint}
 use Rattle.laws.specs.Lists.{every}
 use Rattle.laws.proofs.Cases.{picked}
 use Rattle.sheet_list.specs.Ascending.{ascending_from, inserted, below}
@@ -33,11 +35,11 @@ not_lower x (y ∷ s) zero h l = rw (le-ltb y x l) (omega arith)
 not_lower x (y ∷ s) (suc i) h l =
     picked (λ n. n ≤ suc i) (ltb y x) (omega (arith, not_lower x s i (omega arith) l)) (omega arith)
 
-pub at_least : (low : ℕ) (s : List ℕ) (i : ℕ) → ascending_from low s ≡ true → i < length s → low ≤ get_or s i 0
-at_least low [] i a h = absurd (omega arith)
-at_least low (y ∷ s) zero a h = (first_rest low y s a).0
-at_least low (y ∷ s) (suc i) a h =
-    let b = first_rest low y s a in omega (arith, b.0, at_least y s i b.1 (omega arith))
+pub at_least : (low : ℕ) (s : List ℕ) (i d : ℕ) → ascending_from low s ≡ true → i < length s → low ≤ get_or s i d
+at_least low [] i d a h = absurd (omega arith)
+at_least low (y ∷ s) zero d a h = (first_rest low y s a).0
+at_least low (y ∷ s) (suc i) d a h =
+    let b = first_rest low y s a in omega (arith, b.0, at_least y s i d b.1 (omega arith))
 
 pub lower : (low x : ℕ) (s : List ℕ) (i : ℕ) → ascending_from low s ≡ true → i < length s → get_or s i 0 < x → i < below x s
 unfolding below
@@ -45,8 +47,30 @@ lower low x [] i a h l = absurd (omega arith)
 lower low x (y ∷ s) zero a h l = rw (lt-ltb y x l) (omega arith)
 lower low x (y ∷ s) (suc i) a h l =
     let b = first_rest low y s a in
-    let g : y < x = omega (arith, at_least y s i b.1 (omega arith)) in
+    let g : y < x = omega (arith, at_least y s i 0 b.1 (omega arith)) in
     rw (lt-ltb y x g) (omega (arith, lower y x s i b.1 (omega arith) l))
+
+-- a word is at least as high as those before it
+pub rises : (low : ℕ) (s : List ℕ) → ascending_from low s ≡ true → IsNonDecreasing s
+rises low [] a i j d h l = absurd (omega arith)
+rises low (x ∷ s) a zero zero d h l = omega arith
+rises low (x ∷ s) a zero (suc j) d h l = at_least x s j d (first_rest low x s a).1 (omega arith)
+rises low (x ∷ s) a (suc i) zero d h l = absurd (omega arith)
+rises low (x ∷ s) a (suc i) (suc j) d h l = rises x s (first_rest low x s a).1 i j d (omega arith) (omega arith)
+
+-- so the lower ones are those before a place, if they are lower there and none is from there on
+pub at_point : (x : ℕ) (s : List ℕ) (i : ℕ) → ascending_from 0 s ≡ true → i ≤ length s
+    → IsPartitionPoint (λ y. ltb y x ≡ true) (λ y. ltb y x ≡ false) s i
+    → i ≡ below x s
+at_point x s i a h p = omega (arith, least i h p.0, most (dec_lt i (length s)))
+  where
+    least : (k : ℕ) → k ≤ length s → AllWithin (λ y. ltb y x ≡ true) s 0 k → k ≤ below x s
+    least zero l q = omega arith
+    least (suc k) l q = lower 0 x s k a (omega arith) (ltb-true _ x (q k 0 (omega arith) (omega arith)))
+
+    most : Dec (i < length s) → below x s ≤ i
+    most (yes l) = not_lower x s i l (ltb-false _ x (p.1 i 0 (omega arith) l))
+    most (no l) = omega (arith, l, below_most x s)
 
 -- ---- one word more
 

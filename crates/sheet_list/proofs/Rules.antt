@@ -13,7 +13,6 @@ use Rattle.calendar.specs.declared.Date.{Date}
 use Rattle.calendar.specs.Calendar.{iso_year, iso_week}
 use Rattle.sheets.specs.Packing.{bits, packed}
 use Rattle.sheets.specs.Sheets.{week_of, week_widths, week_of_date, packing}
-use Rattle.sheets.specs.declared.Packed.TheVariants.{Word}
 use Rattle.sheets.specs.declared.SheetFields.{SheetFields}
 use Rattle.values.specs.Values.{day_number_of}
 use Rattle.sheet_list.specs.Adding.{Held, list_of, is_held, is_full, with, Outcome, outcome, adding_word, adding, adding_all}
@@ -26,6 +25,7 @@ use Rattle.sheet_list.proofs.Holding.{over_front, over_past}
 use Rattle.sheet_list.proofs.Ranks.{inserted_ascends}
 use Rattle.sheet_list.proofs.Steps.{sheet_undated, sheet_bad, sheet_word, word_unheld, word_full, sheet_cases}
 use Rattle.sheet_list.proofs.Steps.{adding_taken, adding_refused}
+use Rattle.std.specs.Prelude.{Ok}
 
 -- ---- counting words
 
@@ -107,14 +107,14 @@ with_past x h =
       table = over_past (table_of (inserted x (list_of h))) h.table;
     }
 
-list_then : (i x : ℕ) (f : SheetFields) (h : Held) → packing f ≡ Word x → (adding i f h).number ≡ 0
+list_then : (i x : ℕ) (f : SheetFields) (h : Held) → packing f ≡ Ok x → (adding i f h).number ≡ 0
     → list_of (adding i f h).held ≡ inserted x (list_of h)
 list_then i x f h e =
     sheet_cases (λ o. o.number ≡ 0 → list_of o.held ≡ inserted x (list_of h)) i f h
     (λ n p l z. absurd (omega (arith, z)))
     (λ y g a b z. with_list y h ∙ ap (λ (u : ℕ). inserted u (list_of h)) (same_word y g))
   where
-    same_word : (y : ℕ) → packing f ≡ Word y → y ≡ x
+    same_word : (y : ℕ) → packing f ≡ Ok y → y ≡ x
     same_word y g = cc
 
 past_then : (i : ℕ) (f : SheetFields) (h : Held) → Past h (adding i f h).held

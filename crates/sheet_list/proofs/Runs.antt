@@ -1,16 +1,20 @@
 -- The table of an ascending list, one week's words after another.
 -- Assumes nothing.
 use Prim.Native.Nat.{ℕ, zero, suc, ◌+◌, ◌-◌, ◌≤◌, ◌<◌}
-use mathlib.Core.Bool.{true, false, and-eq-true_iff}
+use mathlib.Core.Bool.{Bool, true, false, cond, and-eq-true_iff}
 use mathlib.Core.List.{List, [], ◌∷◌, map}
 use mathlib.Core.Path.{◌≡◌, refl, sym, ap, ◌∙◌}
 use native.Mathlib.Decide.{ℕ_discrete}
 use native.Mathlib.Numerals.{add-one}
 use native.Mathlib.Omega.{arith}
-use borrow.Author.Tests.{eq-eqb, ne_eqb, eqb-true, eqb-false, lt-ltb, le-ltb}
-use lib.Dec.{eqb, ltb}
+use borrow.Author.Tests.{eq-eqb, ne_eqb, eqb-true, eqb-false, lt-ltb, le-ltb, ltb-false, leb-true, leb-false}
+use lib.Dec.{eqb, leb, ltb}
 use lib.ListN.{length, get_or, drop, length-drop, drop_of_length-le}
 use lib.Seq.{drop-cons, drop-drop}
+use Rattle.std.proofs.Common.{Option, Some, None, get_or-drop}
+use Rattle.std.proofs.lemmas.List.Sums.{fails_before_first, passes_at_first, prefix_len-le-length}
+use Rattle.std.specs.List.{position, position_or_len}
+use Rattle.laws.proofs.Cases.{clash}
 use Rattle.laws.specs.Lists.{every}
 use Rattle.laws.proofs.Lists.{each}
 use Rattle.sheets.specs.Sheets.{is_packing, week_of, next_week}
@@ -20,7 +24,7 @@ use Rattle.sheet_list.specs.Ascending.{ascending_from}
 use Rattle.sheet_list.specs.Private.{week_run, Listed}
 use Rattle.sheet_list.specs.Weeks.{Tally, tally, counted, weeks_of, tally_word, table_of}
 use Rattle.sheet_list.proofs.Counting.{counted_less, counted_same}
-use Rattle.sheet_list.proofs.Ranks.{first_rest, at_least}
+use Rattle.sheet_list.proofs.Ranks.{first_rest, rises}
 
 -- the weeks of words do not fall, from a week on
 unfoldable pub Weekly : ℕ → List ℕ → Type 0
@@ -150,37 +154,19 @@ run_most k (x ∷ s) =
 pub run_within : (k i : ℕ) (s : List ℕ) → i ≤ length s → i + week_run k (drop i s) ≤ length s
 run_within k i s h = omega (arith, run_most k (drop i s), length-drop i s)
 
--- ---- the end of a run, word by word
+-- ---- the end of a run: words before it are of the week, and the next one is not
 
-module _ (k from : ℕ) (s : List ℕ) where
-  abbrev pub Running : ℕ → Type 0
-  Running i = i + week_run k (drop i s) ≡ from + week_run k (drop from s)
-
-  pub run_stops : (i : ℕ) → i < length s → (week_of (get_or s i 0) ≡ k → ⊥) → Running i → i ≡ from + week_run k (drop from s)
-  run_stops i h n e =
-      let z : week_run k (drop i s) ≡ 0 = rw (drop-cons s i 0 h) (run_none k (get_or s i 0) (drop (suc i) s) n) in
-      omega (arith, e, z)
-
-  pub run_goes : (i : ℕ) → i < length s → week_of (get_or s i 0) ≡ k → Running i → Running (i + 1)
-  run_goes i h n e =
-      let z : week_run k (drop i s) ≡ suc (week_run k (drop (suc i) s))
-      = rw (drop-cons s i 0 h) (run_more k (get_or s i 0) (drop (suc i) s) n) in
-      rw add-one (omega (arith, e, z))
-
-  pub run_ends : (i : ℕ) → length s ≤ i → Running i → i ≡ from + week_run k (drop from s)
-  run_ends i h e =
-      let z : week_run k (drop i s) ≡ 0 = unfold week_run in rw (drop_of_length-le s {i = i} h) in
-      omega (arith, e, z)
+run_is : (k : ℕ) (s : List ℕ) (n : ℕ) → n ≤ length s → ((i : ℕ) → i < n → week_of (get_or s i 0) ≡ k)
+    → (n < length s → week_of (get_or s n 0) ≡ k → ⊥)
+    → n ≡ week_run k s
+run_is k [] zero l f g = unfold week_run in refl
+run_is k [] (suc n) l f g = absurd (omega arith)
+run_is k (x ∷ s) zero l f g = sym (run_none k x s (g (omega arith)))
+run_is k (x ∷ s) (suc n) l f g =
+    rw (run_more k x s (f 0 (omega arith)))
+    (ap suc (run_is k s n (omega arith) (λ i h. f (suc i) (omega arith)) (λ h. g (omega arith))))
 
 -- ---- by the first word of a later week
-
--- a word is at least as high as those before it
-pub ascends_to : (low : ℕ) (s : List ℕ) (i j : ℕ) → ascending_from low s ≡ true → i ≤ j → j < length s → get_or s i 0 ≤ get_or s j 0
-ascends_to low [] i j a h l = absurd (omega arith)
-ascends_to low (x ∷ s) zero zero a h l = omega arith
-ascends_to low (x ∷ s) zero (suc j) a h l = at_least x s j (first_rest low x s a).1 (omega arith)
-ascends_to low (x ∷ s) (suc i) zero a h l = absurd (omega arith)
-ascends_to low (x ∷ s) (suc i) (suc j) a h l = ascends_to x s i j (first_rest low x s a).1 (omega arith) (omega arith)
 
 module _ (s : List ℕ) (v : Listed s) (from i : ℕ) (h : from ≤ i) (l : i < length s) where
   packs : (j : ℕ) → j < length s → is_packing (get_or s j 0) ≡ true
@@ -188,10 +174,57 @@ module _ (s : List ℕ) (v : Listed s) (from i : ℕ) (h : from ≤ i) (l : i < 
 
   week-by : ltb (get_or s i 0) (next_week (get_or s from 0)) ≡ eqb (week_of (get_or s i 0)) (week_of (get_or s from 0))
   week-by =
-      by_next_week (get_or s from 0) (get_or s i 0) (packs from (omega arith)) (packs i l) (ascends_to 0 s from i v.ascends h l)
+      by_next_week (get_or s from 0) (get_or s i 0) (packs from (omega arith)) (packs i l) (rises 0 s v.ascends from i 0 h l)
 
   pub later_week : next_week (get_or s from 0) ≤ get_or s i 0 → week_of (get_or s i 0) ≡ week_of (get_or s from 0) → ⊥
   later_week n = eqb-false _ _ (sym week-by ∙ le-ltb (get_or s i 0) (next_week (get_or s from 0)) n)
 
   pub that_week : get_or s i 0 < next_week (get_or s from 0) → week_of (get_or s i 0) ≡ week_of (get_or s from 0)
   that_week n = eqb-true _ _ (sym week-by ∙ lt-ltb (get_or s i 0) (next_week (get_or s from 0)) n)
+
+-- so a run ends with the first word of a later week, or with the list
+module _ (s : List ℕ) (v : Listed s) (from : ℕ) (h : from < length s) where
+  later : ℕ → Bool
+  later = leb (next_week (get_or s from 0))
+
+  place : ℕ
+  place = position_or_len later (drop from s)
+
+  place_most : place ≤ length (drop from s)
+  unfolding place
+  place_most = prefix_len-le-length _ (drop from s)
+
+  at : (i : ℕ) → get_or (drop from s) i 0 ≡ get_or s (from + i) 0
+  at i = get_or-drop from s i 0
+
+  place_is : place ≡ week_run (week_of (get_or s from 0)) (drop from s)
+  unfolding place later
+  place_is =
+      let d = length-drop from s in
+      let m = place_most in
+      run_is (week_of (get_or s from 0)) (drop from s) place m
+      (λ i l.
+      rw (at i)
+      (that_week s v from (from + i) (omega arith) (omega (arith, d))
+      (leb-false _ _ (rw (at i) at (fails_before_first later (drop from s) i 0 l)))))
+      (λ l.
+      rw (at place)
+      (later_week s v from (from + place) (omega arith) (omega (arith, d))
+      (leb-true _ _ (rw (at place) at (passes_at_first later (drop from s) 0 l)))))
+
+  module _ {o : Option ℕ} (e : o ≡ position (λ x. leb (next_week (get_or s from 0)) x) (drop from s)) where
+    pub run_found : (n : ℕ) → o ≡ Some n → n ≡ week_run (week_of (get_or s from 0)) (drop from s)
+    unfolding place later
+    run_found n f = go (ltb place (length (drop from s))) (sym e ∙ f) ∙ place_is
+      where
+        go : (b : Bool) → cond b (Some place) None ≡ Some n → n ≡ place
+        go true g = cc
+        go false g = clash cc
+
+    pub run_whole : o ≡ None → length s ≡ from + week_run (week_of (get_or s from 0)) (drop from s)
+    unfolding place later
+    run_whole f = omega (arith, go (ltb place (length (drop from s))) refl (sym e ∙ f), place_is, place_most, length-drop from s)
+      where
+        go : (b : Bool) → ltb place (length (drop from s)) ≡ b → cond b (Some place) None ≡ None → length (drop from s) ≤ place
+        go true g n = clash cc
+        go false g n = ltb-false _ _ g

@@ -1,13 +1,16 @@
--- Words moved up by one, from the last on, to make room for another.
+-- Words moved up by one, to make room for another.
 -- Assumes nothing.
-use Prim.Native.Nat.{ℕ, zero, suc, ◌-◌, ◌≤◌, ◌<◌}
+use Prim.Native.Nat.{ℕ, zero, suc, ◌+◌, ◌-◌, ◌≤◌, ◌<◌}
 use mathlib.Core.List.{List, [], ◌∷◌, ◌++◌, append_assoc}
 use mathlib.Core.Path.{◌≡◌, sym, ap, ◌∙◌}
+use native.Mathlib.Numerals.{add-one}
 use native.Mathlib.Omega.{arith}
-use lib.ListN.{length, get_or, take, drop, set, length-take, length-drop, length-append, length-set, get_or-append, take-append-drop}
-use lib.Seq.{length-take-le, split_at, take-suc, drop-cons, set_at, get_or-take, take-take, take-nil, append_snoc, set-append_left}
+use lib.ListN.{length, get_or, take, drop, set, length-take, length-drop, length-append, length-set, take-append-drop}
+use lib.Seq.{take-append-le, drop-append-le, drop_at, take-add, drop-drop, length-take-le, take-suc, set_at, take-take, take-nil}
+use lib.Seq.{set-append_left}
+use Rattle.std.specs.List.{copy_within}
 use Rattle.sheet_list.specs.Adding.{over}
-use Rattle.sheet_list.specs.Private.{put_at, Shifted}
+use Rattle.sheet_list.specs.Private.{put_at}
 
 drop_take : (a c : ℕ) (l : List ℕ) → drop a (take c l) ≡ take (c - a) (drop a l)
 drop_take zero c l = let e : c - 0 ≡ c = omega arith in rw e
@@ -16,45 +19,50 @@ drop_take (suc a) zero (x ∷ l) = let e : 0 - suc a ≡ 0 = omega arith in rw e
 drop_take (suc a) (suc c) [] = sym (take-nil (suc c - suc a))
 drop_take (suc a) (suc c) (x ∷ l) = let e : suc c - suc a ≡ c - a = omega arith in rw e (drop_take a c l)
 
-abbrev rest : List ℕ → ℕ → ℕ → List ℕ
-rest w c i = take (c - i) (drop i w) ++ drop (suc c) w
+-- where the words of the front from a place on stand one higher, another is put at that place
+pub done : (w : List ℕ) (c : ℕ) → c < length w → (now : List ℕ) (at x : ℕ) → at ≤ c
+    → now ≡ take at w ++ (get_or w at 0 ∷ (take (c - at) (drop at w) ++ drop (suc c) w))
+    → set now at x ≡ over (put_at at x (take c w)) w
+unfolding over put_at
+done w c h now at x l e =
+    let a : set now at x ≡ take at w ++ (x ∷ (take (c - at) (drop at w) ++ drop (suc c) w))
+    = ap (λ (n : List ℕ). set n at x) e ∙ set_at (take at w) _ _ x at (length-take-le at w (omega arith)) in
+    let n : length (take at w ++ (x ∷ take (c - at) (drop at w))) ≡ suc c
+    = simp (length-append, length-take, length-drop) (omega arith) in
+    a ∙ rw (take-take at c w l, drop_take at c w, n) (sym (append_assoc (take at w) _ _))
 
-module _ (w : List ℕ) (c : ℕ) (h : c < length w) where
-  pub start : Shifted w c c w
-  unfolding Shifted
-  start = let e : c - c ≡ 0 = omega arith in rw e (split_at w c 0 h)
+-- and so `copy_within` moves them
+pub put_is : (w : List ℕ) (at c x : ℕ) → at ≤ c → c < length w
+    → set (copy_within w at c (at + 1)) at x ≡ over (put_at at x (take c w)) w
+put_is w at c x l h =
+    let e : at + 1 + (c - at) ≡ suc c = omega arith in
+    done w c h _ at x l (rw (e, add-one, take-suc w at 0 (omega arith)) (simp append_assoc))
 
-  moved : (now : List ℕ) (j : ℕ) → suc j ≤ c → Shifted w c (suc j) now → Shifted w c j (set now (suc j) (get_or now j 0))
-  unfolding Shifted
-  moved now j l e =
-      let a : get_or now j 0 ≡ get_or w j 0
-      = ap (λ (n : List ℕ). get_or n j 0) e
-      ∙ get_or-append (take (suc j) w) _ 0 j (omega (arith, length-take-le (suc j) w (omega arith)))
-      ∙ get_or-take (suc j) w j 0 (omega arith) in
-      let b : set now (suc j) (get_or w j 0) ≡ take (suc j) w ++ (get_or w j 0 ∷ rest w c (suc j))
-      = ap (λ (n : List ℕ). set n (suc j) (get_or w j 0)) e
-      ∙ set_at (take (suc j) w) _ _ (get_or w j 0) (suc j) (length-take-le (suc j) w (omega arith)) in
-      let d : c - j ≡ suc (c - suc j) = omega arith in
-      rw (a) (b ∙ rw (take-suc w j 0 (omega arith), d, drop-cons w j 0 (omega arith)) (append_snoc (take j w) (get_or w j 0) _))
-
-  pub move : (now : List ℕ) (i : ℕ) → 0 < i → i ≤ c → Shifted w c i now → Shifted w c (i - 1) (set now i (get_or now (i - 1) 0))
-  move now zero p l e = absurd (omega arith)
-  move now (suc j) p l e = let f : suc j - 1 ≡ j = omega arith in rw f (moved now j l e)
-
-  pub shifted_length : (now : List ℕ) (i : ℕ) → i ≤ c → Shifted w c i now → length now ≡ length w
-  unfolding Shifted
-  shifted_length now i l e =
-      ap length e
-      ∙ simp (length-append, length-take, length-drop) (omega arith)
-
-  pub done : (now : List ℕ) (at x : ℕ) → at ≤ c → Shifted w c at now → set now at x ≡ over (put_at at x (take c w)) w
-  unfolding Shifted over put_at
-  done now at x l e =
-      let a : set now at x ≡ take at w ++ (x ∷ (take (c - at) (drop at w) ++ drop (suc c) w))
-      = ap (λ (n : List ℕ). set n at x) e ∙ set_at (take at w) _ _ x at (length-take-le at w (omega arith)) in
-      let n : length (take at w ++ (x ∷ take (c - at) (drop at w))) ≡ suc c
-      = simp (length-append, length-take, length-drop) (omega arith) in
-      a ∙ rw (take-take at c w l, drop_take at c w, n) (sym (append_assoc (take at w) _ _))
+-- moved in two parts, the last one first
+pub in_two : (w : List ℕ) (at from c : ℕ) → at ≤ from → from ≤ c → c < length w
+    → copy_within (copy_within w from c (from + 1)) at from (at + 1) ≡ copy_within w at c (at + 1)
+in_two w at from c l m h =
+    let p : List ℕ = take (from + 1) w in
+    let q : List ℕ = take (c - from) (drop from w) ++ drop (c + 1) w in
+    let n : length p ≡ from + 1 = length-take-le (from + 1) w (omega arith) in
+    let f : from + 1 + (c - from) ≡ c + 1 = omega arith in
+    let g : at + 1 + (from - at) ≡ from + 1 = omega arith in
+    let k : at + 1 + (c - at) ≡ c + 1 = omega arith in
+    let v : copy_within w from c (from + 1) ≡ p ++ q = rw f (append_assoc p _ _) in
+    let a : take (at + 1) (p ++ q) ≡ take (at + 1) w
+    = take-append-le (at + 1) p q (omega (arith, n)) ∙ take-take (at + 1) (from + 1) w (omega arith) in
+    let r : length (drop at p) ≡ from + 1 - at = length-drop at p ∙ ap (λ (i : ℕ). i - at) n in
+    let b : take (from - at) (drop at (p ++ q)) ≡ take (from - at) (drop at w)
+    = ap (take (from - at)) (drop-append-le at p q (omega (arith, n)))
+    ∙ take-append-le (from - at) (drop at p) q (omega (arith, r))
+    ∙ ap (take (from - at)) (drop_take at (from + 1) w)
+    ∙ take-take (from - at) (from + 1 - at) (drop at w) (omega arith) in
+    let d : drop (from + 1) (p ++ q) ≡ q = drop_at p q (from + 1) n in
+    let i : c - at ≡ (from - at) + (c - from) = omega arith in
+    let j : at + (from - at) ≡ from = omega arith in
+    let t : take (c - at) (drop at w) ≡ take (from - at) (drop at w) ++ take (c - from) (drop from w)
+    = rw (i, take-add (from - at) (c - from) (drop at w), drop-drop (from - at) at w, j) in
+    rw (v, g, a, b, d, k, t) (simp append_assoc)
 
 -- ---- the front of an array changed
 

@@ -3,7 +3,7 @@
 use Prim.Native.Nat.{ℕ, zero, suc, ◌+◌, ◌-◌, max, ◌≤◌, ◌<◌}
 use mathlib.Core.Bool.{true, false, not}
 use mathlib.Core.List.{List}
-use mathlib.Core.Path.{◌≡◌, refl, sym, ap, ◌∙◌}
+use mathlib.Core.Path.{◌≡◌, refl, ap, ◌∙◌}
 use native.Mathlib.Decide.{ℕ_discrete}
 use native.Mathlib.Numerals.{add-one}
 use native.Mathlib.Omega.{arith}
@@ -12,16 +12,19 @@ use lib.ListN.{length, take}
 use Rattle.laws.proofs.Cases.{either}
 use Rattle.sheets.specs.Sheets.{week_of, packing}
 use Rattle.sheets.proofs.Sheets.{packing_word}
-use Rattle.sheets.specs.declared.Packed.{Packed}
-use Rattle.sheets.specs.declared.Packed.TheVariants.{Word, NoDay, Bad}
 use Rattle.sheets.specs.declared.SheetFields.{SheetFields}
 use Rattle.sheet_list.specs.Adding.{Held, held, list_of, most_words, table_length, is_held, is_full, over, with, Outcome, outcome}
 use Rattle.sheet_list.specs.Adding.{adding_word, adding_packed, adding, adding_all}
 use Rattle.sheet_list.specs.Ascending.{inserted}
 use Rattle.sheet_list.specs.Private.{counted_in, week_in}
 use Rattle.sheet_list.specs.Weeks.{table_of}
-use Rattle.sheet_list.proofs.Holding.{Sound, sound, is_held_lem, list_length, table_with, week_among, with_sound, with_words}
+use Rattle.sheet_list.proofs.Holding.{Sound, sound, is_held_lem, list_length, table_with, week_among, with_sound}
 use Rattle.sheet_list.proofs.Ranks.{inserted_length}
+use Rattle.std.specs.Prelude.{Err, Ok, Result, ℕ}
+use Rattle.sheets.specs.declared.Unpackable.TheVariants.{Bad, NoDay}
+use Rattle.values.specs.Moments.{field_number}
+use Rattle.values.specs.declared.fields.Field.{Field}
+use Rattle.sheets.specs.declared.Unpackable.{Unpackable}
 
 -- ---- 14
 
@@ -71,23 +74,23 @@ module _ (i x : ℕ) (h : Held) where
 -- ---- a sheet: 13, 2, or its word
 
 module _ (i : ℕ) (f : SheetFields) (h : Held) where
-  pub sheet_undated : packing f ≡ NoDay → outcome 13 0 i h ≡ adding i f h
+  pub sheet_undated : packing f ≡ Err NoDay → outcome 13 0 i h ≡ adding i f h
   unfolding adding adding_packed
   sheet_undated e = rw e
 
-  pub sheet_bad : {p : ℕ} → packing f ≡ Bad p → outcome 2 p i h ≡ adding i f h
+  pub sheet_bad : {p : Field} → packing f ≡ Err (Bad p) → outcome 2 (field_number p) i h ≡ adding i f h
   unfolding adding adding_packed
   sheet_bad e = rw e
 
-  pub sheet_word : {x : ℕ} → packing f ≡ Word x → adding_word i x h ≡ adding i f h
+  pub sheet_word : {x : ℕ} → packing f ≡ Ok x → adding_word i x h ≡ adding i f h
   unfolding adding adding_packed
   sheet_word e = rw e
 
 -- ---- whatever becomes of a sheet: it is refused and all is left as it was, or its word is added
 
 module _ (P : Outcome → Type 0) (i : ℕ) (f : SheetFields) (h : Held) (refused : (n p : ℕ) → 0 < n → P (outcome n p i h))
-    (added : (x : ℕ) → packing f ≡ Word x → is_held h ≡ true → is_full x h ≡ false → P (outcome 0 0 (suc i) (with x h))) where
-  word-cases : (x : ℕ) → packing f ≡ Word x → P (adding_word i x h)
+    (added : (x : ℕ) → packing f ≡ Ok x → is_held h ≡ true → is_full x h ≡ false → P (outcome 0 0 (suc i) (with x h))) where
+  word-cases : (x : ℕ) → packing f ≡ Ok x → P (adding_word i x h)
   unfolding adding_word
   word-cases x p =
       either P (is_held h)
@@ -98,24 +101,10 @@ module _ (P : Outcome → Type 0) (i : ℕ) (f : SheetFields) (h : Held) (refuse
   unfolding adding adding_packed
   sheet_cases = go (packing f) refl
     where
-      go : (p : Packed) → packing f ≡ p → P (adding_packed i p h)
-      go NoDay e = refused 13 0 (omega arith)
-      go (Bad k) e = refused 2 k (omega arith)
-      go (Word x) e = word-cases x e
-
--- the arrays keep their lengths
-pub record Lengths (h g : Held) : Type 0 where
-  pub words : length g.words ≡ length h.words
-  pub table : length g.table ≡ length h.table
-
-pub adding_lengths : (i : ℕ) (f : SheetFields) (h : Held) → Lengths h (adding i f h).held
-adding_lengths i f h =
-    sheet_cases (λ o. Lengths h o.held) i f h
-    (λ n p l. record { words = refl; table = refl })
-    (λ x p e r.
-    let v = sound h e in
-    let w = with_sound h v x r (packing_word f p) in
-    record { words = with_words h v x r; table = w.size ∙ sym v.size })
+      go : (p : Result ℕ Unpackable) → packing f ≡ p → P (adding_packed i p h)
+      go (Err NoDay) e = refused 13 0 (omega arith)
+      go (Err (Bad k)) e = refused 2 (field_number k) (omega arith)
+      go (Ok x) e = word-cases x e
 
 -- a sheet that is added is counted, and both arrays hold what they should
 pub record Taken (i : ℕ) (h : Held) (o : Outcome) : Type 0 where

@@ -1,15 +1,16 @@
 -- Sheets counted by their weeks alone: what their weeks are like, and what the table holds.
 -- Assumes nothing.
-use Prim.Native.Nat.{ℕ, suc, ◌+◌, ◌-◌, ◌≤◌, ◌<◌}
+use Prim.Native.Nat.{ℕ, suc, ◌+◌, ◌-◌, min, ◌≤◌, ◌<◌}
 use mathlib.Core.Bool.{Bool, true, false, not, ◌&&◌, ◌||◌, and-eq-true_iff}
 use mathlib.Core.List.{List, [], ◌∷◌, ◌++◌, map}
 use mathlib.Core.Path.{◌≡◌, refl, sym, ap, ◌∙◌}
+use native.Mathlib.Decide.{dec_le}
 use native.Mathlib.Numerals.{add-one}
 use native.Mathlib.Omega.{arith}
 use borrow.Author.Tests.{eq-eqb, ne_eqb, eqb-false}
 use lib.Dec.{eqb, lit≤}
 use lib.ListN.{length, get_or, take, drop, length-map}
-use lib.Seq.{take-suc, drop-append-add, drop-drop, length-take-le}
+use lib.Seq.{take-suc, drop-append-add, drop-drop, length-take-le, take_all}
 use Rattle.laws.proofs.Cases.{either, clash}
 use Rattle.sheets.specs.Sheets.{is_packing, week_of}
 use Rattle.sheet_list.specs.Adding.{most_words, table_length, over}
@@ -226,9 +227,6 @@ module _ (s table : List ℕ) (i : ℕ) {t : Tallied} (v : IsTallied (take i s) 
 -- ---- whether a sheet is counted, on a table's words
 
 module _ (x : ℕ) (t : List ℕ) where
-  pub not_packing : is_packing x ≡ false → false ≡ (is_packing x && room_in (week_of x) t)
-  not_packing e = rw e
-
   module _ (p : is_packing x ≡ true) where
     pub weeks_free : (length t ≡ table_length → ⊥) → true ≡ (is_packing x && room_in (week_of x) t)
     unfolding room_in
@@ -258,3 +256,11 @@ left_most xs = omega (arith, left_with xs no_tallies)
 pub tallied_start : (s before : List ℕ) → IsTallied (take 0 s) before before (record { weeks = 0; left = 0 })
 unfolding with_sheets over
 tallied_start s before = record { table = refl; weeks = refl; left = refl }
+
+-- the words that are looked at are all of the first so many
+pub first_most : (w : List ℕ) (i : ℕ) → i ≡ min (length w) most_words → take most_words w ≡ take i w
+first_most w i e =
+    elim (dec_le (length w) most_words) [
+      | yes l ↦ take_all most_words w l ∙ sym (take_all i w (omega (arith, e, l)))
+      | no l ↦ let f : i ≡ most_words = omega (arith, e, l) in rw f
+    ]

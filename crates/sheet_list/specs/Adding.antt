@@ -3,12 +3,16 @@ use Rattle.std.specs.Prelude.{ℕ, zero, suc, ◌+◌, ◌*◌, ◌/◌, Bool, t
 use Rattle.std.specs.Prelude.{length, get_or, take, drop}
 use Rattle.laws.specs.Lists.{every}
 use Rattle.sheets.specs.Sheets.{is_packing, week_of, packing, fields_from}
-use Rattle.sheets.specs.declared.Packed.{Packed}
-use Rattle.sheets.specs.declared.Packed.TheVariants.{Word, NoDay, Bad}
 use Rattle.sheets.specs.declared.SheetFields.{SheetFields}
+use Rattle.sheet_list.specs.declared.adding.AddRefusal.{AddRefusal}
+use Rattle.sheet_list.specs.declared.adding.AddRefusal.TheVariants.{BadField, Undated, NoRoom, NotHeld}
 use Rattle.sheet_list.specs.declared.adding.Added.{Added}
+use Rattle.values.specs.Moments.{field_number}
 use Rattle.sheet_list.specs.Ascending.{ascending, inserted}
 use Rattle.sheet_list.specs.Weeks.{weeks_of, table_of, has_week}
+use Rattle.std.specs.Prelude.{Err, None, Ok, Option, Result, Some}
+use Rattle.sheets.specs.declared.Unpackable.TheVariants.{Bad, NoDay}
+use Rattle.sheets.specs.declared.Unpackable.{Unpackable}
 
 -- the lent arrays, and how many words of each are held; words past a count are no part of list or table
 pub record Held : Type 0 where
@@ -88,18 +92,33 @@ unfoldable pub adding_word : ℕ → ℕ → Held → Outcome
 adding_word i x h = cond (is_held h) (cond (is_full x h) (outcome 14 0 i h) (outcome 0 0 (suc i) (with x h))) (outcome 15 0 i h)
 
 -- 13, then 2, then these
-unfoldable pub adding_packed : ℕ → Packed → Held → Outcome
-adding_packed i NoDay h = outcome 13 0 i h
-adding_packed i (Bad p) h = outcome 2 p i h
-adding_packed i (Word x) h = adding_word i x h
+unfoldable pub adding_packed : ℕ → Result ℕ Unpackable → Held → Outcome
+adding_packed i (Err NoDay) h = outcome 13 0 i h
+adding_packed i (Err (Bad p)) h = outcome 2 (field_number p) i h
+adding_packed i (Ok x) h = adding_word i x h
 
 -- the sheet with index i: where it is added the next index is i + 1, and where it is refused all is left as it was
 unfoldable pub adding : ℕ → SheetFields → Held → Outcome
 adding i f h = adding_packed i (packing f) h
 
+-- the number and place of each refusal, and 0 where a call ended without one
+unfoldable pub number_of : Option AddRefusal → ℕ
+number_of None = 0
+number_of (Some (BadField p)) = 2
+number_of (Some Undated) = 13
+number_of (Some NoRoom) = 14
+number_of (Some NotHeld) = 15
+
+unfoldable pub place_of : Option AddRefusal → ℕ
+place_of None = 0
+place_of (Some (BadField p)) = field_number p
+place_of (Some Undated) = 0
+place_of (Some NoRoom) = 0
+place_of (Some NotHeld) = 0
+
 -- what a call answered, with what the arrays then held
 abbrev pub outcome_of : Added → List ℕ → List ℕ → Outcome
-outcome_of r w t = outcome r.number r.place r.index (held w r.count t r.weeks)
+outcome_of r w t = outcome (number_of r.refused) (place_of r.refused) r.index (held w r.count t r.weeks)
 
 -- ---- many sheets, one after another, up to the first refusal: n of them, from index i on
 unfoldable pub adding_all : (ℕ → SheetFields) → ℕ → ℕ → Held → Outcome

@@ -1,5 +1,5 @@
 -- What the code passes through on the way: no part of a promise of the crate.
-use Rattle.std.specs.Prelude.{ℕ, suc, ◌+◌, ◌-◌, ◌*◌, ◌/◌, ◌^◌, ◌≤◌, ◌<◌, Bool, true, false, cond, not, ◌&&◌, ◌||◌, List, [], ◌∷◌, ◌++◌}
+use Rattle.std.specs.Prelude.{ℕ, suc, ◌+◌, ◌*◌, ◌/◌, ◌^◌, ◌≤◌, Bool, true, false, cond, not, ◌&&◌, ◌||◌, List, [], ◌∷◌, ◌++◌}
 use Rattle.std.specs.Prelude.{map, ◌≡◌, eqb, ltb, length, get_or, take, drop}
 use Rattle.laws.specs.Lists.{every}
 use Rattle.sheets.specs.Sheets.{is_packing, week_of}
@@ -12,14 +12,6 @@ use Rattle.sheet_list.specs.declared.tallies.Tallied.{Tallied}
 -- a word put at a place of a list
 unfoldable pub put_at : ℕ → ℕ → List ℕ → List ℕ
 put_at at x s = take at s ++ (x ∷ drop at s)
-
--- the words of a list from place i to place c are moved up by one; what stands at i is still the old one
-unfoldable pub Shifted : List ℕ → ℕ → ℕ → List ℕ → Type 0
-Shifted w c i now = now ≡ take i w ++ (get_or w i 0 ∷ (take (c - i) (drop i w) ++ drop (suc c) w))
-
--- moving on from one place to another, whatever the list was
-unfoldable pub Moves : ℕ → ℕ → ℕ → List ℕ → List ℕ → Type 0
-Moves c from to before after = (w : List ℕ) → c < length w → Shifted w c from before → Shifted w c to after
 
 -- how many words at the front are of a week
 unfoldable pub week_run : ℕ → List ℕ → ℕ

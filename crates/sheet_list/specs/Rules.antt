@@ -3,7 +3,6 @@
 use Rattle.std.specs.Prelude.{ℕ, zero, suc, ◌+◌, ◌≤◌, ◌<◌, Bool, true, false, cond, List, [], ◌∷◌, ◌≡◌, eqb, drop}
 use Rattle.sheets.specs.Packing.{packed}
 use Rattle.sheets.specs.Sheets.{week_of, week_of_date, packing}
-use Rattle.sheets.specs.declared.Packed.TheVariants.{Word, NoDay, Bad}
 use Rattle.sheets.specs.declared.SheetFields.{SheetFields}
 use Rattle.calendar.specs.Calendar.{iso_year, iso_week}
 use Rattle.calendar.specs.declared.Date.{Date}
@@ -11,6 +10,10 @@ use Rattle.values.specs.Values.{day_number_of}
 use Rattle.sheet_list.specs.Adding.{Held, list_of, is_held, is_full, with, Outcome, outcome, adding, adding_all}
 use Rattle.sheet_list.specs.Ascending.{ascending, inserted}
 use Rattle.sheet_list.specs.Weeks.{Tally, tally, weeks_of, tally_word}
+use Rattle.std.specs.Prelude.{Err, Ok}
+use Rattle.values.specs.Moments.{field_number}
+use Rattle.values.specs.declared.fields.Field.{Field}
+use Rattle.sheets.specs.declared.Unpackable.TheVariants.{Bad, NoDay}
 
 -- how many words of a list pass a test
 unfoldable pub how_many : (ℕ → Bool) → List ℕ → ℕ
@@ -66,17 +69,17 @@ pub record Stopped (sheet : ℕ → SheetFields) (i n : ℕ) (h : Held) (o : Out
 -- what becomes of a sheet
 pub record AddRules : Type 0 where
   -- 13, 2, 15 and 14, each exactly in its case, with its place and the sheet's index; all leave both arrays and both counts
-  pub undated : (i : ℕ) (f : SheetFields) (h : Held) → packing f ≡ NoDay → adding i f h ≡ outcome 13 0 i h
-  pub bad : (i p : ℕ) (f : SheetFields) (h : Held) → packing f ≡ Bad p → adding i f h ≡ outcome 2 p i h
-  pub unheld : (i x : ℕ) (f : SheetFields) (h : Held) → packing f ≡ Word x → is_held h ≡ false
+  pub undated : (i : ℕ) (f : SheetFields) (h : Held) → packing f ≡ Err NoDay → adding i f h ≡ outcome 13 0 i h
+  pub bad : (i : ℕ) (p : Field) (f : SheetFields) (h : Held) → packing f ≡ Err (Bad p) → adding i f h ≡ outcome 2 (field_number p) i h
+  pub unheld : (i x : ℕ) (f : SheetFields) (h : Held) → packing f ≡ Ok x → is_held h ≡ false
       → adding i f h ≡ outcome 15 0 i h
-  pub full : (i x : ℕ) (f : SheetFields) (h : Held) → packing f ≡ Word x → is_held h ≡ true → is_full x h ≡ true
+  pub full : (i x : ℕ) (f : SheetFields) (h : Held) → packing f ≡ Ok x → is_held h ≡ true → is_full x h ≡ true
       → adding i f h ≡ outcome 14 0 i h
-  pub added : (i x : ℕ) (f : SheetFields) (h : Held) → packing f ≡ Word x → is_held h ≡ true → is_full x h ≡ false
+  pub added : (i x : ℕ) (f : SheetFields) (h : Held) → packing f ≡ Ok x → is_held h ≡ true → is_full x h ≡ false
       → adding i f h ≡ outcome 0 0 (suc i) (with x h)
   -- what is added holds again, with its list and table, and leaves the words past the new counts
   pub holds : (i : ℕ) (f : SheetFields) (h : Held) → (adding i f h).number ≡ 0 → is_held (adding i f h).held ≡ true
-  pub list : (i x : ℕ) (f : SheetFields) (h : Held) → packing f ≡ Word x → (adding i f h).number ≡ 0
+  pub list : (i x : ℕ) (f : SheetFields) (h : Held) → packing f ≡ Ok x → (adding i f h).number ≡ 0
       → list_of (adding i f h).held ≡ inserted x (list_of h)
   pub past : (i : ℕ) (f : SheetFields) (h : Held) → Past h (adding i f h).held
   -- of many sheets, where none is refused the index is how many there were; else it is that of one of them, whose refusal is the answer

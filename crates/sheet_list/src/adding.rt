@@ -1,18 +1,53 @@
 // Sheets added to a list and its table.
-ghost use Rattle.std.specs.Prelude.{true, false, ◌≡◌, ◌+◌, ◌*◌, ◌≤◌, ◌<◌, ◌^◌, length};
+ghost use Rattle.std.specs.Prelude.{true, false, Some, ◌≡◌, ◌+◌, ◌*◌, ◌≤◌, ◌<◌, ◌^◌, length};
 ghost use Rattle.sheets.specs.Sheets.{is_packing};
-ghost use Rattle.sheet_list.specs.Adding.{held, outcome_of, is_held, is_full, with, adding_word, adding, sheet_at, adding_words};
+ghost use Rattle.sheet_list.specs.Adding.{number_of, place_of};
+ghost use Rattle.sheet_list.specs.Adding.{held, outcome_of, is_held, is_full, with, adding_word, adding, adding_words};
 
 use crate::ascending::insert;
 use crate::judging::{TABLE_LENGTH, is_held};
 use crate::weeks::{count_week, has_week};
-use sheets::{Packed, SheetFields, fields_from, pack, week_of};
+use sheets::{SheetFields, Unpackable, pack, week_of, words_fields};
+use values::Field;
 
-// What adding gives: number and place, how many sheets were added before it ended, and how many words and weeks are then held.
+// Why a sheet is not added: 2, a bad field; 13, no day is said; 14, no room; 15, the arrays do not hold what they should.
+#[derive(Clone, Copy, PartialEq, Eq)]
+pub enum AddRefusal {
+    BadField(Field),
+    Undated,
+    NoRoom,
+    NotHeld,
+}
+
+impl AddRefusal {
+    // Its number and its place (RULES 11.3).
+    #[tactic(auto, unfolding(crate::specs::Adding::number_of))]
+    pub fn number(self) -> u32
+        ensures { result ≡ number_of (Some self) }
+    {
+        match self {
+            AddRefusal::BadField(_) => 2,
+            AddRefusal::Undated => 13,
+            AddRefusal::NoRoom => 14,
+            AddRefusal::NotHeld => 15,
+        }
+    }
+
+    #[tactic(auto, unfolding(crate::specs::Adding::place_of))]
+    pub fn place(self) -> u32
+        ensures { result ≡ place_of (Some self) }
+    {
+        match self {
+            AddRefusal::BadField(field) => field.number(),
+            _ => 0,
+        }
+    }
+}
+
+// What adding gives: the refusal that ended it, if one did, how many sheets were added before, and how many words and weeks are then held.
 #[derive(Clone, Copy)]
 pub struct Added {
-    pub number: u32,
-    pub place: u32,
+    pub refused: Option<AddRefusal>,
     pub index: usize,
     pub count: usize,
     pub weeks: usize,
@@ -21,19 +56,15 @@ pub struct Added {
 // How many words a sheet has.
 const SHEET_WORDS: usize = 11;
 
+// Arrays and counts go one by one: a struct of two `&mut` slices has each method promise that both references stay the same.
+
 // Whether there is no room for the word of a sheet.
 fn is_full(word: u64, words: &[u64], count: usize, table: &[u64], weeks: usize) -> bool
     requires weeks_value { is_held (held words.now count table.now weeks) ≡ true }
     requires word_value { is_packing word ≡ true }
     ensures { result ≡ is_full word (held words.now count table.now weeks) }
 {
-    if count == words.len() {
-        return true;
-    }
-    if weeks != TABLE_LENGTH {
-        return false;
-    }
-    !has_week(&table[..weeks], week_of(word))
+    count == words.len() || (weeks == TABLE_LENGTH && !has_week(&table[..weeks], week_of(word)))
 }
 
 // Puts the word of a sheet into the list, and counts it in the table.
@@ -53,10 +84,7 @@ fn is_sound(judged: bool, words: &[u64], count: usize, table: &[u64], weeks: usi
     requires { judged ≡ true → is_held (held words.now count table.now weeks) ≡ true }
     ensures { result ≡ is_held (held words.now count table.now weeks) }
 {
-    if judged {
-        return true;
-    }
-    is_held(words, count, table, weeks)
+    judged || is_held(words, count, table, weeks)
 }
 
 fn add_word(
@@ -75,8 +103,7 @@ fn add_word(
 {
     if !is_sound(judged, words, count, table, weeks) {
         return Added {
-            number: 15,
-            place: 0,
+            refused: Some(AddRefusal::NotHeld),
             index,
             count,
             weeks,
@@ -84,8 +111,7 @@ fn add_word(
     }
     if is_full(word, words, count, table, weeks) {
         return Added {
-            number: 14,
-            place: 0,
+            refused: Some(AddRefusal::NoRoom),
             index,
             count,
             weeks,
@@ -93,8 +119,7 @@ fn add_word(
     }
     let weeks = put_word(word, words, count, table, weeks);
     Added {
-        number: 0,
-        place: 0,
+        refused: None,
         index: index + 1,
         count: count + 1,
         weeks,
@@ -117,21 +142,19 @@ fn add_sheet(
         ≡ adding index fields (held words.old count table.old weeks) }
 {
     match pack(fields) {
-        Packed::NoDay => Added {
-            number: 13,
-            place: 0,
+        Err(Unpackable::NoDay) => Added {
+            refused: Some(AddRefusal::Undated),
             index,
             count,
             weeks,
         },
-        Packed::Bad(field) => Added {
-            number: 2,
-            place: field as u32,
+        Err(Unpackable::Bad(field)) => Added {
+            refused: Some(AddRefusal::BadField(field)),
             index,
             count,
             weeks,
         },
-        Packed::Word(word) => add_word(judged, index, word, words, count, table, weeks),
+        Ok(word) => add_word(judged, index, word, words, count, table, weeks),
     }
 }
 
@@ -149,27 +172,6 @@ pub fn add(
     add_sheet(false, 0, fields, words, count, table, weeks)
 }
 
-// The sheet with an index.
-fn sheet_at(sheets: &[u32], index: usize) -> SheetFields
-    requires { 11 * index + 11 ≤ length sheets.now }
-    ensures { result ≡ sheet_at sheets.now index }
-{
-    let at = SHEET_WORDS * index;
-    fields_from(
-        sheets[at],
-        sheets[at + 1],
-        sheets[at + 2],
-        sheets[at + 3],
-        sheets[at + 4],
-        sheets[at + 5],
-        sheets[at + 6],
-        sheets[at + 7],
-        sheets[at + 8],
-        sheets[at + 9],
-        sheets[at + 10],
-    )
-}
-
 // Adds many sheets, eleven words each, one after another up to the first refusal. What is held is judged once, before the first is added.
 pub fn add_all(
     sheets: &[u32],
@@ -181,28 +183,23 @@ pub fn add_all(
     ensures { outcome_of result words.new table.new
         ≡ adding_words sheets.now (held words.old count table.old weeks) }
 {
-    let most = sheets.len() / SHEET_WORDS;
     let mut added = Added {
-        number: 0,
-        place: 0,
+        refused: None,
         index: 0,
         count,
         weeks,
     };
-    while added.index < most {
-        let index = added.index;
-        let held = added.count;
-        let held_weeks = added.weeks;
+    for sheet in sheets.as_chunks::<SHEET_WORDS>().0 {
         added = add_sheet(
-            0 < index,
-            index,
-            sheet_at(sheets, index),
+            0 < added.index,
+            added.index,
+            words_fields(sheet),
             words,
-            held,
+            added.count,
             table,
-            held_weeks,
+            added.weeks,
         );
-        if added.number != 0 {
+        if added.refused.is_some() {
             return added;
         }
     }

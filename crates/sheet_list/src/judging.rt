@@ -18,40 +18,17 @@ pub const TABLE_LENGTH: usize = 1024;
 fn is_list(words: &[u64]) -> bool
     ensures { result ≡ (every is_packing words.now && ascending words.now) }
 {
-    let mut low = 0;
-    let mut i = 0;
-    while i < words.len() {
-        let word = words[i];
-        if word < low {
-            return false;
-        }
-        if !is_packing(word) {
-            return false;
-        }
-        low = word;
-        i += 1;
-    }
-    true
+    words.is_sorted() && words.iter().all(|word| is_packing(*word))
 }
 
 // Whether both arrays hold what they should up to their counts.
 pub fn is_held(words: &[u64], count: usize, table: &[u64], weeks: usize) -> bool
     ensures { result ≡ is_held (held words.now count table.now weeks) }
 {
-    if MOST_WORDS < words.len() {
-        return false;
-    }
-    if words.len() < count {
-        return false;
-    }
-    if table.len() != TABLE_LENGTH {
-        return false;
-    }
-    if table.len() < weeks {
-        return false;
-    }
-    if !is_list(&words[..count]) {
-        return false;
-    }
-    is_table(&words[..count], &table[..weeks])
+    words.len() <= MOST_WORDS
+        && count <= words.len()
+        && table.len() == TABLE_LENGTH
+        && weeks <= table.len()
+        && is_list(&words[..count])
+        && is_table(&words[..count], &table[..weeks])
 }

@@ -7,6 +7,6 @@ mod judging;
 mod tallies;
 mod weeks;
 
-pub use adding::{Added, add, add_all};
+pub use adding::{AddRefusal, Added, add, add_all};
 pub use judging::{TABLE_LENGTH, is_held};
 pub use tallies::{Tallied, count_sheets};

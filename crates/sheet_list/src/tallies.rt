@@ -21,13 +21,7 @@ fn is_counted(word: u64, table: &[u64]) -> bool
     requires { ascending table.now ≡ true }
     ensures { result ≡ (is_packing word && room_in (week_of word) table.now) }
 {
-    if !is_packing(word) {
-        return false;
-    }
-    if table.len() != TABLE_LENGTH {
-        return true;
-    }
-    has_week(table, week_of(word))
+    is_packing(word) && (table.len() != TABLE_LENGTH || has_week(table, week_of(word)))
 }
 
 // Counts the sheet with an index, where those before it are counted.
@@ -55,13 +49,8 @@ pub fn count_sheets(words: &[u64], table: &mut [u64; TABLE_LENGTH]) -> Tallied
     ensures { IsTallied (take most_words words.now) table.old table.new result }
 {
     let mut tallied = Tallied { weeks: 0, left: 0 };
-    let mut i = 0;
-    while i < words.len() {
-        if MOST_WORDS <= i {
-            return tallied;
-        }
-        tallied = count_sheet(words, i, table, tallied);
-        i += 1;
+    for index in 0..words.len().min(MOST_WORDS) {
+        tallied = count_sheet(words, index, table, tallied);
     }
     tallied
 }

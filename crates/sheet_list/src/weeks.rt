@@ -18,14 +18,10 @@ fn week_end(words: &[u64], from: usize) -> usize
     ensures { result ≡ from + week_run (week_of (get_or words.now from 0)) (drop from words.now) }
 {
     let later = next_week(words[from]);
-    let mut i = from;
-    while i < words.len() {
-        if later <= words[i] {
-            return i;
-        }
-        i += 1;
+    match words[from..].iter().position(|word| later <= *word) {
+        Some(n) => from + n,
+        None => words.len(),
     }
-    i
 }
 
 // Whether a table is as a list gives.
@@ -54,10 +50,7 @@ pub(crate) fn is_table(words: &[u64], table: &[u64]) -> bool
 fn is_week_at(table: &[u64], at: usize, week: u64) -> bool
     ensures { result ≡ is_week_at week at table.now }
 {
-    if table.len() <= at {
-        return false;
-    }
-    table[at] / WEEK == week
+    at < table.len() && table[at] / WEEK == week
 }
 
 // Whether a week is in a table.

@@ -9,15 +9,18 @@ use Rattle.values.specs.Offsets as offsets
 use Rattle.sheets.specs.Cases.{packing_cases, unpacking_cases, words_cases, reading_cases, week_cases}
 use Rattle.sheets.specs.Packing as bits
 use Rattle.sheets.specs.Sheets as sheets
-use Rattle.sheets.specs.declared.Packed.{Packed}
 use Rattle.sheets.specs.declared.SheetFields.{SheetFields}
-use Rattle.sheets.specs.declared.Unpacked.{Unpacked}
+use Rattle.std.specs.Prelude.{Option, Result, ℕ}
+use Rattle.sheets.specs.declared.Sheet.{Sheet}
+use Rattle.sheets.specs.declared.Unpackable.{Unpackable}
 
-pub all_packed : map (λ (c : Packed × Packed). c.0) packing_cases ≡ map (λ (c : Packed × Packed). c.1) packing_cases
+pub all_packed : map (λ (c : Result ℕ Unpackable × Result ℕ Unpackable). c.0) packing_cases
+    ≡ map (λ (c : Result ℕ Unpackable × Result ℕ Unpackable). c.1) packing_cases
 unfolding packing_cases calendar.computes offsets.computes moments.computes bits.computes sheets.computes
 all_packed = refl
 
-pub all_unpacked : map (λ (c : Unpacked × Unpacked). c.0) unpacking_cases ≡ map (λ (c : Unpacked × Unpacked). c.1) unpacking_cases
+pub all_unpacked : map (λ (c : Option Sheet × Option Sheet). c.0) unpacking_cases
+    ≡ map (λ (c : Option Sheet × Option Sheet). c.1) unpacking_cases
 unfolding unpacking_cases calendar.computes offsets.computes moments.computes bits.computes sheets.computes
 all_unpacked = refl
 

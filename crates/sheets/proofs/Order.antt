@@ -11,7 +11,6 @@ use borrow.Author.Tests.{lt-ltb, le-ltb, lt-leb, leb-true, eq-eqb, ne_eqb}
 use lib.Dec.{eqb, leb, ltb}
 use Rattle.calendar.specs.Calendar.{within, year_length, days, days_before, year_of, date_of, weekday, thursday, iso_year, iso_week}
 use Rattle.calendar.specs.Dates.{from_day_number}
-use Rattle.calendar.specs.declared.FromNumber.{FromNumber}
 use Rattle.laws.proofs.Cases.{clash}
 use Rattle.calendar.specs.declared.Date.{Date}
 use Rattle.calendar.proofs.Dates as dates
@@ -21,10 +20,8 @@ use Rattle.calendar.proofs.Sum.{sum_mono}
 use Rattle.calendar.proofs.Weeks.{iso_week_is}
 use Rattle.calendar.proofs.Years.{year_located}
 use Rattle.calendar.proofs.Months.{month_most}
-use Rattle.strptime.specs.declared.Said.TheVariants.{Unsaid}
 use Rattle.values.specs.Offsets.{is_offset}
 use Rattle.values.specs.Values.{day_number_of}
-use Rattle.values.specs.declared.offsets.Offset.TheVariants.{Unsaid as NoOffset}
 use Rattle.words.specs.Words.{offset_flag}
 use lib.ListN.{drop}
 use Rattle.sheets.specs.Packing.{bits, packed, Fit}
@@ -35,6 +32,7 @@ use Rattle.sheets.specs.declared.Sheet.{Sheet}
 use Rattle.sheets.proofs.Packing.{packed_small}
 use Rattle.sheets.proofs.Sheets.{Small, small, fields_fit, word_small, packing_valid, packing_again}
 use Rattle.sheets.proofs.Testing.{packing_tests}
+use Rattle.std.specs.Prelude.{None, Some}
 
 -- ---- weeks follow days
 
@@ -158,12 +156,12 @@ packing_week x p =
 
 -- ---- where a later week begins
 
-day_of : (b : Bool) (u t : Date) → cond b (FromNumber.Day u) FromNumber.Outside ≡ FromNumber.Day t → (b ≡ true) × (u ≡ t)
+day_of : (b : Bool) (u t : Date) → cond b (Some u) None ≡ Some t → (b ≡ true) × (u ≡ t)
 day_of true u t e = (refl, cc)
 day_of false u t e = clash (cc)
 
 -- the year of a day's date is one of the calendar's
-pub day_year : (n : ℕ) {t : Date} → from_day_number n ≡ FromNumber.Day t → t.year < 10000
+pub day_year : (n : ℕ) {t : Date} → from_day_number n ≡ Some t → t.year < 10000
 unfolding from_day_number
 day_year n {t} e =
     let g = day_of (within 1 days n) (date_of n) t e in
@@ -200,7 +198,7 @@ weeks_apart s t p h q e =
 
 -- a day of which nothing else is said
 abbrev bare : Date → Sheet
-bare t = record { date = t; hour = Unsaid; minute = Unsaid; second = Unsaid; offset = NoOffset }
+bare t = record { date = t; hour = None; minute = None; second = None; offset = None }
 
 bare_word : (t : Date) → word_of (bare t) ≡ date_word t
 unfolding word_of date_word packed sheet_widths fields bits offset_flag offset_field

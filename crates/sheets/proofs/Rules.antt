@@ -12,27 +12,26 @@ use Rattle.values.specs.Values.{day_number_of}
 use Rattle.sheets.specs.Packing.{bits, packed}
 use Rattle.sheets.specs.Rules.{fields_of, SheetRules}
 use Rattle.sheets.specs.Sheets.{word_of, sheet_of, is_valid, is_packing, unpacking, packing_of, dated, packing, week_widths, week_of_date}
-use Rattle.sheets.specs.declared.Packed.TheVariants.{Word}
 use Rattle.sheets.specs.declared.Sheet.{Sheet}
-use Rattle.sheets.specs.declared.Unpacked.TheVariants.{Holds, NoSheet}
 use Rattle.sheets.proofs.Order.{before_less, less_before, week_order}
 use Rattle.sheets.proofs.Sheets.{small, sheet_of_word, word_packs, word_small, packing_valid, packing_again, packing_word}
+use Rattle.std.specs.Prelude.{None, Ok, Some}
 
-holds_of : (b : Bool) (s t : Sheet) → cond b (Holds s) NoSheet ≡ Holds t → (b ≡ true) × (s ≡ t)
+holds_of : (b : Bool) (s t : Sheet) → cond b (Some s) None ≡ Some t → (b ≡ true) × (s ≡ t)
 holds_of true s t e = (refl, cc)
 holds_of false s t e = clash (cc)
 
-back : (s : Sheet) → is_valid s ≡ true → unpacking (word_of s) ≡ Holds s
+back : (s : Sheet) → is_valid s ≡ true → unpacking (word_of s) ≡ Some s
 unfolding unpacking
-back s v = rw (word_packs s v) (ap Holds (sheet_of_word s v))
+back s v = rw (word_packs s v) (ap Some (sheet_of_word s v))
 
-there : (x : ℕ) (s : Sheet) → unpacking x ≡ Holds s → (is_valid s ≡ true) × (word_of s ≡ x)
+there : (x : ℕ) (s : Sheet) → unpacking x ≡ Some s → (is_valid s ≡ true) × (word_of s ≡ x)
 unfolding unpacking
 there x s e =
     let h = holds_of (is_packing x) (sheet_of x) s e in
     rw (← h.1) (packing_valid x h.0, packing_again x h.0)
 
-answered : (s : Sheet) → is_valid s ≡ true → packing (fields_of s) ≡ Word (word_of s)
+answered : (s : Sheet) → is_valid s ≡ true → packing (fields_of s) ≡ Ok (word_of s)
 unfolding packing dated packing_of is_valid
 answered s v = rw v
 

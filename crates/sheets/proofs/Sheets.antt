@@ -12,37 +12,32 @@ use Rattle.laws.proofs.Cases.{clash}
 use Rattle.calendar.specs.Calendar.{date}
 use Rattle.calendar.proofs.Dates.{Valid}
 use Rattle.calendar.proofs.Months.{month_most}
-use Rattle.strptime.specs.declared.Said.{Said}
-use Rattle.strptime.specs.declared.Said.TheVariants.{Unsaid, Is}
 use Rattle.values.specs.Offsets.{is_offset, offset_number, offset_of}
 use Rattle.values.specs.Moments as moments
 use Rattle.values.specs.declared.Moment.{Moment}
-use Rattle.values.specs.declared.MomentFields.{MomentFields}
-use Rattle.values.specs.declared.MomentFields.TheVariants.{Valid as ValidFields, Bad as BadFields}
-use Rattle.values.specs.declared.offsets.Offset.{Offset}
-use Rattle.values.specs.declared.offsets.Offset.TheVariants.{Unsaid as NoOffset, Minutes}
 use Rattle.values.proofs.Ranges.{ValidMoment, no_fault_moment}
 use Rattle.sheets.specs.Packing.{bits, packed, Fit}
 use Rattle.words.specs.Words.{flag, number_or0, offset_flag}
 use Rattle.sheets.specs.Sheets.{sheet_widths, offset_field, fields, word_of, said_from, field_offset}
 use Rattle.sheets.specs.Sheets.{sheet_from, sheet_of, fault_of, is_valid, is_packing, packing_of, dated, packing}
-use Rattle.sheets.specs.declared.DateFields.{DateFields}
-use Rattle.sheets.specs.declared.DateFields.TheVariants.{NoFields, Fields}
-use Rattle.sheets.specs.declared.Packed.TheVariants.{Word, Bad}
 use Rattle.sheets.specs.declared.SheetFields.{SheetFields}
 use Rattle.sheets.specs.declared.Sheet.{Sheet}
 use Rattle.sheets.proofs.Packing.{packed_small, unpacked_packed}
+use Rattle.std.specs.Prelude.{Err, None, Ok, Option, Result, Some, ℕ, ℤ}
+use Rattle.sheets.specs.declared.DateFields.{DateFields}
+use Rattle.sheets.specs.declared.Unpackable.TheVariants.{Bad}
+use Rattle.values.specs.declared.fields.Field.{Field}
 
 -- ---- the fields of a valid sheet
 
-flag_most : (x : Said) → flag x ≤ 1
-flag_most Unsaid = omega arith
-flag_most (Is n) = omega arith
+flag_most : (x : Option ℕ) → flag x ≤ 1
+flag_most None = omega arith
+flag_most (Some n) = omega arith
 
-offset_flag_most : (o : Offset) → offset_flag o ≤ 1
+offset_flag_most : (o : Option ℤ) → offset_flag o ≤ 1
 unfolding offset_flag
-offset_flag_most NoOffset = omega arith
-offset_flag_most (Minutes z) = omega arith
+offset_flag_most None = omega arith
+offset_flag_most (Some z) = omega arith
 
 -- an offset, and 1439 more: its number, and back
 shifted : (z : ℤ) → nat_abs z ≤ 1439 → (offset_number z ≤ 2878) × (pos (suc (offset_number z)) -ℤ pos 1440 ≡ z)
@@ -78,10 +73,10 @@ pub record Small (s : Sheet) : Type 0 where
   pub offset : is_offset s.offset ≡ true
   pub offset_field_lem : offset_field s.offset ≤ 2878
 
-field_most : (o : Offset) → is_offset o ≡ true → offset_field o ≤ 2878
+field_most : (o : Option ℤ) → is_offset o ≡ true → offset_field o ≤ 2878
 unfolding offset_field is_offset
-field_most NoOffset e = omega arith
-field_most (Minutes z) e = (shifted z (leb-true _ _ e)).0
+field_most None e = omega arith
+field_most (Some z) e = (shifted z (leb-true _ _ e)).0
 
 abbrev moment_of : Sheet → Moment
 moment_of s =
@@ -159,17 +154,17 @@ module _ (s : Sheet) {h n x o : ℕ} (p : h ≡ flag s.hour * 32 + number_or0 s.
 
 -- ---- from its word back to a valid sheet
 
-said_again : (x : Said) → said_from (flag x) (number_or0 x) ≡ x
+said_again : (x : Option ℕ) → said_from (flag x) (number_or0 x) ≡ x
 unfolding said_from
-said_again Unsaid = refl
-said_again (Is n) = refl
+said_again None = refl
+said_again (Some n) = refl
 
-offset_again : (o : Offset) → is_offset o ≡ true → field_offset (offset_flag o) (offset_field o) ≡ o
+offset_again : (o : Option ℤ) → is_offset o ≡ true → field_offset (offset_flag o) (offset_field o) ≡ o
 unfolding field_offset offset_flag offset_field offset_of is_offset
-offset_again NoOffset e = refl
-offset_again (Minutes z) e =
+offset_again None e = refl
+offset_again (Some z) e =
     let h = shifted z (leb-true _ _ e) in
-    rw (le-leb 1 (suc (offset_number z)) (omega arith), le-leb (suc (offset_number z)) 2879 (omega (arith, h.0))) (ap Minutes h.1)
+    rw (le-leb 1 (suc (offset_number z)) (omega arith), le-leb (suc (offset_number z)) 2879 (omega (arith, h.0))) (ap Some h.1)
 
 pub from_fields : (s : Sheet) → Small s → sheet_from (fields s) ≡ s
 unfolding sheet_from fields
@@ -203,24 +198,24 @@ packing_again x e = eqb-true _ _ ((and-eq-true_iff (is_valid (sheet_of x)) (eqb 
 
 -- ---- what the constructor of moments answers for the fields of a sheet
 
-bad_of : (b : Bool) (f g : ℕ) (v : Moment) → cond b (ValidFields v) (BadFields f) ≡ BadFields g → (b ≡ false) × (f ≡ g)
+bad_of : (b : Bool) (f g : Field) (v : Moment) → cond b (Ok v) (Err f) ≡ Err g → (b ≡ false) × (f ≡ g)
 bad_of true f g v e = clash (cc)
 bad_of false f g v e = (refl, cc)
 
-valid_of : (b : Bool) (f : ℕ) (v u : Moment) → cond b (ValidFields v) (BadFields f) ≡ ValidFields u → (b ≡ true) × (v ≡ u)
+valid_of : (b : Bool) (f : Field) (v u : Moment) → cond b (Ok v) (Err f) ≡ Ok u → (b ≡ true) × (v ≡ u)
 valid_of true f v u e = (refl, cc)
 valid_of false f v u e = clash (cc)
 
-module _ (y m d : ℕ) (h n s : Said) (o : Offset) {a b c : ℕ} (p : a ≡ number_or0 h) (q : b ≡ number_or0 n) (r : c ≡ number_or0 s)
-    {f : MomentFields} (e : f ≡ moments.moment_of y m d a b c o) where
+module _ (y m d : ℕ) (h n s : Option ℕ) (o : Option ℤ) {a b c : ℕ} (p : a ≡ number_or0 h) (q : b ≡ number_or0 n) (r : c ≡ number_or0 s)
+    {f : Result Moment Field} (e : f ≡ moments.moment_of y m d a b c o) where
   answered : f ≡ moments.moment_of y m d (number_or0 h) (number_or0 n) (number_or0 s) o
   answered = e ∙ rw (p, q, r)
 
-  pub judged_bad : {g : ℕ} → f ≡ BadFields g → (eqb (fault_of y m d h n s o) 0 ≡ false) × (fault_of y m d h n s o ≡ g)
+  pub judged_bad : {g : Field} → f ≡ Err g → (eqb (fault_of y m d h n s o) 0 ≡ false) × (moments.field_of (fault_of y m d h n s o) ≡ g)
   unfolding fault_of moments.moment_of
   judged_bad {g} t = bad_of _ _ g _ (sym answered ∙ t)
 
-  pub judged_valid : {v : Moment} → f ≡ ValidFields v → (eqb (fault_of y m d h n s o) 0 ≡ true) × (date y m d ≡ v.date)
+  pub judged_valid : {v : Moment} → f ≡ Ok v → (eqb (fault_of y m d h n s o) 0 ≡ true) × (date y m d ≡ v.date)
   unfolding fault_of moments.moment_of
   judged_valid {v} t =
       let g = valid_of _ _ _ v (sym answered ∙ t) in
@@ -228,18 +223,19 @@ module _ (y m d : ℕ) (h n s : Said) (o : Offset) {a b c : ℕ} (p : a ≡ numb
 
 -- ---- what packing answers
 
-word_of_lem : (b : Bool) (x f y : ℕ) → cond b (Word x) (Bad f) ≡ Word y → (b ≡ true) × (x ≡ y)
+word_of_lem : (b : Bool) (x : ℕ) (f : Field) (y : ℕ) → cond b (Ok x) (Err (Bad f)) ≡ Ok y → (b ≡ true) × (x ≡ y)
 word_of_lem true x f y e = (refl, cc)
 word_of_lem false x f y e = clash (cc)
 
 -- a word that it answers is a packing
-pub packing_word : (f : SheetFields) {x : ℕ} → packing f ≡ Word x → is_packing x ≡ true
+pub packing_word : (f : SheetFields) {x : ℕ} → packing f ≡ Ok x → is_packing x ≡ true
 unfolding packing dated packing_of is_valid
 packing_word f {x} e = go f.date e
   where
-    go : (t : DateFields) → dated t f ≡ Word x → is_packing x ≡ true
-    go NoFields q = clash (cc)
-    go (Fields y m d) q =
-        let g = word_of_lem (eqb (fault_of y m d f.hour f.minute f.second f.offset) 0) _ _ x q in
+    go : (t : Option DateFields) → dated t f ≡ Ok x → is_packing x ≡ true
+    go None q = clash (cc)
+    go (Some t) q =
+        let g = word_of_lem (eqb (fault_of t.year t.month t.day f.hour f.minute f.second f.offset) 0) _ _ x q in
         rw (← g.1)
-        (word_packs (record { date = date y m d; hour = f.hour; minute = f.minute; second = f.second; offset = f.offset }) g.0)
+        (word_packs (record { date = date t.year t.month t.day; hour = f.hour; minute = f.minute; second = f.second; offset = f.offset })
+        g.0)

@@ -6,22 +6,20 @@ use mathlib.Core.Logic.{◌⊎◌, inl, inr, ⊎_elim}
 use mathlib.Core.Path.{◌≡◌, refl, sym, ap, ◌∙◌}
 use native.Mathlib.Decide.{ℕ_discrete}
 use native.Mathlib.Omega.{arith}
-use borrow.Author.Tests.{eq-eqb, ne_eqb, leb-true, le-leb, ltb-true, lt-ltb}
+use borrow.Author.Tests.{eq-eqb, ne_eqb, eqb-true, leb-true, le-leb, ltb-true, lt-ltb}
+use Rattle.std.specs.Cmp.{both_ways}
 use lib.Dec.{eqb, leb, ltb}
 use lib.ListN.{get_or}
 use Rattle.calendar.proofs.Dates.{valid_no_fault}
-use Rattle.strptime.specs.declared.Said.{Said}
-use Rattle.strptime.specs.declared.Said.TheVariants.{Unsaid, Is}
 use Rattle.values.specs.Moments.{moment_fault}
 use Rattle.values.specs.Offsets.{is_offset, offset_of}
-use Rattle.values.specs.declared.offsets.Offset.{Offset}
-use Rattle.values.specs.declared.offsets.Offset.TheVariants.{Unsaid as NoOffset, Minutes}
 use Rattle.words.specs.Words.{flag, number_or0, offset_flag}
 use Rattle.sheets.specs.Packing.{bits, unpacked}
 use Rattle.sheets.specs.Private.{is_field, is_date}
 use Rattle.sheets.specs.Sheets.{sheet_widths, offset_field, word_of, said_from, field_offset, sheet_from, sheet_of, fault_of, is_valid}
 use Rattle.sheets.specs.Sheets.{is_packing}
 use Rattle.sheets.proofs.Sheets.{small, word_is, unshifted, packing_valid, packing_again}
+use Rattle.std.specs.Prelude.{None, Option, Some, ℕ, ℤ}
 
 -- ---- one field
 
@@ -50,14 +48,14 @@ passes n size most c =
 
 -- ---- from a packing to the tests
 
-unsaid_zero : (x : Said) → ((flag x ≡ 0) × (number_or0 x ≡ 0)) ⊎ (flag x ≡ 1)
-unsaid_zero Unsaid = inl (refl, refl)
-unsaid_zero (Is n) = inr refl
+unsaid_zero : (x : Option ℕ) → ((flag x ≡ 0) × (number_or0 x ≡ 0)) ⊎ (flag x ≡ 1)
+unsaid_zero None = inl (refl, refl)
+unsaid_zero (Some n) = inr refl
 
-no_offset_zero : (o : Offset) → ((offset_flag o ≡ 0) × (offset_field o ≡ 0)) ⊎ (offset_flag o ≡ 1)
+no_offset_zero : (o : Option ℤ) → ((offset_flag o ≡ 0) × (offset_field o ≡ 0)) ⊎ (offset_flag o ≡ 1)
 unfolding offset_flag offset_field
-no_offset_zero NoOffset = inl (refl, refl)
-no_offset_zero (Minutes z) = inr refl
+no_offset_zero None = inl (refl, refl)
+no_offset_zero (Some z) = inr refl
 
 -- a field that is zero where its flag is, and else in its range
 ranged : (f n size most : ℕ) → ((f ≡ 0) × (n ≡ 0)) ⊎ (f ≡ 1) → n < most → is_field (f * size + n) size most ≡ true
@@ -213,17 +211,30 @@ tests_packing x b t =
     ∙ whole x _ _ _ _ _ (date-part x b) (hb.0 ∙ h.0) (nb.0 ∙ n.0) (sb.0 ∙ s.0) (ob.0 ∙ o.0) t.low in
     rw (t.date, le-leb _ 23 hb.1, le-leb _ 59 nb.1, le-leb _ 60 sb.1, ob.1) (eq-eqb _ x w)
 
--- so a test that fails decides, and where the others pass the last one does
-pub not_packing : (x : ℕ) → (Tests x → ⊥) → false ≡ is_packing x
-not_packing x n = go (is_packing x) refl
-  where
-    go : (b : Bool) → is_packing x ≡ b → false ≡ b
-    go true e = absurd (n (packing_tests x e))
-    go false e = refl
+-- a word passes all tests, the date's first, exactly if it is a packing
+abbrev pub to_hour : ℕ → Bool
+to_hour x = is_date (sheet_of x).date && is_field (x / 34359738368 % 64) 32 24
 
-pub by_last : (x : ℕ) → x < 2 ^ 64 → (x % 256 ≡ 0 → Tests x) → eqb (x % 256) 0 ≡ is_packing x
-by_last x l t =
-    elim (ℕ_discrete (x % 256) 0) [
-      | yes e ↦ rw (eq-eqb (x % 256) 0 e) (sym (tests_packing x l (t e)))
-      | no e ↦ rw (ne_eqb (x % 256) 0 e) (not_packing x (λ g. e g.low))
-    ]
+abbrev pub to_minute : ℕ → Bool
+to_minute x = to_hour x && is_field (x / 268435456 % 128) 64 60
+
+abbrev pub to_second : ℕ → Bool
+to_second x = to_minute x && is_field (x / 2097152 % 128) 64 61
+
+abbrev pub to_offset : ℕ → Bool
+to_offset x = to_second x && is_field (x / 256 % 8192) 4096 2879
+
+pub tested : (x : ℕ) → x < 2 ^ 64 → (to_offset x && eqb (x % 256) 0) ≡ is_packing x
+tested x l =
+    both_ways _ _
+    (λ e.
+    let low = (and-eq-true_iff _ _).0 e in
+    let o = (and-eq-true_iff _ _).0 low.0 in
+    let s = (and-eq-true_iff _ _).0 o.0 in
+    let n = (and-eq-true_iff _ _).0 s.0 in
+    let h = (and-eq-true_iff _ _).0 n.0 in
+    tests_packing x l
+    (record { date = h.0; hour = h.1; minute = n.1; second = s.1; offset = o.1; low = eqb-true _ 0 low.1 }))
+    (λ e.
+    let t = packing_tests x e in
+    rw (t.date, t.hour, t.minute, t.second, t.offset) (eq-eqb _ 0 t.low))

@@ -4,11 +4,10 @@ use Rattle.calendar.specs.Calendar.{iso_year, iso_week}
 use Rattle.values.specs.Values.{day_number_of}
 use Rattle.sheets.specs.Packing.{packed}
 use Rattle.sheets.specs.Sheets.{sheet_widths, fields, word_of, is_valid, is_packing, unpacking, packing, week_of_date}
-use Rattle.sheets.specs.declared.DateFields.TheVariants.{Fields}
-use Rattle.sheets.specs.declared.Packed.TheVariants.{Word}
 use Rattle.sheets.specs.declared.Sheet.{Sheet}
 use Rattle.sheets.specs.declared.SheetFields.{SheetFields}
-use Rattle.sheets.specs.declared.Unpacked.TheVariants.{Holds}
+use Rattle.std.specs.Prelude.{Ok, Some}
+use Rattle.sheets.specs.Sheets.{year_month_day}
 
 -- all fields of a sheet's word but the date
 unfoldable pub rest_of : Sheet → ℕ
@@ -22,7 +21,7 @@ Before s t = (day_number_of s.date < day_number_of t.date) ⊎ ((s.date ≡ t.da
 abbrev pub fields_of : Sheet → SheetFields
 fields_of s =
     record {
-      date = Fields s.date.year s.date.month s.date.day;
+      date = Some (year_month_day s.date.year s.date.month s.date.day);
       hour = s.hour;
       minute = s.minute;
       second = s.second;
@@ -31,12 +30,12 @@ fields_of s =
 
 pub record SheetRules : Type 0 where
   -- a valid sheet packs to a word of 64 bits that unpacks to it
-  pub packs : (s : Sheet) → is_valid s ≡ true → (word_of s < 2 ^ 64) × (unpacking (word_of s) ≡ Holds s)
+  pub packs : (s : Sheet) → is_valid s ≡ true → (word_of s < 2 ^ 64) × (unpacking (word_of s) ≡ Some s)
   -- what a word unpacks to is a valid sheet that packs to it
-  pub unpacks : (x : ℕ) (s : Sheet) → unpacking x ≡ Holds s → (is_valid s ≡ true) × (word_of s ≡ x)
+  pub unpacks : (x : ℕ) (s : Sheet) → unpacking x ≡ Some s → (is_valid s ≡ true) × (word_of s ≡ x)
   -- packing answers the word of a valid sheet, and no other word
-  pub answers : (s : Sheet) → is_valid s ≡ true → packing (fields_of s) ≡ Word (word_of s)
-  pub packings : (f : SheetFields) (x : ℕ) → packing f ≡ Word x → is_packing x ≡ true
+  pub answers : (s : Sheet) → is_valid s ≡ true → packing (fields_of s) ≡ Ok (word_of s)
+  pub packings : (f : SheetFields) (x : ℕ) → packing f ≡ Ok x → is_packing x ≡ true
   -- the order of words is the order of dates, then of the rest as packed
   pub ordered : (s t : Sheet) → is_valid s ≡ true → is_valid t ≡ true
       → (word_of s < word_of t → Before s t) × (Before s t → word_of s < word_of t)

@@ -2,56 +2,58 @@
 #![tactic(auto)]
 
 ghost use Rattle.std.specs.Prelude.{◌≡◌, true, ◌+◌, ◌*◌, ◌<◌, ◌^◌};
+ghost use Rattle.sheets.specs.declared.Unpackable.TheVariants.{Bad};
 ghost use Rattle.words.specs.Words.{flag, number_or0, offset_flag};
 ghost use Rattle.sheets.specs.Sheets.{offset_field, word_of, said_from, field_offset, sheet_of, is_valid};
 ghost use Rattle.sheets.specs.Private.{is_field, is_date};
 ghost use Rattle.sheets.specs.Sheets.{week_of_date, week_of, date_word, next_week};
-ghost use Rattle.sheets.specs.Sheets.{is_packing, unpacking, packing, day_fields, reading_fields, date_from, fields_from};
+ghost use Rattle.sheets.specs.Sheets.{is_packing, unpacking, packing, day_fields, reading_fields, date_from, fields_from, words_fields};
 
-use calendar::{Date, FromFields, FromNumber};
-use strptime::{Day, Reading, Said};
-use values::{Moment, MomentFields, Offset, magnitude, offset_of};
+use calendar::Date;
+use strptime::Reading;
+use values::{Field, Moment, magnitude, offset_of};
 use words::{number_or_0, offset_from};
 
 #[derive(Clone, Copy)]
 pub struct Sheet {
     pub date: Date,
-    pub hour: Said,
-    pub minute: Said,
-    pub second: Said,
-    pub offset: Offset,
+    pub hour: Option<u32>,
+    pub minute: Option<u32>,
+    pub second: Option<u32>,
+    pub offset: Option<i32>,
 }
 
 // What is said of a sheet's date, valid or not.
 #[derive(Clone, Copy)]
-pub enum DateFields {
-    NoFields,
-    Fields { year: u32, month: u32, day: u32 },
+pub struct DateFields {
+    pub year: u32,
+    pub month: u32,
+    pub day: u32,
 }
 
 // A sheet as it comes: what is said of it, valid or not.
 #[derive(Clone, Copy)]
 pub struct SheetFields {
-    pub date: DateFields,
-    pub hour: Said,
-    pub minute: Said,
-    pub second: Said,
-    pub offset: Offset,
+    pub date: Option<DateFields>,
+    pub hour: Option<u32>,
+    pub minute: Option<u32>,
+    pub second: Option<u32>,
+    pub offset: Option<i32>,
 }
 
-// What the fields of a sheet give: its word; or, judged in this order, 13, or 2 with the first bad field.
-#[derive(Clone, Copy)]
-pub enum Packed {
-    Word(u64),
+// Why the fields of a sheet give no word: 13, no day is said, or 2 with the first bad field.
+#[derive(Clone, Copy, PartialEq, Eq)]
+pub enum Unpackable {
     NoDay,
-    Bad(u8),
+    Bad(Field),
 }
 
-// What a word gives: the sheet that it is the packing of.
-#[derive(Clone, Copy)]
-pub enum Unpacked {
-    Holds(Sheet),
-    NoSheet,
+impl From<Field> for Unpackable {
+    ghost from_gives = { λ field why. why ≡ Bad field };
+
+    fn from(field: Field) -> Unpackable {
+        Unpackable::Bad(field)
+    }
 }
 
 // What one of each field is in a word: two to the bits of all fields after it.
@@ -78,23 +80,20 @@ const OFFSET_SAID: u64 = 1048576;
 const OFFSET: u64 = 256;
 
 // Whether an hour, minute or second is said, and its number, which is below `size`.
-fn said_field(said: Said, size: u64) -> u64
+fn said_field(said: Option<u32>, size: u64) -> u64
     requires { size < 2 ^ 32 }
     ensures { result ≡ flag said * size + number_or0 said }
 {
-    match said {
-        Said::Unsaid => 0,
-        Said::Is(n) => size + n as u64,
-    }
+    said.map_or(0, |n| size + n as u64)
 }
 
 // Whether an offset is said, and its number: the offset and 1439 more.
-fn offset_field(offset: Offset) -> u64
+fn offset_field(offset: Option<i32>) -> u64
     ensures { (result ≡ offset_flag offset * 4096 + offset_field offset) × (result < 2 ^ 33) }
 {
     match offset {
-        Offset::Unsaid => 0,
-        Offset::Minutes(east) => 4096 + magnitude(east as i64 + 1439),
+        None => 0,
+        Some(east) => 4096 + magnitude(east as i64 + 1439),
     }
 }
 
@@ -104,71 +103,55 @@ fn word_of(sheet: Sheet) -> u64
     ensures { result ≡ word_of sheet }
 {
     let date = sheet.date;
-    let hour = sheet.hour;
-    let minute = sheet.minute;
-    let second = sheet.second;
-    let offset = sheet.offset;
     let to_day = date.year as u64 * 512 + date.month as u64 * 32 + date.day as u64;
-    let to_hour = to_day * 64 + said_field(hour, 32);
-    let to_minute = to_hour * 128 + said_field(minute, 64);
-    let to_second = to_minute * 128 + said_field(second, 64);
-    let to_offset = to_second * 8192 + offset_field(offset);
+    let to_hour = to_day * 64 + said_field(sheet.hour, 32);
+    let to_minute = to_hour * 128 + said_field(sheet.minute, 64);
+    let to_second = to_minute * 128 + said_field(sheet.second, 64);
+    let to_offset = to_second * 8192 + offset_field(sheet.offset);
     to_offset * 256
 }
 
 // The word of a sheet with these fields.
-pub fn pack(fields: SheetFields) -> Packed
+pub fn pack(fields: SheetFields) -> Result<u64, Unpackable>
     ensures { result ≡ packing fields }
 {
-    let date = fields.date;
-    let hour = fields.hour;
-    let minute = fields.minute;
-    let second = fields.second;
-    let offset = fields.offset;
-    match date {
-        DateFields::NoFields => Packed::NoDay,
-        DateFields::Fields { year, month, day } => {
-            match Moment::from_fields(
-                year,
-                month,
-                day,
-                number_or_0(hour),
-                number_or_0(minute),
-                number_or_0(second),
-                offset,
-            ) {
-                MomentFields::Bad(field) => Packed::Bad(field),
-                MomentFields::Valid(moment) => {
-                    let date = moment.date;
-                    Packed::Word(word_of(Sheet {
-                        date,
-                        hour,
-                        minute,
-                        second,
-                        offset,
-                    }))
-                }
-            }
-        }
-    }
+    let Some(date) = fields.date else {
+        return Err(Unpackable::NoDay);
+    };
+    let moment = Moment::from_fields(
+        date.year,
+        date.month,
+        date.day,
+        number_or_0(fields.hour),
+        number_or_0(fields.minute),
+        number_or_0(fields.second),
+        fields.offset,
+    )?;
+    Ok(word_of(Sheet {
+        date: moment.date,
+        hour: fields.hour,
+        minute: fields.minute,
+        second: fields.second,
+        offset: fields.offset,
+    }))
 }
 
-fn said_from(flag: u32, n: u32) -> Said
+fn said_from(flag: u32, n: u32) -> Option<u32>
     ensures { result ≡ said_from flag n }
 {
     if flag == 0 {
-        return Said::Unsaid;
+        return None;
     }
-    Said::Is(n)
+    Some(n)
 }
 
 // The offset of a word's fields.
-fn field_offset(flag: u32, n: u32) -> Offset
+fn field_offset(flag: u32, n: u32) -> Option<i32>
     requires { n < 2 ^ 31 }
     ensures { result ≡ field_offset flag n }
 {
     if flag == 0 {
-        return Offset::Unsaid;
+        return None;
     }
     offset_of(n + 1)
 }
@@ -211,104 +194,85 @@ fn sheet_of(word: u64) -> Sheet
 fn is_field(field: u64, size: u64, most: u64) -> bool
     ensures { result ≡ is_field field size most }
 {
-    if field == 0 {
-        return true;
-    }
-    if field < size {
-        return false;
-    }
-    field - size < most
+    field == 0 || (size <= field && field - size < most)
 }
 
 fn is_date(date: Date) -> bool
     ensures { result ≡ is_date date }
 {
-    match Date::from_fields(date.year as u32, date.month as u32, date.day as u32) {
-        FromFields::Bad(_) => false,
-        FromFields::Valid(_) => true,
-    }
+    Date::from_fields(date.year as u32, date.month as u32, date.day as u32).is_ok()
 }
 
 // Whether a word is the packing of a sheet: field by field, which is quicker than to unpack it and to pack that again.
 pub fn is_packing(word: u64) -> bool
     ensures { result ≡ is_packing word }
 {
-    if !is_date(date_of(word)) {
-        return false;
-    }
-    if !is_field(word / HOUR % 64, 32, 24) {
-        return false;
-    }
-    if !is_field(word / MINUTE % 128, 64, 60) {
-        return false;
-    }
-    if !is_field(word / SECOND % 128, 64, 61) {
-        return false;
-    }
-    if !is_field(word / OFFSET % 8192, 4096, 2879) {
-        return false;
-    }
-    word % OFFSET == 0
+    is_date(date_of(word))
+        && is_field(word / HOUR % 64, 32, 24)
+        && is_field(word / MINUTE % 128, 64, 60)
+        && is_field(word / SECOND % 128, 64, 61)
+        && is_field(word / OFFSET % 8192, 4096, 2879)
+        && word % OFFSET == 0
 }
 
 // The sheet that a word is the packing of.
-pub fn unpack(word: u64) -> Unpacked
+pub fn unpack(word: u64) -> Option<Sheet>
     ensures { result ≡ unpacking word }
 {
-    if !is_packing(word) {
-        return Unpacked::NoSheet;
+    if is_packing(word) {
+        Some(sheet_of(word))
+    } else {
+        None
     }
-    Unpacked::Holds(sheet_of(word))
 }
 
-fn day_fields(day: Day) -> DateFields
+fn day_fields(day: Option<Date>) -> Option<DateFields>
     ensures { result ≡ day_fields day }
 {
-    match day {
-        Day::NoDate => DateFields::NoFields,
-        Day::On(date) => DateFields::Fields {
-            year: date.year as u32,
-            month: date.month as u32,
-            day: date.day as u32,
-        },
-    }
+    day.map(|date| DateFields {
+        year: date.year as u32,
+        month: date.month as u32,
+        day: date.day as u32,
+    })
 }
 
 // What a reading says of a sheet.
 pub fn reading_fields(reading: Reading) -> SheetFields
     ensures { result ≡ reading_fields reading }
 {
-    let day = reading.day;
-    let hour = reading.hour;
-    let minute = reading.minute;
-    let second = reading.second;
-    let offset = reading.offset;
     SheetFields {
-        date: day_fields(day),
-        hour,
-        minute,
-        second,
-        offset,
+        date: day_fields(reading.day),
+        hour: reading.hour,
+        minute: reading.minute,
+        second: reading.second,
+        offset: reading.offset,
     }
 }
 
 // A date from three words: all 0 is none.
-fn date_from(year: u32, month: u32, day: u32) -> DateFields
+fn date_from(year: u32, month: u32, day: u32) -> Option<DateFields>
     ensures { result ≡ date_from year month day }
 {
-    if year != 0 {
-        return DateFields::Fields { year, month, day };
+    if year == 0 && month == 0 && day == 0 {
+        return None;
     }
-    if month != 0 {
-        return DateFields::Fields { year, month, day };
-    }
-    if day != 0 {
-        return DateFields::Fields { year, month, day };
-    }
-    DateFields::NoFields
+    Some(DateFields { year, month, day })
 }
 
 // A sheet as it comes in words (RULES 10.4): year, month and day, then whether each other field is said and which it is.
+pub fn words_fields(words: &[u32; 11]) -> SheetFields
+    ensures { result ≡ words_fields words.now }
+{
+    SheetFields {
+        date: date_from(words[0], words[1], words[2]),
+        hour: said_from(words[3], words[4]),
+        minute: said_from(words[5], words[6]),
+        second: said_from(words[7], words[8]),
+        offset: offset_from(words[9], words[10]),
+    }
+}
+
+// The same, word by word.
 pub fn fields_from(
     year: u32,
     month: u32,
@@ -325,13 +289,19 @@ pub fn fields_from(
     ensures { result
         ≡ fields_from year month day hour_said hour minute_said minute second_said second offset_said offset }
 {
-    SheetFields {
-        date: date_from(year, month, day),
-        hour: said_from(hour_said, hour),
-        minute: said_from(minute_said, minute),
-        second: said_from(second_said, second),
-        offset: offset_from(offset_said, offset),
-    }
+    words_fields(&[
+        year,
+        month,
+        day,
+        hour_said,
+        hour,
+        minute_said,
+        minute,
+        second_said,
+        second,
+        offset_said,
+        offset,
+    ])
 }
 
 // The ISO week of a date: 64 times its year, and its week.
@@ -362,7 +332,7 @@ pub fn next_week(word: u64) -> u64
 {
     let date = date_of(word);
     match Date::from_day_number(date.day_number() + 8 - date.weekday()) {
-        FromNumber::Day(monday) => date_word(monday),
-        FromNumber::Outside => 18446744073709551615,
+        Some(monday) => date_word(monday),
+        None => u64::MAX,
     }
 }

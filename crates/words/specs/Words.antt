@@ -1,9 +1,6 @@
 -- Values as 32-bit words for C (RULES 10.3): zone offsets, in two's complement, and the hours, minutes and seconds of a reading.
 use Rattle.std.specs.Prelude.{ℕ, suc, ◌-◌, ◌^◌, cond, eqb, ltb, ℤ, pos, negsuc, ◌-ℤ◌}
-use Rattle.strptime.specs.declared.Said.{Said}
-use Rattle.strptime.specs.declared.Said.TheVariants.{Unsaid, Is}
-use Rattle.values.specs.declared.offsets.Offset.{Offset}
-use Rattle.values.specs.declared.offsets.Offset.TheVariants.{Unsaid as NoOffset, Minutes}
+use Rattle.std.specs.Prelude.{None, Option, Some}
 
 -- the number that a word is in two's complement, and its word
 unfoldable pub signed_of : ℕ → ℤ
@@ -14,26 +11,26 @@ word_of (pos n) = n
 word_of (negsuc n) = 2 ^ 32 - suc n
 
 -- an offset that is said unless the first word is 0
-unfoldable pub offset_from : ℕ → ℕ → Offset
-offset_from said w = cond (eqb said 0) NoOffset (Minutes (signed_of w))
+unfoldable pub offset_from : ℕ → ℕ → Option ℤ
+offset_from said w = cond (eqb said 0) None (Some (signed_of w))
 
 -- whether an offset is said, and its word, or 0
-unfoldable pub offset_flag : Offset → ℕ
-offset_flag NoOffset = 0
-offset_flag (Minutes z) = 1
+unfoldable pub offset_flag : Option ℤ → ℕ
+offset_flag None = 0
+offset_flag (Some z) = 1
 
-unfoldable pub offset_word : Offset → ℕ
-offset_word NoOffset = 0
-offset_word (Minutes z) = word_of z
+unfoldable pub offset_word : Option ℤ → ℕ
+offset_word None = 0
+offset_word (Some z) = word_of z
 
 -- whether an hour, minute or second is said, 1 or 0, and its number, or 0
-abbrev pub flag : Said → ℕ
-flag Unsaid = 0
-flag (Is n) = 1
+abbrev pub flag : Option ℕ → ℕ
+flag None = 0
+flag (Some n) = 1
 
-abbrev pub number_or0 : Said → ℕ
-number_or0 Unsaid = 0
-number_or0 (Is n) = n
+abbrev pub number_or0 : Option ℕ → ℕ
+number_or0 None = 0
+number_or0 (Some n) = n
 
 -- everything here, for proofs that compute
 unfoldable pub computes : Unit {0}

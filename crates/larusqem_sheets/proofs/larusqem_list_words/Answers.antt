@@ -4,12 +4,8 @@ use Rattle.larusqem_sheets.proofs.larusqem_list_words.Goals as goal
 
 pub returns-then-is_held : goal.returns-then-is_held
 unfolding judged
-returns-then-is_held c =
-    let h = c in
-    rw (← h.wide.ensures.0, ← h.wide-2.ensures.0, ← h.is_held.ensures, c.if-is_held.true)
+returns-then-is_held c = rw (← c.is_held.ensures, c.if-is_held.true)
 
 pub returns : goal.returns
 unfolding judged
-returns c =
-    let h = c in
-    rw (← h.wide.ensures.0, ← h.wide-2.ensures.0, ← h.is_held.ensures, c.if-is_held.false)
+returns c = rw (← c.is_held.ensures, c.if-is_held.false)

@@ -4,20 +4,22 @@ use Rattle.sheets.specs.Sheets.{packing}
 use mathlib.Core.Path.{refl, sym, ap, ◌∙◌}
 use Rattle.larusqem_sheets.proofs.larusqem_pack_words.Goals as goal
 
-pub returns-in-Word : goal.returns-in-Word
+pub returns-in-Ok : goal.returns-in-Ok
 unfolding packed_number packed_word
-returns-in-Word c =
+returns-in-Ok c =
     let p = c in
-    rw (ap packing (sym p.fields_of.ensures) ∙ sym p.pack.ensures ∙ c.in-Word.is) (record { value = refl; word_after = refl })
+    rw (ap packing (sym p.words_fields.ensures) ∙ sym p.pack.ensures ∙ c.in-Ok.is) (record { value = refl; word_after = refl })
 
-pub returns-in-NoDay : goal.returns-in-NoDay
+pub returns-in-Err-NoDay : goal.returns-in-Err-NoDay
 unfolding packed_number packed_word
-returns-in-NoDay c =
+returns-in-Err-NoDay c =
     let p = c in
-    rw (ap packing (sym p.fields_of.ensures) ∙ sym p.pack.ensures ∙ c.in-NoDay.is) (record { value = refl; word_after = refl })
+    let e = rw c.in-Err-NoDay.field-0-is at (ap packing (sym p.words_fields.ensures) ∙ sym p.pack.ensures ∙ c.in-Err-NoDay.is) in
+    rw e (record { value = refl; word_after = refl })
 
-pub returns-in-Bad : goal.returns-in-Bad
+pub returns-in-Err-Bad : goal.returns-in-Err-Bad
 unfolding packed_number packed_word
-returns-in-Bad c =
+returns-in-Err-Bad c =
     let p = c in
-    rw (ap packing (sym p.fields_of.ensures) ∙ sym p.pack.ensures ∙ c.in-Bad.is) (record { value = refl; word_after = refl })
+    let e = rw c.in-Err-Bad.field-0-is at (ap packing (sym p.words_fields.ensures) ∙ sym p.pack.ensures ∙ c.in-Err-Bad.is) in
+    rw (e, ← c.number.ensures) (record { value = refl; word_after = refl })

@@ -3,13 +3,13 @@ use Rattle.larusqem_sheets.specs.Sheets.{unpacked_number, unpacked_words}
 use mathlib.Core.Path.{refl, sym, ◌∙◌}
 use Rattle.larusqem_sheets.proofs.larusqem_unpack_words.Goals as goal
 
-pub returns-in-Holds : goal.returns-in-Holds
+pub returns-in-Some : goal.returns-in-Some
 unfolding unpacked_number unpacked_words
-returns-in-Holds c =
+returns-in-Some c =
     let u = c.unpack in
-    rw (sym u.ensures ∙ c.in-Holds.is) (record { value = refl; sheet_after = c.tell.ensures })
+    rw (sym u.ensures ∙ c.in-Some.is) (record { value = refl; sheet_after = c.tell.ensures })
 
-pub returns-in-NoSheet : goal.returns-in-NoSheet
+pub returns-in-None : goal.returns-in-None
 unfolding unpacked_number unpacked_words
-returns-in-NoSheet c =
-    rw (sym c.unpack.ensures ∙ c.in-NoSheet.is) (record { value = refl; sheet_after = refl })
+returns-in-None c =
+    rw (sym c.unpack.ensures ∙ c.in-None.is) (record { value = refl; sheet_after = refl })

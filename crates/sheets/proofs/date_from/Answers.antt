@@ -1,20 +1,23 @@
 -- `sheets::date_from` meets its contract. Assumes nothing.
 use Rattle.sheets.specs.Sheets.{date_from}
 use borrow.Author.Tests.{eq-eqb, ne_eqb}
+use Rattle.sheets.proofs.date_from.Goals.{
+  else-year-eq0-via-then-year-eq0+then-month-eq0+else-day-eq0,
+  else-year-eq0-via-then-year-eq0+else-month-eq0,
+  else-year-eq0-via-else-year-eq0,
+}
 use Rattle.sheets.proofs.date_from.Goals as goal
 
-pub returns-then-year-ne0 : goal.returns-then-year-ne0
+pub returns-then-day-eq0 : goal.returns-then-day-eq0
 unfolding date_from
-returns-then-year-ne0 c = rw (ne_eqb _ 0 c.if-year-ne0.true)
-
-pub returns-then-month-ne0 : goal.returns-then-month-ne0
-unfolding date_from
-returns-then-month-ne0 c = rw (eq-eqb _ 0 c.if-year-ne0.false, ne_eqb _ 0 c.if-month-ne0.true)
-
-pub returns-then-day-ne0 : goal.returns-then-day-ne0
-unfolding date_from
-returns-then-day-ne0 c = rw (eq-eqb _ 0 c.if-year-ne0.false, eq-eqb _ 0 c.if-month-ne0.false, ne_eqb _ 0 c.if-day-ne0.true)
+returns-then-day-eq0 c = rw (eq-eqb _ 0 c.if-year-eq0.true, eq-eqb _ 0 c.if-month-eq0.true, eq-eqb _ 0 c.if-day-eq0.true)
 
 pub returns : goal.returns
 unfolding date_from
-returns c = rw (eq-eqb _ 0 c.if-year-ne0.false, eq-eqb _ 0 c.if-month-ne0.false, eq-eqb _ 0 c.if-day-ne0.false)
+returns c =
+    elim c.else-year-eq0.branch [
+      | else-year-eq0-via-then-year-eq0+then-month-eq0+else-day-eq0 w ↦
+          rw (eq-eqb _ 0 w.if-year-eq0.true, eq-eqb _ 0 w.if-month-eq0.true, ne_eqb _ 0 w.if-day-eq0.false)
+      | else-year-eq0-via-then-year-eq0+else-month-eq0 w ↦ rw (eq-eqb _ 0 w.if-year-eq0.true, ne_eqb _ 0 w.if-month-eq0.false)
+      | else-year-eq0-via-else-year-eq0 w ↦ rw (ne_eqb _ 0 w.if-year-eq0.false)
+    ]

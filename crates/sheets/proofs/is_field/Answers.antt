@@ -7,10 +7,10 @@ pub returns-then-field-eq0 : goal.returns-then-field-eq0
 unfolding is_field
 returns-then-field-eq0 c = rw (eq-eqb _ 0 c.if-field-eq0.true)
 
-pub returns-then-field-size : goal.returns-then-field-size
+pub returns-then-size-field : goal.returns-then-size-field
 unfolding is_field
-returns-then-field-size c = rw (ne_eqb _ 0 c.if-field-eq0.false, lt-leb _ _ c.if-field-size.true)
+returns-then-size-field c = rw (ne_eqb _ 0 c.if-field-eq0.false, le-leb _ _ c.if-size-field.true)
 
-pub returns : goal.returns
+pub returns-else-size-field : goal.returns-else-size-field
 unfolding is_field
-returns c = rw (ne_eqb _ 0 c.if-field-eq0.false, le-leb _ _ c.if-field-size.false)
+returns-else-size-field c = rw (ne_eqb _ 0 c.if-field-eq0.false, lt-leb _ _ c.if-size-field.false)

@@ -1,49 +1,43 @@
 -- `sheets::is_packing` meets its contract. Assumes nothing.
-use Rattle.sheets.proofs.Testing.{not_packing, by_last}
+use Rattle.sheets.proofs.Testing.{to_hour, to_minute, to_second, to_offset, tested}
 use Rattle.sheets.specs.Private.{is_date}
-use Rattle.laws.proofs.Cases.{clash}
-use mathlib.Core.Path.{sym, ap, ◌∙◌}
-use borrow.Author.Tests.{not-true, not-false}
+use mathlib.Core.Path.{◌≡◌, sym, ap, ◌∙◌}
 use native.Mathlib.Omega.{arith}
+use Rattle.sheets.proofs.is_packing.Goals.{Joined-is_field-3}
+use Rattle.sheets.proofs.is_packing.Goals.{then-is_date, else-is_date, then-is_field, else-is_field}
+use Rattle.sheets.proofs.is_packing.Goals.{then-is_field-2, else-is_field-2, then-is_field-3, else-is_field-3}
 use Rattle.sheets.proofs.is_packing.Goals as goal
 
-pub returns-then-not-is_date : goal.returns-then-not-is_date
-returns-then-not-is_date c =
-    let e = ap is_date (sym c.date_of.ensures) ∙ sym c.is_date.ensures ∙ not-true _ c.if-not-is_date.true-raw in
-    not_packing _ (λ t. let d = t.date in clash (cc))
+-- what the tests before the last give
+before_last : (c : Joined-is_field-3) → c.if-is_field-3.value ≡ to_offset c.args.word
+before_last c =
+    let d = c.is_date.ensures ∙ ap is_date c.date_of.ensures in
+    let h : c.if-is_date.value ≡ to_hour c.args.word
+    = elim c.if-is_date.branch [
+      | then-is_date w ↦ rw (sym d ∙ w.if-is_date.true) (w.value-is ∙ w.is_field.ensures)
+      | else-is_date w ↦ rw (sym d ∙ w.if-is_date.false) (w.value-is ∙ w.if-is_date.false)
+    ] in
+    let n : c.if-is_field.value ≡ to_minute c.args.word
+    = elim c.if-is_field.branch [
+      | then-is_field w ↦ rw (sym h ∙ w.if-is_field.true) (w.value-is ∙ w.is_field-then-is_field.ensures)
+      | else-is_field w ↦ rw (sym h ∙ w.if-is_field.false) (w.value-is ∙ w.if-is_field.false)
+    ] in
+    let s : c.if-is_field-2.value ≡ to_second c.args.word
+    = elim c.if-is_field-2.branch [
+      | then-is_field-2 w ↦ rw (sym n ∙ w.if-is_field-2.true) (w.value-is ∙ w.is_field-then-is_field-2.ensures)
+      | else-is_field-2 w ↦ rw (sym n ∙ w.if-is_field-2.false) (w.value-is ∙ w.if-is_field-2.false)
+    ] in
+    elim c.if-is_field-3.branch [
+      | then-is_field-3 w ↦ rw (sym s ∙ w.if-is_field-3.true) (w.value-is ∙ w.is_field-then-is_field-3.ensures)
+      | else-is_field-3 w ↦ rw (sym s ∙ w.if-is_field-3.false) (w.value-is ∙ w.if-is_field-3.false)
+    ]
 
-pub returns-then-not-is_field : goal.returns-then-not-is_field
-returns-then-not-is_field c =
-    let e = sym c.is_field.ensures ∙ not-true _ c.if-not-is_field.true-raw in
-    not_packing _ (λ t. let d = t.hour in clash (cc))
+pub returns-then-is_field-4 : goal.returns-then-is_field-4
+returns-then-is_field-4 c =
+    let b = before_last (goal.at.returns-then-is_field-4 c).Joined-is_field-3 in
+    rw (sym b ∙ c.if-is_field-4.true) at (tested c.args.word (omega arith))
 
-pub returns-then-not-is_field-2 : goal.returns-then-not-is_field-2
-returns-then-not-is_field-2 c =
-    let e = sym c.is_field-2.ensures ∙ not-true _ c.if-not-is_field-2.true-raw in
-    not_packing _ (λ t. let d = t.minute in clash (cc))
-
-pub returns-then-not-is_field-3 : goal.returns-then-not-is_field-3
-returns-then-not-is_field-3 c =
-    let e = sym c.is_field-3.ensures ∙ not-true _ c.if-not-is_field-3.true-raw in
-    not_packing _ (λ t. let d = t.second in clash (cc))
-
-pub returns-then-not-is_field-4 : goal.returns-then-not-is_field-4
-returns-then-not-is_field-4 c =
-    let e = sym c.is_field-4.ensures ∙ not-true _ c.if-not-is_field-4.true-raw in
-    not_packing _ (λ t. let d = t.offset in clash (cc))
-
-pub returns : goal.returns
-returns c =
-    by_last _ (omega arith) (λ l.
-    record {
-      date = ap is_date (sym c.date_of.ensures) ∙ sym
-          c.is_date.ensures ∙ not-false _
-          c.if-not-is_date.false-raw;
-      hour = sym c.is_field.ensures ∙ not-false _
-          c.if-not-is_field.false-raw;
-      minute = sym c.is_field-2.ensures ∙ not-false _
-          c.if-not-is_field-2.false-raw;
-      second = sym c.is_field-3.ensures ∙ not-false _ c.if-not-is_field-3.false-raw;
-      offset = sym c.is_field-4.ensures ∙ not-false _ c.if-not-is_field-4.false-raw;
-      low = l;
-    })
+pub returns-else-is_field-4 : goal.returns-else-is_field-4
+returns-else-is_field-4 c =
+    let b = before_last (goal.at.returns-else-is_field-4 c).Joined-is_field-3 in
+    c.if-is_field-4.false ∙ (rw (sym b ∙ c.if-is_field-4.false) at (tested c.args.word (omega arith)))

@@ -14,11 +14,11 @@ overflow_add-day_number c =
 pub date_word-requires : goal.date_word-requires
 date_word-requires c =
     let f = c in
-    day_year _ (sym f.from_day_number.ensures ∙ c.in-Day.is)
+    day_year _ (sym f.from_day_number.ensures ∙ c.in-Some.is)
 
-pub returns-in-Day : goal.returns-in-Day
+pub returns-in-Some : goal.returns-in-Some
 unfolding next_week word_from
-returns-in-Day c =
+returns-in-Some c =
     let f = c in
     let d = f.date_of-date.ensures in
     rw (
@@ -26,12 +26,12 @@ returns-in-Day c =
       ← f.weekday.ensures,
       ← f.day_number.ensures,
       ← f.from_day_number.ensures,
-      c.in-Day.is,
+      c.in-Some.is,
     ) c.date_word.ensures
 
-pub returns-in-Outside : goal.returns-in-Outside
+pub returns-in-None : goal.returns-in-None
 unfolding next_week word_from
-returns-in-Outside c =
+returns-in-None c =
     let f = c in
     let d = f.date_of-date.ensures in
-    rw (← d, ← f.weekday.ensures, ← f.day_number.ensures, ← f.from_day_number.ensures, c.in-Outside.is)
+    rw (← d, ← f.weekday.ensures, ← f.day_number.ensures, ← f.from_day_number.ensures, c.in-None.is)

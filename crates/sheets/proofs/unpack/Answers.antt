@@ -1,13 +1,12 @@
 -- `sheets::unpack` meets its contract. Assumes nothing.
 use Rattle.sheets.specs.Sheets.{unpacking}
 use mathlib.Core.Path.{sym, ◌∙◌}
-use borrow.Author.Tests.{not-true, not-false}
 use Rattle.sheets.proofs.unpack.Goals as goal
 
-pub returns-then-not-is_packing : goal.returns-then-not-is_packing
+pub returns-then-is_packing : goal.returns-then-is_packing
 unfolding unpacking
-returns-then-not-is_packing c = rw (sym c.is_packing.ensures ∙ not-true _ c.if-not-is_packing.true-raw)
+returns-then-is_packing c = rw (sym c.is_packing.ensures ∙ c.if-is_packing.true, c.sheet_of.ensures)
 
-pub returns : goal.returns
+pub returns-else-is_packing : goal.returns-else-is_packing
 unfolding unpacking
-returns c = rw (sym c.is_packing.ensures ∙ not-false _ c.if-not-is_packing.false-raw, c.sheet_of.ensures)
+returns-else-is_packing c = rw (sym c.is_packing.ensures ∙ c.if-is_packing.false)

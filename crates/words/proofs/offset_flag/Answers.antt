@@ -1,11 +1,9 @@
 -- `words::offset_flag` meets its contract.
+use Rattle.std.proofs.Common.{arith}
+use Rattle.std.proofs.lemmas.Grind.{common_steps}
 use Rattle.words.specs.Words.{offset_flag}
 use Rattle.words.proofs.offset_flag.Goals as goal
 
-pub returns-in-Unsaid : goal.returns-in-Unsaid
+pub returns : goal.returns
 unfolding offset_flag
-returns-in-Unsaid c = rw c.in-Unsaid.is
-
-pub returns-in-Minutes : goal.returns-in-Minutes
-unfolding offset_flag
-returns-in-Minutes c = rw c.in-Minutes.is
+returns c = grind (arith, common_steps)

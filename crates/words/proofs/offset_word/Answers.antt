@@ -1,16 +1,18 @@
 -- `words::offset_word` meets its contract.
-use mathlib.Core.Path.{ap, ◌∙◌}
+use borrow.Author.Rules.{rules}
 use mir.Facts.{to_z-of_z}
 use mir.Syntax.{w32}
-use Rattle.words.specs.Words.{word_of, offset_word}
+use mir.Val.{SFits}
+use Rattle.words.specs.Words.{offset_word}
+use Rattle.words.proofs.Signed.{word_is}
 use Rattle.words.proofs.offset_word.Goals as goal
 
-pub returns-in-Unsaid : goal.returns-in-Unsaid
+pub returns-in-None : goal.returns-in-None
 unfolding offset_word
-returns-in-Unsaid c = rw c.in-Unsaid.is
+returns-in-None c = rw c.in-None.is
 
-pub returns-in-Minutes : goal.returns-in-Minutes
+pub returns-in-Some : goal.returns-in-Some
 unfolding offset_word
-returns-in-Minutes c =
-    let o = c in
-    rw o.in-Minutes.is (c.word_of.ensures ∙ ap word_of (to_z-of_z {w = w32} (record { sfits = c.in-Minutes.known_told-1-own.given.0.1 })))
+returns-in-Some c =
+    let f : SFits w32 c.in-Some.east = search rules in
+    rw (c.in-Some.is, ← word_is c.in-Some.east) (rw (to_z-of_z f) at c.cast_unsigned.ensures)

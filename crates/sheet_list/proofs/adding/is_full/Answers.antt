@@ -8,13 +8,11 @@ use lib.Seq.{length-take-le}
 use mathlib.Core.Path.{sym, ap, ◌∙◌}
 use mathlib.Core.Bool.{not}
 use native.Mathlib.Omega.{arith}
+use borrow.Author.Tests.{eq-eqb, ne_eqb}
 use Rattle.sheet_list.proofs.adding.is_full.Goals as goal
 
 pub returns-then-count-words : goal.returns-then-count-words
-returns-then-count-words c = full_array _ _ c.if-count-words.true
-
-pub returns-then-weeks-ne-TABLE_LENGTH : goal.returns-then-weeks-ne-TABLE_LENGTH
-returns-then-weeks-ne-TABLE_LENGTH c = weeks_left _ _ c.if-count-words.false c.if-weeks-ne-TABLE_LENGTH.true
+returns-then-count-words c = eq-eqb _ _ c.if-count-words.true ∙ full_array _ _ c.if-count-words.true
 
 pub slice_bounds-has_week-end : goal.slice_bounds-has_week-end
 slice_bounds-has_week-end c =
@@ -27,9 +25,13 @@ has_week-requires c =
     let s = c in
     (table_rises _ (sound _ s.requires.weeks_value), omega (arith, c.week_of.ensures, packing_week s.args.word s.requires.word_value))
 
-pub returns : goal.returns
-returns c =
+pub returns-then-weeks-eq-TABLE_LENGTH : goal.returns-then-weeks-eq-TABLE_LENGTH
+returns-then-weeks-eq-TABLE_LENGTH c =
     let s = c in
     ap not (c.has_week.ensures ∙ ap (λ k. week_in k (take s.args.weeks s.args.table.now)) c.week_of.ensures)
     ∙ sym (by_weeks s.args.word _ c.if-count-words.false (sound _ s.requires.weeks_value)
-    c.if-weeks-ne-TABLE_LENGTH.false)
+    c.if-weeks-eq-TABLE_LENGTH.true)
+
+pub returns-else-weeks-eq-TABLE_LENGTH : goal.returns-else-weeks-eq-TABLE_LENGTH
+returns-else-weeks-eq-TABLE_LENGTH c =
+    ne_eqb _ _ c.if-weeks-eq-TABLE_LENGTH.false ∙ weeks_left _ _ c.if-count-words.false c.if-weeks-eq-TABLE_LENGTH.false

@@ -2,14 +2,8 @@
 use Rattle.sheet_list.proofs.Ranks.{below_most, inserted_is}
 use lib.Seq.{length-take-le}
 use lib.ListN.{take}
-use mathlib.Core.Path.{sym}
 use native.Mathlib.Omega.{arith}
 use Rattle.sheet_list.proofs.ascending.insert.Goals as goal
-
-pub slice_bounds-rank-end-2 : goal.slice_bounds-rank-end-2
-slice_bounds-rank-end-2 c =
-    let s = c in
-    sym (length-take-le s.args.count s.args.words.now (omega arith))
 
 pub put_at-requires : goal.put_at-requires
 put_at-requires c =

@@ -1,25 +1,24 @@
 -- `sheet_list::ascending::put_at` meets its contract. Assumes nothing.
-use Rattle.sheet_list.proofs.Shifting.{shifted_length, done}
-use Rattle.sheet_list.specs.Private.{Moves}
-use lib.ListN.{length-set}
-use mathlib.Core.Path.{◌∙◌}
+use Rattle.sheet_list.proofs.Shifting.{put_is, in_two}
+use Rattle.std.specs.List.{copy_within}
+use lib.ListN.{set}
+use mathlib.Core.List.{List}
+use mathlib.Core.Path.{ap, ◌∙◌}
+use native.Mathlib.Omega.{arith}
+use Prim.Native.Nat.{ℕ, ◌+◌, ◌≤◌}
+use Rattle.sheet_list.proofs.ascending.put_at.Goals.{then-count-eq0+then-at-count, else-count-eq0}
 use Rattle.sheet_list.proofs.ascending.put_at.Goals as goal
 
-pub shape_of-words : goal.shape_of-words
-shape_of-words c =
-    let s = c in
-    let w = s.args.words.now in
-    let m = c.move_last-from in
-    let u = c.move_up in
-    length-set u.new.words s.args.at s.args.word
-    ∙ u.ensures.words_len_unchanged
-    ∙ shifted_length w s.args.count s.requires.1 m.new.words m.result m.ensures.lower_bound.1 m.ensures.shifted
-
 pub returns : goal.returns
-unfolding Moves
 returns c =
-    let s = c in
-    let w = s.args.words.now in
-    let m = c.move_last-from in
-    done w s.args.count s.requires.1 _ s.args.at s.args.word s.requires.0
-    (c.move_up.ensures.moves w s.requires.1 m.ensures.shifted)
+    let a = c.args in
+    let w = a.words.now in
+    let f = c.if-count-eq0.from in
+    let b : (a.at ≤ f) × (f ≤ a.count)
+    = elim c.if-count-eq0.branch [
+      | then-count-eq0+then-at-count w ↦ (omega arith, omega arith)
+      | else-count-eq0 w ↦ (omega arith, omega arith)
+    ] in
+    let m = c.copy_within-2.ensures.after ∙ ap (λ (v : List ℕ). copy_within v a.at f (a.at + 1)) c.copy_within.ensures.after
+    ∙ in_two w a.at f a.count b.0 b.1 c.requires.1 in
+    ap (λ (v : List ℕ). set v a.at a.word) m ∙ put_is w a.at a.count a.word c.requires.0 c.requires.1

@@ -1,60 +1,47 @@
 -- `sheet_list::judging::is_held` meets its contract. Assumes nothing.
-use Rattle.sheet_list.proofs.Holding.{too_long_lem, past_end, other_length, past_table, no_list, by_table, listed}
-use lib.ListN.{take}
-use lib.Seq.{length-take-le}
+use Rattle.sheet_list.proofs.Holding.{not_held, no_list, by_table}
 use mathlib.Core.Path.{sym, ◌∙◌}
-use borrow.Author.Tests.{not-true, not-false}
 use native.Mathlib.Omega.{arith}
+use Rattle.std.proofs.lemmas.Bool.Decides.{nat_tests}
+use Rattle.laws.proofs.Cases.{clash}
+use Rattle.sheet_list.specs.Adding.{held}
+use Rattle.sheet_list.proofs.judging.is_held.Goals.{then-weeks-table, else-weeks-table}
+use Rattle.sheet_list.proofs.judging.is_held.Goals.{then-words-le-MOST_WORDS, else-words-le-MOST_WORDS}
+use Rattle.sheet_list.proofs.judging.is_held.Goals.{then-count-words, else-count-words}
+use Rattle.sheet_list.proofs.judging.is_held.Goals.{then-table-eq-TABLE_LENGTH, else-table-eq-TABLE_LENGTH}
 use Rattle.sheet_list.proofs.judging.is_held.Goals as goal
 
-pub returns-then-words-gt-MOST_WORDS : goal.returns-then-words-gt-MOST_WORDS
-returns-then-words-gt-MOST_WORDS c =
-    let s = c in
-    too_long_lem _ c.if-words-gt-MOST_WORDS.true
+pub returns-then-is_list : goal.returns-then-is_list
+returns-then-is_list c =
+    elim c.if-weeks-table.branch [
+      | then-weeks-table w ↦
+          c.is_table.ensures
+          ∙ sym (by_table (held c.args.words.now c.args.count c.args.table.now c.args.weeks) (omega arith) (omega arith) (omega arith)
+          (omega arith)
+          (sym w.is_list.ensures ∙ sym w.value-is ∙ c.if-is_list.true))
+      | else-weeks-table w ↦ clash cc
+    ]
 
-pub returns-then-words-count : goal.returns-then-words-count
-returns-then-words-count c =
-    let s = c in
-    past_end _ (omega arith) c.if-words-count.true
-
-pub returns-then-table-ne-TABLE_LENGTH : goal.returns-then-table-ne-TABLE_LENGTH
-returns-then-table-ne-TABLE_LENGTH c =
-    let s = c in
-    other_length _ (omega arith) (omega arith) c.if-table-ne-TABLE_LENGTH.true
-
-pub returns-then-table-weeks : goal.returns-then-table-weeks
-returns-then-table-weeks c =
-    let s = c in
-    past_table _ (omega arith) (omega arith) (omega arith) c.if-table-weeks.true
-
-pub slice_bounds-is_list-end : goal.slice_bounds-is_list-end
-slice_bounds-is_list-end c =
-    let s = c in
-    sym (length-take-le s.args.count s.args.words.now (omega arith))
-
-pub returns-then-not-is_list : goal.returns-then-not-is_list
-returns-then-not-is_list c =
-    no_list _ (omega arith) (omega arith) (omega arith) (omega arith) (sym c.is_list.ensures ∙ not-true _ c.if-not-is_list.true-raw)
-
-pub slice_bounds-is_table-end : goal.slice_bounds-is_table-end
-slice_bounds-is_table-end c =
-    let s = c in
-    sym (length-take-le s.args.count s.args.words.now (omega arith))
-
-pub slice_bounds-is_table-end-2 : goal.slice_bounds-is_table-end-2
-slice_bounds-is_table-end-2 c =
-    let s = c in
-    sym (length-take-le s.args.weeks s.args.table.now (omega arith))
-
-pub is_table-requires : goal.is_table-requires
-is_table-requires c =
-    let s = c in
-    let n = length-take-le s.args.count s.args.words.now (omega arith) in
-    listed (take s.args.count s.args.words.now) (omega (arith, n))
-    (sym c.is_list.ensures ∙ not-false _ c.if-not-is_list.false-raw)
-
-pub returns : goal.returns
-returns c =
-    c.is_table.ensures
-    ∙ sym (by_table _ (omega arith) (omega arith) (omega arith) (omega arith)
-    (sym c.is_list.ensures ∙ not-false _ c.if-not-is_list.false-raw))
+pub returns-else-is_list : goal.returns-else-is_list
+returns-else-is_list c =
+    elim c.if-weeks-table.branch [
+      | then-weeks-table w ↦
+          c.if-is_list.false ∙
+          no_list (held c.args.words.now c.args.count c.args.table.now c.args.weeks)
+          (sym w.is_list.ensures ∙ sym w.value-is ∙ c.if-is_list.false)
+      | else-weeks-table w ↦
+          c.if-is_list.false
+          ∙ not_held (held c.args.words.now c.args.count c.args.table.now c.args.weeks) (λ v.
+          elim c.if-table-eq-TABLE_LENGTH.branch [
+            | then-table-eq-TABLE_LENGTH a ↦ grind (arith, nat_tests, v.size, v.inside)
+            | else-table-eq-TABLE_LENGTH a ↦
+                elim c.if-count-words.branch [
+                  | then-count-words b ↦ grind (arith, nat_tests, v.size)
+                  | else-count-words b ↦
+                      elim c.if-words-le-MOST_WORDS.branch [
+                        | then-words-le-MOST_WORDS d ↦ grind (arith, nat_tests, v.within)
+                        | else-words-le-MOST_WORDS d ↦ grind (arith, nat_tests, v.short)
+                      ]
+                ]
+          ])
+    ]

@@ -1,37 +1,22 @@
 -- `sheet_list::judging::is_list` meets its contract. Assumes nothing.
-use Rattle.sheet_list.proofs.Listing.{listing_start, listing_end, listing_falls, listing_breaks, listing_on}
+use Rattle.std.proofs.Common.{rules, tests}
+use Rattle.std.proofs.lemmas.Iterator.{YieldsList-from_slice}
+use Rattle.std.proofs.lemmas.Iterator.Search.{all_from_yields_List}
+use Rattle.std.proofs.lemmas.List.Sorted.{non_decreasing_from_is_sorted}
+use Rattle.sheets.specs.Sheets.{is_packing}
 use mathlib.Core.Path.{sym, ◌∙◌}
-use borrow.Author.Tests.{not-true, not-false}
-use native.Mathlib.Omega.{arith}
+use Rattle.sheet_list.proofs.Listing.{sorted_is, listed, unsorted}
 use Rattle.sheet_list.proofs.judging.is_list.Goals as goal
 
-pub loop-i-init : goal.loop-i-init
-loop-i-init c = (omega arith, listing_start c.args.words.now)
+pub returns-then-is_sorted : goal.returns-then-is_sorted
+returns-then-is_sorted c =
+    let w = c.args.words.now in
+    let a = sorted_is w _ (non_decreasing_from_is_sorted w _ c.is_sorted.ensures.cases) in
+    listed w _ (sym a ∙ c.if-is_sorted.true)
+    (all_from_yields_List is_packing _ _ _ c.all.ensures.ran (YieldsList-from_slice w cc) (λ x b q k. search (rules, tests)))
 
-pub returns-then-word-low : goal.returns-then-word-low
-returns-then-word-low c =
-    let s = c in
-    let l = c.loop-i in
-    listing_falls s.args.words.now l.low l.i (omega arith) l.invariant.1 c.if-word-low.true
-
-pub returns-then-not-is_packing : goal.returns-then-not-is_packing
-returns-then-not-is_packing c =
-    let s = c in
-    let l = c.loop-i in
-    listing_breaks s.args.words.now l.low l.i (omega arith) l.invariant.1
-    (sym c.is_packing.ensures ∙ not-true _ c.if-not-is_packing.true-raw)
-
-pub loop-i-preserved : goal.loop-i-preserved
-loop-i-preserved c =
-    let s = c in
-    let l = c.loop-i in (
-      omega arith,
-      listing_on s.args.words.now l.low l.i (omega arith) l.invariant.1 c.if-word-low.false
-          (sym c.is_packing.ensures ∙ not-false _ c.if-not-is_packing.false-raw),
-    )
-
-pub returns : goal.returns
-returns c =
-    let s = c in
-    let l = c.loop-i in
-    listing_end s.args.words.now l.low l.i (omega arith) l.invariant.1
+pub returns-else-is_sorted : goal.returns-else-is_sorted
+returns-else-is_sorted c =
+    let w = c.args.words.now in
+    let a = sorted_is w _ (non_decreasing_from_is_sorted w _ c.is_sorted.ensures.cases) in
+    c.if-is_sorted.false ∙ unsorted w (sym a ∙ c.if-is_sorted.false)

@@ -9,16 +9,6 @@ use Prim.Native.Nat.{◌+◌, ◌*◌, ◌<◌}
 use native.Mathlib.Omega.{arith}
 use Rattle.sheet_list.proofs.weeks.count_week.Goals as goal
 
-pub slice_bounds-rank-end-2 : goal.slice_bounds-rank-end-2
-slice_bounds-rank-end-2 c =
-    let s = c in
-    sym (length-take-le s.args.weeks s.args.table.now (omega arith))
-
-pub slice_bounds-is_week_at-end-2 : goal.slice_bounds-is_week_at-end-2
-slice_bounds-is_week_at-end-2 c =
-    let s = c in
-    sym (length-take-le s.args.weeks s.args.table.now (omega arith))
-
 pub offset_bounds-table-at : goal.offset_bounds-table-at
 offset_bounds-table-at c =
     let a = c in

@@ -6,11 +6,8 @@ use Rattle.sheets.specs.Sheets.{is_packing, week_of}
 use Rattle.laws.proofs.Lists.{each}
 use lib.ListN.{get_or}
 use native.Mathlib.Omega.{arith}
-use mathlib.Core.Path.{refl, sym, ◌∙◌}
+use mathlib.Core.Path.{sym, ◌∙◌}
 use Rattle.sheet_list.proofs.weeks.is_table.Goals as goal
-
-pub loop-i-init : goal.loop-i-init
-loop-i-init c = (omega arith, omega arith, refl)
 
 pub returns-then-table-j : goal.returns-then-table-j
 returns-then-table-j c =
@@ -19,9 +16,6 @@ returns-then-table-j c =
     let w = list_weekly s.args.words.now s.requires.packings s.requires.ascends in
     walk_short s.args.words.now s.args.table.now w l.i l.j (omega arith) c.if-table-j.true l.invariant.2
 
-pub week_end-end-requires : goal.week_end-end-requires
-week_end-end-requires c = (omega arith, c.requires)
-
 pub overflow_mul-week : goal.overflow_mul-week
 overflow_mul-week c =
     let s = c in
@@ -29,9 +23,6 @@ overflow_mul-week c =
     let p = each is_packing 0 s.args.words.now s.requires.packings l.i (λ h. absurd (omega arith)) in
     let m = packing_week (get_or s.args.words.now l.i 0) p in
     record { fits = omega (arith, c.week_of-week.ensures, m) }
-
-pub overflow_sub-end : goal.overflow_sub-end
-overflow_sub-end c = omega (arith, c.week_end-end.ensures)
 
 pub overflow_add-week : goal.overflow_add-week
 overflow_add-week c =

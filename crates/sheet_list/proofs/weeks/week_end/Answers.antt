@@ -1,38 +1,30 @@
 -- `sheet_list::weeks::week_end` meets its contract. Assumes nothing.
-use Rattle.sheet_list.proofs.Runs.{run_stops, run_goes, run_ends, later_week, that_week}
+use Rattle.std.proofs.Common.{rules, tests, arith, leb, drop, ap, ◌+◌, ◌∙◌, ◌≡◌, get_or}
+use Rattle.std.proofs.lemmas.Iterator.{YieldsList-from_slice}
+use Rattle.std.proofs.lemmas.Iterator.Search.{position_from_yields_List}
+use Rattle.std.proofs.lemmas.List.{take_all, length-drop}
+use Rattle.std.specs.List.{position}
 use Rattle.sheets.specs.Sheets.{next_week}
-use lib.ListN.{get_or}
-use native.Mathlib.Omega.{arith}
-use mathlib.Core.Path.{refl}
-use Prim.Native.Nat.{◌≤◌, ◌<◌}
+use Rattle.sheet_list.proofs.Runs.{run_found, run_whole}
+use Rattle.sheet_list.proofs.weeks.week_end.Goals.{After-position}
 use Rattle.sheet_list.proofs.weeks.week_end.Goals as goal
 
-pub loop-i-init : goal.loop-i-init
-loop-i-init c = (omega arith, omega arith, refl)
+-- what `position` gives: of the words from `from` on, which all of the part are
+found : (c : After-position)
+    → c.position.result ≡ position (λ x. leb (next_week (get_or c.args.words.now c.args.from 0)) x) (drop c.args.from c.args.words.now)
+found c =
+    let w = c.args.words.now in
+    let later = next_week (get_or w c.args.from 0) in
+    let part = take_all _ (drop c.args.from w) (omega (arith, length-drop c.args.from w)) in
+    position_from_yields_List (λ x. leb later x) _ _ _ c.position.ensures.ran
+    (YieldsList-from_slice (drop c.args.from w) (c.iter.ensures.rest ∙ part)) (λ x b q k. search (rules, tests))
 
-pub returns-then-later-words : goal.returns-then-later-words
-returns-then-later-words c =
-    let s = c in
-    let l = c.loop-i in
-    let n : next_week (get_or s.args.words.now s.args.from 0) ≤ get_or s.args.words.now l.i 0
-    = omega (arith, c.next_week-later.ensures, c.if-later-words.true) in
-    run_stops _ s.args.from s.args.words.now l.i (omega arith)
-    (later_week s.args.words.now s.requires.1 s.args.from l.i l.invariant.0 (omega arith) n) l.invariant.2
+pub returns-in-Some : goal.returns-in-Some
+returns-in-Some c =
+    let p = found (goal.at.returns-in-Some c).After-position in
+    ap (λ n. c.args.from + n) (run_found c.args.words.now c.requires.1 c.args.from c.requires.0 p _ c.in-Some.is)
 
-pub loop-i-preserved : goal.loop-i-preserved
-loop-i-preserved c =
-    let s = c in
-    let l = c.loop-i in
-    let n : get_or s.args.words.now l.i 0 < next_week (get_or s.args.words.now s.args.from 0)
-    = omega (arith, c.next_week-later.ensures, c.if-later-words.false) in (
-      omega arith,
-      omega arith,
-      run_goes _ s.args.from s.args.words.now l.i (omega arith)
-          (that_week s.args.words.now s.requires.1 s.args.from l.i l.invariant.0 (omega arith) n) l.invariant.2,
-    )
-
-pub returns : goal.returns
-returns c =
-    let s = c in
-    let l = c.loop-i in
-    run_ends _ s.args.from s.args.words.now l.i (omega arith) l.invariant.2
+pub returns-in-None : goal.returns-in-None
+returns-in-None c =
+    let p = found (goal.at.returns-in-None c).After-position in
+    run_whole c.args.words.now c.requires.1 c.args.from c.requires.0 p c.in-None.is

@@ -1,6 +1,6 @@
--- `sheets::fields_from` meets its contract. Assumes nothing.
+-- `sheets::words_fields` meets its contract. Assumes nothing.
 use Rattle.sheets.specs.Sheets.{fields_from}
-use Rattle.sheets.proofs.fields_from.Goals as goal
+use Rattle.sheets.proofs.words_fields.Goals as goal
 
 pub returns : goal.returns
 unfolding fields_from
