@@ -9,8 +9,6 @@ use lib.ListN.{length, get_or, take, length-take}
 use lib.Seq.{get_or-take, take-nil}
 use Rattle.laws.specs.Lists.{every}
 use Rattle.format.specs.Opening.{longest, most_elements, is_byte, opened, opened_into}
-use Rattle.format.specs.declared.opening.Opened.{Opened}
-use Rattle.format.specs.declared.opening.Opened.TheVariants.{Done, TooLong, Bad}
 use Rattle.format.specs.declared.opening.Side.TheVariants.{Reader}
 use Rattle.format.proofs.Elements.{are_bytes}
 use Rattle.format.proofs.Openings.{opened_done, opened_bad, opened_long, stored}
@@ -19,6 +17,9 @@ use Rattle.lists.specs.Answers.{opened_reading, opened_elements}
 use Rattle.strptime.specs.Answers.{reading}
 use Rattle.strptime.proofs.Opened.{read_by_elements}
 use Rattle.strptime.proofs.Opens.{format_long, conversion_bad}
+use Rattle.std.specs.Prelude.{Err, Ok, Result, ℕ}
+use Rattle.format.specs.declared.opening.Unopened.TheVariants.{Bad, TooLong}
+use Rattle.format.specs.declared.opening.Unopened.{Unopened}
 
 -- the first bytes of a slice
 pub first_bytes : (s : List ℕ) (n : ℕ) → ((k : ℕ) → get_or s k 0 < 256) → every is_byte (take n s) ≡ true
@@ -34,25 +35,24 @@ first_few (e ∷ es) (suc n) =
     rw m (ap (λ (l : List ℕ). e ∷ l) (first_few es n))
 
 -- the first entries that opening a format stored are its elements
-pub elements_first : (o : Opened) (es : List ℕ) → take (length (opened_elements o es)) es ≡ opened_elements o es
+pub elements_first : (o : Result ℕ Unopened) (es : List ℕ) → take (length (opened_elements o es)) es ≡ opened_elements o es
 unfolding opened_elements
-elements_first (Done n) es = rw (length-take n es) (first_few es n)
-elements_first TooLong es = refl
-elements_first (Bad p) es = refl
+elements_first (Ok n) es = rw (length-take n es) (first_few es n)
+elements_first (Err why) es = refl
 
 -- ---- a format answers each text as its opening does, which stored its elements into entries that have room for all of them
-pub answers : (f room : List ℕ) {r : Opened} {es : List ℕ} → every is_byte f ≡ true → most_elements ≤ length room
+pub answers : (f room : List ℕ) {r : Result ℕ Unopened} {es : List ℕ} → every is_byte f ≡ true → most_elements ≤ length room
     → most_elements ≤ length es
     → r ≡ opened Reader f → es ≡ opened_into Reader f room → (s : List ℕ) → opened_reading r es s ≡ reading f s
 unfolding opened_reading
 answers f room {r} {es} b h k e g s = go r refl
   where
-    go : (q : Opened) → r ≡ q → opened_reading q es s ≡ reading f s
-    go (Done n) d =
+    go : (q : Result ℕ Unopened) → r ≡ q → opened_reading q es s ≡ reading f s
+    go (Ok n) d =
         let o = opened_done Reader f e d in
         rw (stored Reader f room g o (omega (arith, o.few))) (read_by_elements Skipping f o.short b o.whole s)
-    go TooLong d = format_long Skipping f s (opened_long Reader f e d)
-    go (Bad p) d =
+    go (Err TooLong) d = format_long Skipping f s (opened_long Reader f e d)
+    go (Err (Bad p)) d =
         let o = opened_bad Reader f e d in
         let m : min p longest ≡ p = omega (arith, o.within, o.short) in
         rw m (conversion_bad Skipping f s o.short o.bad)

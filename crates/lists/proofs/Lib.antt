@@ -7,3 +7,4 @@ pub mod NextLine
 pub mod Parts
 pub mod Puts
 pub mod Splitting
+pub mod Writing

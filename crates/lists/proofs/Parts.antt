@@ -4,14 +4,16 @@ use Prim.Native.Nat.{ℕ, ◌≤◌}
 use mathlib.Core.List.{List, [], ◌∷◌, ◌++◌}
 use mathlib.Core.Path.{◌≡◌, sym, ap, ◌∙◌}
 use lib.ListN.{length, take}
-use Rattle.format.specs.declared.opening.Opened.{Opened}
 use Rattle.lists.specs.Parts.{Left, Made, ToEnd, bytes_of, InParts}
+use Rattle.std.specs.Prelude.{Result, ℕ}
+use Rattle.format.specs.declared.opening.Unopened.{Unopened}
 
 -- nothing is left at the input's end
 module _ (report : List ℕ → List ℕ) (left : Left)
-    (at_end : (o : Opened) (es s : List ℕ) (from : ℕ) → length s ≤ from → left o es s from ≡ []) where
+    (at_end : (o : Result ℕ Unopened) (es s : List ℕ) (from : ℕ) → length s ≤ from → left o es s from ≡ []) where
   -- from a place on, they make what is left there
-  from-there : (o : Opened) (es s : List ℕ) (from : ℕ) (ms : List Made) → ToEnd left o es s from ms → bytes_of ms ≡ left o es s from
+  from-there : (o : Result ℕ Unopened) (es s : List ℕ) (from : ℕ) (ms : List Made) → ToEnd left o es s from ms → bytes_of ms
+      ≡ left o es s from
   unfolding ToEnd bytes_of
   from-there o es s from [] h = sym (at_end o es s from h)
   from-there o es s from (m ∷ ms) (p, q) =

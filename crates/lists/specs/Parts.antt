@@ -1,12 +1,13 @@
 -- A report on a list that is made in parts: a first one that opens the list's format, then as many for the texts as it takes.
 use Rattle.std.specs.Prelude.{ℕ, suc, ◌≤◌, ◌<◌, cond, List, [], ◌∷◌, ◌++◌, ◌≡◌, leb, length, take, drop}
 use Rattle.format.specs.Opening.{opened, opened_into}
-use Rattle.format.specs.declared.opening.Opened.{Opened}
 use Rattle.format.specs.declared.opening.Side.TheVariants.{Reader}
 use Rattle.lists.specs.Lines.{line_length, longest_input, too_long}
 use Rattle.lists.specs.Putting.{Put}
 use Rattle.lists.specs.declared.First.{First}
 use Rattle.lists.specs.declared.Next.{Next}
+use Rattle.std.specs.Prelude.{Result}
+use Rattle.format.specs.declared.opening.Unopened.{Unopened}
 
 -- A part of what is to be reported: n bytes at the front of a buffer, and the rest is left to report. Every other byte is as it was.
 pub record Part (whole before after : List ℕ) (n : ℕ) (rest : List ℕ) : Type 0 where
@@ -16,7 +17,7 @@ pub record Part (whole before after : List ℕ) (n : ℕ) (rest : List ℕ) : Ty
 
 -- what is left to report for the texts of an input from a place on, by what opening the format answered and stored
 abbrev pub Left : Type 0
-Left = Opened → List ℕ → List ℕ → ℕ → List ℕ
+Left = Result ℕ Unopened → List ℕ → List ℕ → ℕ → List ℕ
 
 -- the first part of a report: the first line is opened as the format, and what is for the texts from a place on is left
 pub record FirstPart (report : List ℕ → List ℕ) (left : Left) (s room elements before after : List ℕ) (r : First) : Type 0 where
@@ -25,7 +26,7 @@ pub record FirstPart (report : List ℕ → List ℕ) (left : Left) (s room elem
   pub puts : Part (report s) before after r.count (left r.opened elements s r.next)
 
 -- a part from a place of the input on: it goes on where there is a text
-pub record NextPart (left : Left) (o : Opened) (elements s : List ℕ) (from : ℕ) (before after : List ℕ) (r : Next) : Type 0 where
+pub record NextPart (left : Left) (o : Result ℕ Unopened) (elements s : List ℕ) (from : ℕ) (before after : List ℕ) (r : Next) : Type 0 where
   pub puts : Part (left o elements s from) before after r.count (left o elements s r.next)
   pub goes : from < length s → from < r.next
 
@@ -45,7 +46,7 @@ pub record Made : Type 0 where
   pub made : Next
 
 -- parts one after the other, each from where the one before ended, up to the input's end
-unfoldable pub ToEnd : Left → Opened → List ℕ → List ℕ → ℕ → List Made → Type 0
+unfoldable pub ToEnd : Left → Result ℕ Unopened → List ℕ → List ℕ → ℕ → List Made → Type 0
 ToEnd left o es s from [] = length s ≤ from
 ToEnd left o es s from (m ∷ ms) =
     NextPart left o es s from m.before m.after m.made × ToEnd left o es s m.made.next ms

@@ -1,35 +1,29 @@
 // How the texts of a list are answered by its format, which is opened once.
-ghost use Rattle.std.specs.Prelude.{◌≡◌, min, length};
+ghost use Rattle.std.specs.Prelude.{◌≡◌, length};
 ghost use Rattle.strptime.specs.Answers.{reading_of};
 ghost use Rattle.lists.specs.Answers.{opened_reading, opened_elements};
 
-use format::{LONGEST, Opened};
+use format::{LONGEST, Opened, Unopened};
 use judge::Engine;
-use strptime::{Answer, read_elements};
-
-fn smaller(a: usize, b: usize) -> usize
-    ensures { result ≡ min a b }
-{
-    if a < b { a } else { b }
-}
+use strptime::{Answer, ReadRefusal, read_elements};
 
 // The answer to a text, by the engine that skips.
 pub fn answer_to(opened: Opened, elements: &[u32], text: &[u8]) -> Answer
     ensures { reading_of result ≡ opened_reading opened elements.now text.now }
 {
     match opened {
-        Opened::Done { count } => {
-            let count = smaller(count, elements.len());
+        Ok(_) => {
+            let count = elements_of(opened, elements);
             read_elements(Engine::Skipping, &elements[..count], text)
         }
-        Opened::TooLong => Answer::FormatTooLong,
-        Opened::Bad { at } => {
+        Err(Unopened::TooLong) => Err(ReadRefusal::FormatTooLong),
+        Err(Unopened::Bad { at }) => {
             if LONGEST < text.len() {
-                return Answer::TextTooLong;
+                return Err(ReadRefusal::TextTooLong);
             }
-            Answer::BadConversion {
-                at: smaller(at, LONGEST),
-            }
+            Err(ReadRefusal::BadConversion {
+                at: at.min(LONGEST),
+            })
         }
     }
 }
@@ -39,8 +33,7 @@ pub fn elements_of(opened: Opened, elements: &[u32]) -> usize
     ensures { result ≡ length (opened_elements opened elements.now) }
 {
     match opened {
-        Opened::Done { count } => smaller(count, elements.len()),
-        Opened::TooLong => 0,
-        Opened::Bad { at: _ } => 0,
+        Ok(count) => count.min(elements.len()),
+        Err(_) => 0,
     }
 }

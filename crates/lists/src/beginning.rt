@@ -2,7 +2,7 @@
 ghost use Rattle.lists.specs.Parts.{Begun};
 
 use crate::lines::line_end;
-use crate::putting::put_bytes;
+use crate::putting::Writer;
 use crate::{First, LONGEST_INPUT};
 use format::{Side, open};
 
@@ -14,18 +14,19 @@ pub fn begin(header: &[u8], input: &[u8], elements: &mut [u32], out: &mut [u8]) 
 {
     let end = line_end(input, 0);
     let opened = open(Side::Reader, &input[..end], elements);
+    let mut w = Writer::new(out);
     if LONGEST_INPUT < input.len() {
-        let count = put_bytes(out, 0, b"too long\n");
+        w.bytes(b"too long\n");
         return First {
             opened,
-            count,
+            count: w.at,
             next: input.len(),
         };
     }
-    let count = put_bytes(out, 0, header);
+    w.bytes(header);
     First {
         opened,
-        count,
+        count: w.at,
         next: end + 1,
     }
 }

@@ -6,12 +6,14 @@ use format::Opened;
 mod answers;
 mod beginning;
 mod lines;
+mod places;
 mod putting;
 
 pub use answers::{answer_to, elements_of};
 pub use beginning::begin;
 pub use lines::line_end;
-pub use putting::{first_place, put_byte, put_bytes, put_date, put_four, put_plain, put_two};
+pub use places::{first_place, put_byte, put_bytes, put_date, put_four, put_plain, put_two};
+pub use putting::Writer;
 
 // The bytes of the longest input.
 pub const LONGEST_INPUT: usize = 32768;

@@ -1,78 +1,96 @@
-// Bytes put into a buffer. Each function here puts some bytes into `out` from `at` on, as many as fit, and answers the place after them, at
-// most the buffer's end. So whoever puts one thing after the other looks for room once, for all of it.
-ghost use Rattle.std.specs.Prelude.{[], ◌∷◌};
-ghost use Rattle.text.specs.Digits.{filled, plain};
-ghost use Rattle.lists.specs.Putting.{Put, date_shown};
+// Bytes put into a buffer, one after the other. So whoever puts one thing after the other looks for room once, for all of it.
+ghost use Rattle.std.specs.Prelude.{◌≤◌, length};
 
 use calendar::Date;
 use text::{digit_count, write_number};
 
-// A place in a buffer, at most its end.
-pub fn first_place(out: &[u8], at: usize) -> usize
-    ensures { Put [] out.now at out.now result }
-{
-    if out.len() <= at {
-        return out.len();
+// A buffer, and the place in it where the next byte goes, at most its end. Each method puts some bytes there, as many as fit, and moves the
+// place on.
+#[derive(Drop)]
+pub struct Writer<'a> {
+    pub out: &'a mut [u8],
+    pub at: usize,
+    ghost inside: { at ≤ length out.now },
+}
+
+impl<'a> Writer<'a> {
+    ghost use Rattle.std.specs.Prelude.{◌≡◌, min, [], ◌∷◌};
+    ghost use Rattle.text.specs.Digits.{filled, plain};
+    ghost use Rattle.lists.specs.Putting.{Writes, date_shown};
+
+    pub fn new(out: &'a mut [u8]) -> Writer<'a>
+        ensures same_buffer { result.out.ghost_name ≡ out.entry.ghost_name }
+        ensures starts { (result.out.now ≡ out.old) × (result.at ≡ 0) }
+    {
+        Writer { out, at: 0 }
     }
-    at
-}
 
-pub fn put_byte(out: &mut [u8], at: usize, b: u8) -> usize
-    ensures { Put (b ∷ []) out.old at out.new result }
-{
-    if out.len() <= at {
-        return out.len();
+    // A writer that goes on from a place, at most the buffer's end.
+    pub fn from_place(out: &'a mut [u8], at: usize) -> Writer<'a>
+        ensures same_buffer { result.out.ghost_name ≡ out.entry.ghost_name }
+        ensures starts { (result.out.now ≡ out.old) × (result.at ≡ min at (length out.old)) }
+    {
+        let at = at.min(out.len());
+        Writer { out, at }
     }
-    out[at] = b;
-    at + 1
-}
 
-pub fn put_bytes(out: &mut [u8], at: usize, bytes: &[u8]) -> usize
-    ensures { Put bytes.now out.old at out.new result }
-{
-    let mut end = first_place(out, at);
-    let mut i = 0;
-    while i < bytes.len() {
-        end = put_byte(out, end, bytes[i]);
-        i += 1;
+    pub fn byte(&mut self, b: u8)
+        ensures { Writes (b ∷ []) self.old self.new }
+    {
+        if self.at < self.out.len() {
+            self.out[self.at] = b;
+            self.at += 1;
+        }
     }
-    end
-}
 
-// A number on four places, filled with zeros.
-pub fn put_four(out: &mut [u8], at: usize, n: u32) -> usize
-    ensures { Put (filled 48 4 n) out.old at out.new result }
-{
-    let mut digits = [0u8; 4];
-    write_number(&mut digits, b'0', n);
-    put_bytes(out, at, &digits)
-}
+    pub fn bytes(&mut self, bytes: &[u8])
+        ensures { Writes bytes.now self.old self.new }
+    {
+        for b in bytes {
+            self.byte(*b);
+        }
+    }
 
-// A number on two places, filled with zeros.
-pub fn put_two(out: &mut [u8], at: usize, n: u32) -> usize
-    ensures { Put (filled 48 2 n) out.old at out.new result }
-{
-    let mut digits = [0u8; 2];
-    write_number(&mut digits, b'0', n);
-    put_bytes(out, at, &digits)
-}
+    fn filled<const N: usize>(&mut self, n: u32)
+        requires { N ≤ 4 }
+        ensures { Writes (filled 48 N n) self.old self.new }
+    {
+        let mut digits = [0u8; N];
+        write_number(&mut digits, b'0', n);
+        self.bytes(&digits);
+    }
 
-// A number with no zeros before it.
-pub fn put_plain(out: &mut [u8], at: usize, n: u32) -> usize
-    ensures { Put (plain n) out.old at out.new result }
-{
-    let count = digit_count(n);
-    let mut digits = [0u8; 10];
-    write_number(&mut digits[..count], b'0', n);
-    put_bytes(out, at, &digits[..count])
-}
+    // A number on four places, filled with zeros.
+    pub fn four(&mut self, n: u32)
+        ensures { Writes (filled 48 4 n) self.old self.new }
+    {
+        self.filled::<4>(n);
+    }
 
-pub fn put_date(out: &mut [u8], at: usize, date: Date) -> usize
-    ensures { Put (date_shown date) out.old at out.new result }
-{
-    let at = put_four(out, at, date.year as u32);
-    let at = put_byte(out, at, b'-');
-    let at = put_two(out, at, date.month as u32);
-    let at = put_byte(out, at, b'-');
-    put_two(out, at, date.day as u32)
+    // A number on two places, filled with zeros.
+    pub fn two(&mut self, n: u32)
+        ensures { Writes (filled 48 2 n) self.old self.new }
+    {
+        self.filled::<2>(n);
+    }
+
+    // A number with no zeros before it.
+    pub fn plain(&mut self, n: u32)
+        ensures { Writes (plain n) self.old self.new }
+    {
+        let count = digit_count(n);
+        let mut digits = [0u8; 10];
+        write_number(&mut digits[..count], b'0', n);
+        self.bytes(&digits[..count]);
+    }
+
+    pub fn date(&mut self, date: Date)
+        ensures { Writes (date_shown date) self.old self.new }
+    {
+        self.four(date.year as u32);
+        self.byte(b'-');
+        self.two(date.month as u32);
+        self.byte(b'-');
+        self.two(date.day as u32);
+    }
 }

@@ -1,41 +1,55 @@
--- The table of labels: each row is its label with blanks after it, by one computed test over the table.
+-- The kinds that have no label, over plain variables.
 -- Assumes nothing.
-use Prim.Native.Nat.{ℕ, ◌-◌, ◌≤◌, ◌<◌}
-use mathlib.Core.Bool.{true}
-use mathlib.Core.List.{List, [], ◌++◌, map}
+use Prim.Native.Nat.{ℕ, ◌≤◌}
+use mathlib.Core.Bool.{Bool, true, false, cond}
+use mathlib.Core.List.{List, [], ◌∷◌, map}
 use mathlib.Core.Path.{◌≡◌, refl}
+use native.Mathlib.Decide.{dec_le}
+use native.Mathlib.Nat.{lt_of_not-le}
 use native.Mathlib.Omega.{arith}
-use borrow.Author.Tests.{leb-true}
-use lib.Dec.{leb}
-use lib.ListN.{length, get_or, take, replicate, get_or-eq_default}
+use borrow.Author.Tests.{ne_eqb}
+use lib.ListN.{get_or-eq_default}
+use Rattle.conversions.specs.Conversions.{among}
 use Rattle.laws.specs.Bytes.{bytes}
 use Rattle.laws.specs.Lists.{range}
 use Rattle.laws.proofs.Table.{same_at}
 use Rattle.refusals.specs.Words.{labels, label}
 
--- the table that the code holds
-unfoldable pub rows : List (List ℕ)
-rows = map (λ (w : List ℕ). w ++ replicate (20 - length w) 32) labels
+abbrev labelled : List ℕ
+labelled = 2 ∷ 3 ∷ 4 ∷ 6 ∷ 7 ∷ 8 ∷ 9 ∷ 10 ∷ 11 ∷ 12 ∷ 13 ∷ 14 ∷ []
 
-unfoldable pub lengths : List ℕ
-lengths = map length labels
-
-module _ (k : ℕ) (h : k < 16) where
-  pub row_fits : get_or lengths k 0 ≤ length (get_or rows k [])
-  row_fits =
-      leb-true _ _ (same_at (λ j. leb (get_or lengths j 0) (length (get_or rows j []))) (λ j. true) 16 0 computed k (omega arith)
-      (omega arith))
-    where
-      computed : map (λ j. leb (get_or lengths j 0) (length (get_or rows j []))) (range 0 16) ≡ map (λ j. true) (range 0 16)
-      computed = unfold rows lengths labels bytes range in refl
-
-  pub row_label : take (get_or lengths k 0) (get_or rows k []) ≡ label k
-  row_label = same_at (λ j. take (get_or lengths j 0) (get_or rows j [])) label 16 0 computed k (omega arith) (omega arith)
-    where
-      computed : map (λ j. take (get_or lengths j 0) (get_or rows j [])) (range 0 16) ≡ map label (range 0 16)
-      computed = unfold rows lengths labels label bytes range in refl
-
--- there are no others
 pub no_label : (k : ℕ) → 16 ≤ k → [] ≡ label k
 unfolding label labels
 no_label k h = rw (get_or-eq_default labels [] {n = k} h)
+
+others : (k : ℕ) → cond (among k labelled) [] (label k) ≡ []
+others k = elim (dec_le 16 k) [
+  | yes h ↦ rw (← no_label k h) (none (among k labelled))
+  | no h ↦ same_at (λ j. cond (among j labelled) [] (label j)) (λ j. []) 16 0 computed k (omega arith) (omega (arith, lt_of_not-le h))
+]
+  where
+    none : (b : Bool) → cond {A = List ℕ} b [] [] ≡ []
+    none true = refl
+    none false = refl
+
+    computed : map (λ j. cond (among j labelled) [] (label j)) (range 0 16) ≡ map (λ j. []) (range 0 16)
+    computed = unfold label labels bytes range among in refl
+
+pub unlabelled : (k : ℕ) → (k ≡ 2 → ⊥) → (k ≡ 3 → ⊥) → (k ≡ 4 → ⊥) → (k ≡ 6 → ⊥) → (k ≡ 7 → ⊥) → (k ≡ 8 → ⊥) → (k ≡ 9 → ⊥) → (k ≡ 10 → ⊥)
+    → (k ≡ 11 → ⊥) → (k ≡ 12 → ⊥) → (k ≡ 13 → ⊥) → (k ≡ 14 → ⊥) → label k ≡ []
+unfolding among
+unlabelled k a b c d e f g h i j l m =
+    rw (
+      ne_eqb k 2 a,
+      ne_eqb k 3 b,
+      ne_eqb k 4 c,
+      ne_eqb k 6 d,
+      ne_eqb k 7 e,
+      ne_eqb k 8 f,
+      ne_eqb k 9 g,
+      ne_eqb k 10 h,
+      ne_eqb k 11 i,
+      ne_eqb k 12 j,
+      ne_eqb k 13 l,
+      ne_eqb k 14 m,
+    ) at (others k)

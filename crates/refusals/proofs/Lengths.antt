@@ -15,8 +15,6 @@ use lib.ListN.{length, get_or, take, drop, length-append, length-map, length-tak
 use Rattle.calendar.specs.declared.Date.{Date}
 use Rattle.format.specs.Opening.{longest, most_elements}
 use Rattle.conversions.specs.Conversions.{among}
-use Rattle.format.specs.declared.opening.Opened.{Opened}
-use Rattle.format.specs.declared.opening.Opened.TheVariants.{Done, TooLong, Bad}
 use Rattle.judge.specs.declared.Engine.TheVariants.{Skipping}
 use Rattle.kinds.specs.Kinds.{kinds}
 use Rattle.laws.specs.Bytes.{bytes}
@@ -49,6 +47,9 @@ use Rattle.refusals.specs.Words.{labels, label, words_at, label_before, phrase, 
 use Rattle.refusals.specs.Words.{separator, phrase_at, word_list}
 use Rattle.refusals.proofs.Labels.{no_label}
 use Rattle.refusals.proofs.Over.{tally_most, most_below}
+use Rattle.std.specs.Prelude.{Err, Ok, Result, ℕ}
+use Rattle.format.specs.declared.opening.Unopened.TheVariants.{Bad, TooLong}
+use Rattle.format.specs.declared.opening.Unopened.{Unopened}
 
 -- ---- the words that quarrel: each begins at one offset, and has at most 1,049 bytes
 
@@ -192,7 +193,7 @@ hour_most a b h i =
       picked (λ (x : List ℕ). length x ≤ 8) (eqb b (a + 12)) {a = bytes "AM or PM"} {b = bytes "the hour"} (lit≤ tt) (lit≤ tt),
     ))
 
-open_most : (o : Opened) (es s : List ℕ) → length (open_sentence (opened_reading o es s).shown) ≤ 100
+open_most : (o : Result ℕ Unopened) (es s : List ℕ) → length (open_sentence (opened_reading o es s).shown) ≤ 100
 unfolding open_sentence
 open_most = opened_numbers (λ n x. length (open_sentence x) ≤ 100) (λ n h. lit≤ tt) day_most hour_most
 
@@ -260,16 +261,17 @@ module _ (r : Reading) (words : List Extent) (s : List ℕ) (p : r.place ≤ mos
       (omega (arith, marks-most (marked r words) mark-most, plain_most 5 n (lit≤ tt) (omega arith), sentence-most)))
 
 -- the words of a text's block
-words_most : (o : Opened) (es s : List ℕ) (k : ℕ)
+words_most : (o : Result ℕ Unopened) (es s : List ℕ) (k : ℕ)
     → (get_or (explained (opened_reading o es s) (opened_elements o es) s).words k nowhere).next ≤ longest
 unfolding opened_reading opened_elements explained reason_of refused showing
-words_most (Done n) es s k = (elements_explained_below Skipping (take n es) s k).1
-words_most TooLong es s k = (words_below (reason_of (refused 1 0)) [] s longest (λ a q. clash (cc)) k).1
-words_most (Bad p) es s k =
+words_most (Ok n) es s k = (elements_explained_below Skipping (take n es) s k).1
+words_most (Err TooLong) es s k = (words_below (reason_of (refused 1 0)) [] s longest (λ a q. clash (cc)) k).1
+words_most (Err (Bad p)) es s k =
     (words_below (reason_of (unless_long s (refused 3 (min p longest)))) [] s longest (unless_quarrel s (refused 3 (min p longest))) k).1
 
 -- a block has at most 59,392 bytes
-pub block_most : (o : Opened) (es s : List ℕ) (n : ℕ) → n < 100000 → length s ≤ longest_input → length (opened_block o es n s) ≤ 59392
+pub block_most : (o : Result ℕ Unopened) (es s : List ℕ) (n : ℕ) → n < 100000 → length s ≤ longest_input
+    → length (opened_block o es n s) ≤ 59392
 unfolding opened_block
 block_most o es s n h l =
     reading-most (opened_reading o es s) _ s (opened_place o es s) (words_most o es s) (open_most o es s) n h l

@@ -1,6 +1,7 @@
 -- Laws that the proofs of several functions cite.
 pub mod Answers
 pub mod Cases
+pub mod Graphic
 pub mod Labels
 pub mod Lengths
 pub mod Marked

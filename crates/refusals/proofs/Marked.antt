@@ -10,11 +10,10 @@ use Rattle.lists.specs.Putting.{each}
 use Rattle.matching.specs.Extents.{extent, nowhere}
 use Rattle.matching.specs.declared.extents.Extent.{Extent}
 use Rattle.strptime.specs.Answers as reader
-use Rattle.strptime.specs.Answers.{reading_of}
-use Rattle.strptime.specs.declared.Answer.{Answer}
-use Rattle.strptime.specs.declared.Answer.TheVariants.{Done, FormatTooLong, TextTooLong, BadConversion}
-use Rattle.strptime.specs.declared.Answer.TheVariants.{NoMatch, OutOfRange, Contradiction}
-use Rattle.strptime.specs.declared.Answer.TheVariants.{NoDay, NoHour, OpenDay, OpenHour, OverBudget}
+use Rattle.strptime.specs.Answers.{refusal_of}
+use Rattle.strptime.specs.declared.ReadRefusal.{ReadRefusal}
+use Rattle.strptime.specs.declared.ReadRefusal.TheVariants.{FormatTooLong, TextTooLong, BadConversion, NoMatch, OutOfRange}
+use Rattle.strptime.specs.declared.ReadRefusal.TheVariants.{Contradiction, OverBudget, NoDay, NoHour, OpenDay, OpenHour}
 use Rattle.refusals.specs.Marks.{marked, covers, is_marked, last_mark, mark_at, marks_to, marks_line}
 use Rattle.refusals.proofs.Over.{some_alike, most_alike}
 
@@ -47,14 +46,13 @@ module _ (xs ys : List Extent) (e : (k : ℕ) → get_or xs k nowhere ≡ get_or
   unfolding marks_line
   same_line = rw (same-last, same-marks (last_mark ys))
 
--- ---- answers whose place is not marked
-pub by_words : (r : Answer) (words : List Extent)
+-- ---- refusals whose place is not marked
+pub by_words : (r : ReadRefusal) (words : List Extent)
     → ((p : ℕ) → r ≡ NoMatch p → ⊥)
     → ((p : ℕ) → r ≡ OutOfRange p → ⊥)
     → ((p : ℕ) → r ≡ Contradiction p → ⊥)
-    → marked (reading_of r) words ≡ words
+    → marked (refusal_of r) words ≡ words
 unfolding marked reader.computes among
-by_words (Done p d h m s o fs n) words no0 no1 no2 = refl
 by_words FormatTooLong words no0 no1 no2 = refl
 by_words TextTooLong words no0 no1 no2 = refl
 by_words (BadConversion p) words no0 no1 no2 = refl

@@ -4,11 +4,14 @@ use Prim.Native.Nat.{ℕ, suc, ◌+◌, ◌≤◌, ◌<◌}
 use mathlib.Core.Bool.{Bool, true, false, cond}
 use mathlib.Core.List.{List, [], ◌∷◌, ◌++◌}
 use mathlib.Core.Path.{◌≡◌, refl}
-use native.Mathlib.Numerals.{add-one}
+use native.Mathlib.Numerals.{one-add}
 use native.Mathlib.Omega.{arith}
 use lib.Dec.{eqb}
-use lib.ListN.{length, get_or, take, drop, length-take, length-drop}
-use lib.Seq.{take_all, take-suc, take-add}
+use lib.ListN.{length, take, drop, length-take, length-drop}
+use lib.Seq.{take-add}
+use Rattle.std.specs.List.{count_by}
+use Rattle.std.specs.Prelude.{◌==◌}
+use Rattle.std.proofs.lemmas.List.Recursion.{is_count_by}
 use Rattle.laws.proofs.Cases.{picked}
 use Rattle.lists.specs.Lines.{newline, line_length}
 use Rattle.refusals.specs.Blocks.{newlines, line_number}
@@ -21,6 +24,10 @@ newlines_append (x ∷ a) b = rw (newlines_append a b) (go (eqb x newline))
     go : (t : Bool) → cond t (suc (newlines a + newlines b)) (newlines a + newlines b) ≡ cond t (suc (newlines a)) (newlines a) + newlines b
     go true = omega arith
     go false = refl
+
+pub newlines_is : (s : List ℕ) → newlines s ≡ count_by (λ b. b == newline) s
+unfolding newlines
+newlines_is = is_count_by newlines (λ b. b == newline) refl (λ b s. rw one-add)
 
 newlines_most : (s : List ℕ) → newlines s ≤ length s
 unfolding newlines
@@ -52,21 +59,6 @@ module _ (s : List ℕ) where
   number_most i =
       let h = newlines_most (take i s) in
       (omega (arith, length-take i s), omega (arith, length-take i s))
-
-  -- one byte more
-  pub next_byte : (i : ℕ) → i < length s → line_number s (i + 1)
-      ≡ cond (eqb (get_or s i 0) newline) (suc (line_number s i)) (line_number s i)
-  unfolding line_number newlines
-  next_byte i h = rw (add-one i, take-suc s i 0 h, newlines_append (take i s) (get_or s i 0 ∷ [])) (go (eqb (get_or s i 0) newline))
-    where
-      go : (t : Bool) → suc (newlines (take i s) + cond t 1 0) ≡ cond t (suc (suc (newlines (take i s)))) (suc (newlines (take i s)))
-      go true = omega arith
-      go false = omega arith
-
-  -- the end, and past it
-  pub past_end : (i j : ℕ) → length s ≤ i → i ≤ j → line_number s j ≡ line_number s i
-  unfolding line_number
-  past_end i j h l = rw (take_all i s h, take_all j s (omega arith))
 
   -- the line after
   pub next_number : (i : ℕ) {stop : ℕ} → stop ≡ i + line_length (drop i s) → stop < length s → line_number s (stop + 1)

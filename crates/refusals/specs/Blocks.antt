@@ -1,6 +1,5 @@
 -- What is written for a text, and for a whole list.
 use Rattle.std.specs.Prelude.{ℕ, suc, cond, List, [], ◌∷◌, ◌++◌, eqb, leb, length, take, drop}
-use Rattle.format.specs.declared.opening.Opened.{Opened}
 use Rattle.judge.specs.declared.Engine.TheVariants.{Skipping}
 use Rattle.laws.specs.Bytes.{bytes}
 use Rattle.lists.specs.Answers.{opened_reading, opened_elements}
@@ -13,6 +12,8 @@ use Rattle.text.specs.Digits.{plain}
 use Rattle.refusals.specs.Marks.{marked, marks_line}
 use Rattle.refusals.specs.Sentences.{sentence}
 use Rattle.refusals.specs.Shown.{shown}
+use Rattle.std.specs.Prelude.{Result}
+use Rattle.format.specs.declared.opening.Unopened.{Unopened}
 
 -- a text that is refused, on line n of its list: the text, the marks, a sentence, and an empty line; nothing for a text that was read
 unfoldable pub block : ℕ → Reading → List Extent → List ℕ → List ℕ
@@ -50,13 +51,13 @@ unfoldable pub line_number : List ℕ → ℕ → ℕ
 line_number s at = suc (newlines (take at s))
 
 -- a text by what opening the format answered and stored
-unfoldable pub opened_block : Opened → List ℕ → ℕ → List ℕ → List ℕ
+unfoldable pub opened_block : Result ℕ Unopened → List ℕ → ℕ → List ℕ → List ℕ
 opened_block o es n s =
     let r = opened_reading o es s in
     block n r (explained r (opened_elements o es) s).words s
 
 -- what is written for the texts of an input from a place on; nothing where the input is too long
-unfoldable pub blocks_by : Opened → List ℕ → List ℕ → ℕ → List ℕ
+unfoldable pub blocks_by : Result ℕ Unopened → List ℕ → List ℕ → ℕ → List ℕ
 blocks_by o es s from =
     let all = blocks (opened_block o es) (line_number s from) (lines (drop from s)) in
     cond (leb (length s) longest_input) all []

@@ -10,10 +10,11 @@ use Rattle.reasons.specs.declared.About.TheVariants.{Day as TheDay, Hour as TheH
 use Rattle.reasons.specs.declared.Part.{Part}
 use Rattle.reasons.specs.declared.Part.TheVariants.{Year, Month, Day}
 use Rattle.strptime.specs.declared.Reading.{Reading}
-use Rattle.strptime.specs.declared.Shown.{Shown}
-use Rattle.strptime.specs.declared.Shown.TheVariants.{Nothing, Days, Hours}
 use Rattle.text.specs.Digits.{plain}
 use Rattle.refusals.specs.Words.{word_list}
+use Rattle.std.specs.Prelude.{None, Option, Some}
+use Rattle.strptime.specs.declared.Shown.TheVariants.{Days, Hours}
+use Rattle.strptime.specs.declared.Shown.{Shown}
 
 -- 3
 unfoldable pub bad_conversion : ℕ → List ℕ
@@ -54,10 +55,10 @@ open_hour a b =
     bytes "more than one hour agrees, the earliest "
     ++ (plain a ++ (bytes " and " ++ (plain b ++ (bytes "; " ++ (missing_hour a b ++ bytes " is missing")))))
 
-unfoldable pub open_sentence : Shown → List ℕ
-open_sentence Nothing = []
-open_sentence (Days a b) = open_day a b
-open_sentence (Hours a b) = open_hour a b
+unfoldable pub open_sentence : Option Shown → List ℕ
+open_sentence None = []
+open_sentence (Some (Days a b)) = open_day a b
+open_sentence (Some (Hours a b)) = open_hour a b
 
 -- by the number of a reading
 unfoldable pub sentence : Reading → List Extent → List ℕ → List ℕ

@@ -2,8 +2,8 @@
 // parts, so that a small buffer does: `first_part` once, then `next_part` while texts are left.
 #![tactic(auto)]
 
-ghost use Rattle.std.specs.Prelude.{cond, ◌≡◌, suc, ◌≤◌, ◌<◌, ◌^◌, eqb, length};
-ghost use Rattle.lists.specs.Lines.{newline, longest_input};
+ghost use Rattle.std.specs.Prelude.{◌≡◌, ◌≤◌, length};
+ghost use Rattle.lists.specs.Lines.{longest_input};
 ghost use Rattle.lists.specs.Parts.{FirstPart, NextPart};
 ghost use Rattle.refusals.specs.Blocks.{refusals_of, line_number, blocks_by};
 
@@ -13,6 +13,7 @@ use lists::{First, LONGEST_INPUT, Next, PART, begin};
 
 mod blocks;
 mod marks;
+mod refused;
 mod sentences;
 mod shown;
 mod words;
@@ -26,32 +27,13 @@ pub fn first_part(input: &[u8], elements: &mut [u32; MOST_ELEMENTS], out: &mut [
     begin(b"", input, elements, out)
 }
 
-// The number of the line after a byte.
-fn next_number(number: usize, b: u8) -> usize
-    requires { number < 2 ^ 32 }
-    ensures { result ≡ cond (eqb b newline) (suc number) number }
-{
-    if b == b'\n' {
-        return number + 1;
-    }
-    number
-}
-
 // The number of the line that begins at `from`.
 fn line_number(input: &[u8], from: usize) -> usize
     requires { length input.now ≤ longest_input }
     ensures { result ≡ line_number input.now from }
 {
-    let mut number = 1;
-    let mut i = 0;
-    while i < from {
-        if input.len() <= i {
-            return number;
-        }
-        number = next_number(number, input[i]);
-        i += 1;
-    }
-    number
+    let before = &input[..from.min(input.len())];
+    1 + before.iter().filter(|b| **b == b'\n').count()
 }
 
 // Puts what is said of the texts of `input` from `from` on at the front of `out`, as long as there is room for the longest that can be.

@@ -1,91 +1,67 @@
 // The line of marks below a text.
-ghost use Rattle.std.specs.Prelude.{◌≡◌, [], ◌∷◌, ℕ, ◌+◌, ◌<◌, ◌^◌, max, get_or};
-ghost use Rattle.lists.specs.Putting.{Put};
+ghost use Rattle.std.specs.Prelude.{◌≡◌, [], ◌∷◌, ℕ, ◌+◌, ◌<◌, ◌^◌, get_or};
+ghost use Rattle.lists.specs.Putting.{Writes};
 ghost use Rattle.matching.specs.Extents.{extent, nowhere};
-ghost use Rattle.strptime.specs.Answers.{reading_of};
+ghost use Rattle.strptime.specs.Answers.{refusal_of};
 ghost use Rattle.refusals.specs.Marks.{marked, covers, is_marked, last_mark, mark_at, marks_to, marks_line};
 
-use lists::{first_place, put_byte};
+use crate::refused::Refused;
+use lists::Writer;
 use matching::Extent;
-use strptime::Answer;
+use strptime::ReadRefusal;
 
 fn covers(extent: Extent, offset: usize) -> bool
     ensures { result ≡ covers extent offset }
 {
-    if offset < extent.from {
-        return false;
-    }
-    offset < extent.next
+    extent.from <= offset && offset < extent.next
 }
 
 // Whether an offset lies in one of the extents.
-fn is_marked(extents: [Extent; kinds::KINDS], offset: usize) -> bool
-    ensures { result ≡ is_marked extents offset }
+fn is_marked(extents: &[Extent; kinds::KINDS], offset: usize) -> bool
+    ensures { result ≡ is_marked extents.now offset }
 {
-    let mut kind = 0;
-    while kind < kinds::KINDS {
-        if covers(extents[kind], offset) {
-            return true;
-        }
-        kind += 1;
-    }
-    false
-}
-
-fn later(a: usize, b: usize) -> usize
-    ensures { result ≡ max a b }
-{
-    if a < b {
-        return b;
-    }
-    a
+    extents.iter().any(|extent| covers(*extent, offset))
 }
 
 // Where the last of the extents ends.
-fn last_mark(extents: [Extent; kinds::KINDS]) -> usize
-    ensures { result ≡ last_mark extents }
+fn last_mark(extents: &[Extent; kinds::KINDS]) -> usize
+    ensures { result ≡ last_mark extents.now }
 {
-    let mut last = 0;
-    let mut kind = 0;
-    while kind < kinds::KINDS {
-        let extent = extents[kind];
-        last = later(last, extent.next);
-        kind += 1;
+    let mut last = 0usize;
+    for extent in extents {
+        last = last.max(extent.next);
     }
     last
 }
 
 // The byte below an offset.
-fn mark_at(extents: [Extent; kinds::KINDS], offset: usize) -> u8
-    ensures { result ≡ mark_at extents offset }
+fn mark_at(extents: &[Extent; kinds::KINDS], offset: usize) -> u8
+    ensures { result ≡ mark_at extents.now offset }
 {
     if is_marked(extents, offset) {
-        return b'^';
+        b'^'
+    } else {
+        b' '
     }
-    b' '
 }
 
-fn put_marks(out: &mut [u8], at: usize, extents: [Extent; kinds::KINDS], last: usize) -> usize
-    ensures { Put (marks_to extents last) out.old at out.new result }
+fn put_marks(w: &mut Writer, extents: &[Extent; kinds::KINDS], last: usize)
+    ensures { Writes (marks_to extents.now last) w.old w.new }
 {
-    let mut end = first_place(out, at);
-    let mut i = 0;
-    while i < last {
-        end = put_byte(out, end, mark_at(extents, i));
-        i += 1;
+    for i in 0..last {
+        w.byte(mark_at(extents, i));
     }
-    end
 }
 
-fn put_marks_line(out: &mut [u8], at: usize, extents: [Extent; kinds::KINDS]) -> usize
-    ensures { Put (marks_line extents) out.old at out.new result }
+fn put_marks_line(w: &mut Writer, extents: &[Extent; kinds::KINDS])
+    ensures { Writes (marks_line extents.now) w.old w.new }
 {
     let last = last_mark(extents);
     if last == 0 {
-        return first_place(out, at);
+        return;
     }
-    let at = put_marks(out, at, extents, last);
-    put_byte(out, at, b'\n')
+    put_marks(w, extents, last);
+    w.byte(b'\n');
 }
 
 // One extent alone: the byte at an offset.
@@ -101,20 +77,14 @@ fn only(offset: usize) -> [Extent; kinds::KINDS]
     extents
 }
 
-// The line of marks for an answer: below its place, or below the words that its reason names.
-pub(crate) fn put_marked(
-    out: &mut [u8],
-    at: usize,
-    answer: Answer,
-    words: [Extent; kinds::KINDS],
-) -> usize
-    requires { (reading_of answer).place < 2 ^ 32 }
-    ensures { Put (marks_line (marked (reading_of answer) words)) out.old at out.new result }
+// The line of marks for a text: below the place of its refusal, or below the words that its reason names.
+pub(crate) fn put_marked(w: &mut Writer, refused: &Refused)
+    ensures { Writes (marks_line (marked (refusal_of refused.now.refusal) refused.now.words)) w.old w.new }
 {
-    match answer {
-        Answer::NoMatch { at: place } => put_marks_line(out, at, only(place)),
-        Answer::OutOfRange { at: place } => put_marks_line(out, at, only(place)),
-        Answer::Contradiction { at: place } => put_marks_line(out, at, only(place)),
-        _ => put_marks_line(out, at, words),
+    match refused.refusal {
+        ReadRefusal::NoMatch { at } => put_marks_line(w, &only(at)),
+        ReadRefusal::OutOfRange { at } => put_marks_line(w, &only(at)),
+        ReadRefusal::Contradiction { at } => put_marks_line(w, &only(at)),
+        _ => put_marks_line(w, &refused.words),
     }
 }

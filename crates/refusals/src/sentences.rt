@@ -1,145 +1,114 @@
 // What is said of a text that is refused.
-ghost use Rattle.std.specs.Prelude.{◌<◌, ◌^◌};
-ghost use Rattle.lists.specs.Putting.{Put};
-ghost use Rattle.refusals.specs.Private.{AllInside};
+ghost use Rattle.lists.specs.Putting.{Writes};
 ghost use Rattle.refusals.specs.Sentences.{bad_conversion, mismatch, noun, quarrel, part_name, open_day, missing_hour};
 ghost use Rattle.refusals.specs.Sentences.{open_hour, sentence};
-ghost use Rattle.strptime.specs.Answers.{reading_of};
+ghost use Rattle.strptime.specs.Answers.{refusal_of};
 
+use crate::refused::Refused;
 use crate::words::put_word_list;
 use calendar::Date;
-use lists::{first_place, put_bytes, put_date, put_plain};
-use matching::Extent;
+use lists::Writer;
 use reasons::{About, Part, differing};
-use strptime::Answer;
+use strptime::ReadRefusal;
 
-fn put_bad_conversion(out: &mut [u8], at: usize, place: usize) -> usize
-    requires { place < 2 ^ 32 }
-    ensures { Put (bad_conversion place) out.old at out.new result }
+fn put_bad_conversion(w: &mut Writer, place: u32)
+    ensures { Writes (bad_conversion place) w.old w.new }
 {
-    let at = put_bytes(out, at, b"the format has a conversion at byte ");
-    let at = put_plain(out, at, place as u32);
-    put_bytes(
-        out,
-        at,
-        b" that is unknown or unfinished, or that has a flag or a width",
-    )
+    w.bytes(b"the format has a conversion at byte ");
+    w.plain(place);
+    w.bytes(b" that is unknown or unfinished, or that has a flag or a width");
 }
 
-fn put_mismatch(out: &mut [u8], at: usize, place: usize, text: &[u8]) -> usize
-    ensures { Put (mismatch place text.now) out.old at out.new result }
+fn put_mismatch(w: &mut Writer, place: usize, text: &[u8])
+    ensures { Writes (mismatch place text.now) w.old w.new }
 {
     if place < text.len() {
-        return put_bytes(out, at, b"the text does not go on as the format wants");
+        w.bytes(b"the text does not go on as the format wants");
+    } else {
+        w.bytes(b"the text ends before the format does");
     }
-    put_bytes(out, at, b"the text ends before the format does")
 }
 
-fn put_noun(out: &mut [u8], at: usize, about: About) -> usize
-    ensures { Put (noun about) out.old at out.new result }
+fn put_noun(w: &mut Writer, about: About)
+    ensures { Writes (noun about) w.old w.new }
 {
     match about {
-        About::Day => put_bytes(out, at, b"day"),
-        About::Hour => put_bytes(out, at, b"hour"),
+        About::Day => w.bytes(b"day"),
+        About::Hour => w.bytes(b"hour"),
     }
 }
 
 // The words that quarrel.
-fn put_quarrel(
-    out: &mut [u8],
-    at: usize,
-    about: About,
-    words: [Extent; kinds::KINDS],
-    text: &[u8],
-) -> usize
-    requires { AllInside words text.now }
-    ensures { Put (quarrel about words text.now) out.old at out.new result }
+fn put_quarrel(w: &mut Writer, about: About, refused: &Refused)
+    ensures { Writes (quarrel about refused.now.words refused.now.text.now) w.old w.new }
 {
-    let at = put_bytes(out, at, b"no ");
-    let at = put_noun(out, at, about);
-    let at = put_bytes(out, at, b" is ");
-    let at = put_word_list(out, at, text, words);
-    put_bytes(out, at, b" together")
+    w.bytes(b"no ");
+    put_noun(w, about);
+    w.bytes(b" is ");
+    put_word_list(w, refused);
+    w.bytes(b" together");
 }
 
-fn put_part(out: &mut [u8], at: usize, part: Part) -> usize
-    ensures { Put (part_name part) out.old at out.new result }
+fn put_part(w: &mut Writer, part: Part)
+    ensures { Writes (part_name part) w.old w.new }
 {
     match part {
-        Part::Year => put_bytes(out, at, b"year"),
-        Part::Month => put_bytes(out, at, b"month"),
-        Part::Day => put_bytes(out, at, b"day"),
+        Part::Year => w.bytes(b"year"),
+        Part::Month => w.bytes(b"month"),
+        Part::Day => w.bytes(b"day"),
     }
 }
 
-fn put_open_day(out: &mut [u8], at: usize, first: Date, second: Date) -> usize
-    ensures { Put (open_day first second) out.old at out.new result }
+fn put_open_day(w: &mut Writer, first: Date, second: Date)
+    ensures { Writes (open_day first second) w.old w.new }
 {
-    let at = put_bytes(out, at, b"more than one day agrees, the earliest ");
-    let at = put_date(out, at, first);
-    let at = put_bytes(out, at, b" and ");
-    let at = put_date(out, at, second);
-    let at = put_bytes(out, at, b"; the ");
-    let at = put_part(out, at, differing(first, second));
-    put_bytes(out, at, b" is missing")
+    w.bytes(b"more than one day agrees, the earliest ");
+    w.date(first);
+    w.bytes(b" and ");
+    w.date(second);
+    w.bytes(b"; the ");
+    put_part(w, differing(first, second));
+    w.bytes(b" is missing");
 }
 
 // Two hours that are 12 apart differ in AM and PM alone.
-fn put_missing_hour(out: &mut [u8], at: usize, first: u32, second: u32) -> usize
-    ensures { Put (missing_hour first second) out.old at out.new result }
+fn put_missing_hour(w: &mut Writer, first: u32, second: u32)
+    ensures { Writes (missing_hour first second) w.old w.new }
 {
-    if second < 12 {
-        return put_bytes(out, at, b"the hour");
+    if 12 <= second && second - 12 == first {
+        w.bytes(b"AM or PM");
+    } else {
+        w.bytes(b"the hour");
     }
-    if second - 12 == first {
-        return put_bytes(out, at, b"AM or PM");
-    }
-    put_bytes(out, at, b"the hour")
 }
 
-fn put_open_hour(out: &mut [u8], at: usize, first: u32, second: u32) -> usize
-    ensures { Put (open_hour first second) out.old at out.new result }
+fn put_open_hour(w: &mut Writer, first: u32, second: u32)
+    ensures { Writes (open_hour first second) w.old w.new }
 {
-    let at = put_bytes(out, at, b"more than one hour agrees, the earliest ");
-    let at = put_plain(out, at, first);
-    let at = put_bytes(out, at, b" and ");
-    let at = put_plain(out, at, second);
-    let at = put_bytes(out, at, b"; ");
-    let at = put_missing_hour(out, at, first, second);
-    put_bytes(out, at, b" is missing")
+    w.bytes(b"more than one hour agrees, the earliest ");
+    w.plain(first);
+    w.bytes(b" and ");
+    w.plain(second);
+    w.bytes(b"; ");
+    put_missing_hour(w, first, second);
+    w.bytes(b" is missing");
 }
 
-// By the answer; nothing where it is done, or has a budget's number, which no list has.
-pub(crate) fn put_sentence(
-    out: &mut [u8],
-    at: usize,
-    answer: Answer,
-    words: [Extent; kinds::KINDS],
-    text: &[u8],
-) -> usize
-    requires answer_bound { (reading_of answer).place < 2 ^ 32 }
-    requires all_inside { AllInside words text.now }
-    ensures { Put (sentence (reading_of answer) words text.now) out.old at out.new result }
+// By why it is refused; nothing for a budget's number, which no list has.
+pub(crate) fn put_sentence(w: &mut Writer, refused: &Refused)
+    ensures { Writes (sentence (refusal_of refused.now.refusal) refused.now.words refused.now.text.now) w.old w.new }
 {
-    match answer {
-        Answer::FormatTooLong => put_bytes(out, at, b"the format has more than 1,024 bytes"),
-        Answer::BadConversion { at: place } => put_bad_conversion(out, at, place),
-        Answer::TextTooLong => put_bytes(out, at, b"the text has more than 1,024 bytes"),
-        Answer::NoMatch { at: place } => put_mismatch(out, at, place, text),
-        Answer::OutOfRange { at: _ } => put_bytes(out, at, b"this number is outside its range"),
-        Answer::Contradiction { at: _ } => put_bytes(out, at, b"this was said before, differently"),
-        Answer::NoDay { examined: _ } => put_quarrel(out, at, About::Day, words, text),
-        Answer::NoHour { examined: _ } => put_quarrel(out, at, About::Hour, words, text),
-        Answer::OpenDay {
-            first,
-            second,
-            examined: _,
-        } => put_open_day(out, at, first, second),
-        Answer::OpenHour {
-            first,
-            second,
-            examined: _,
-        } => put_open_hour(out, at, first, second),
-        _ => first_place(out, at),
+    match refused.refusal {
+        ReadRefusal::FormatTooLong => w.bytes(b"the format has more than 1,024 bytes"),
+        ReadRefusal::BadConversion { at } => put_bad_conversion(w, at as u32),
+        ReadRefusal::TextTooLong => w.bytes(b"the text has more than 1,024 bytes"),
+        ReadRefusal::NoMatch { at } => put_mismatch(w, at, refused.text),
+        ReadRefusal::OutOfRange { .. } => w.bytes(b"this number is outside its range"),
+        ReadRefusal::Contradiction { .. } => w.bytes(b"this was said before, differently"),
+        ReadRefusal::NoDay { .. } => put_quarrel(w, About::Day, refused),
+        ReadRefusal::NoHour { .. } => put_quarrel(w, About::Hour, refused),
+        ReadRefusal::OpenDay { first, second, .. } => put_open_day(w, first, second),
+        ReadRefusal::OpenHour { first, second, .. } => put_open_hour(w, first, second),
+        ReadRefusal::OverBudget { .. } => {}
     }
 }

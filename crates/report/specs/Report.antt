@@ -1,12 +1,13 @@
 -- The whole report (RULES 9.1).
 use Rattle.std.specs.Prelude.{ℕ, List, [], ◌∷◌, ◌++◌, drop}
-use Rattle.format.specs.declared.opening.Opened.{Opened}
 use Rattle.laws.specs.Bytes.{bytes}
 use Rattle.lists.specs.Answers.{opened_reading}
 use Rattle.lists.specs.Lines.{lines, on_lines}
 use Rattle.report.specs.Line.{line_of}
 use Rattle.strptime.specs.Answers.{reading}
 use Rattle.strptime.specs.declared.Reading.{Reading}
+use Rattle.std.specs.Prelude.{Result}
+use Rattle.format.specs.declared.opening.Unopened.{Unopened}
 
 abbrev pub header : List ℕ
 header = bytes "number place date time\n"
@@ -26,5 +27,5 @@ unfoldable pub report_of : List ℕ → List ℕ
 report_of s = on_lines report_on s
 
 -- the lines for the texts of an input from a place on, by what opening the format answered and stored
-abbrev pub lines_by : Opened → List ℕ → List ℕ → ℕ → List ℕ
+abbrev pub lines_by : Result ℕ Unopened → List ℕ → List ℕ → ℕ → List ℕ
 lines_by o es s from = answered (opened_reading o es) (lines (drop from s))

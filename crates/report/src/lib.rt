@@ -7,7 +7,7 @@ ghost use Rattle.report.specs.Report.{report_of, lines_by};
 
 use format::{MOST_ELEMENTS, Opened};
 use line::put_line;
-use lists::{First, Next, PART, answer_to, begin, line_end};
+use lists::{First, Next, PART, Writer, answer_to, begin, line_end};
 use strptime::reading_of;
 
 mod line;
@@ -35,16 +35,16 @@ pub fn next_part(
     ensures { NextPart lines_by opened elements.now input.now from
         out.old out.new result }
 {
+    let mut w = Writer::new(out);
     let mut next = from;
-    let mut count = 0;
     while next < input.len() {
-        if PART - LONGEST_LINE < count {
-            return Next { count, next };
+        if PART - LONGEST_LINE < w.at {
+            return Next { count: w.at, next };
         }
         let stop = line_end(input, next);
         let answer = answer_to(opened, elements, &input[next..stop]);
-        count = put_line(out, count, reading_of(answer));
+        put_line(&mut w, reading_of(answer));
         next = stop + 1;
     }
-    Next { count, next }
+    Next { count: w.at, next }
 }

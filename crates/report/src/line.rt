@@ -1,62 +1,52 @@
 // What a line says.
 ghost use Rattle.std.specs.Prelude.{◌<◌, ◌^◌};
-ghost use Rattle.lists.specs.Putting.{Put};
+ghost use Rattle.lists.specs.Putting.{Writes};
 ghost use Rattle.report.specs.Line.{day_shown, said_shown, moment_shown, line_of};
 
-use lists::{put_byte, put_date, put_plain, put_two};
-use strptime::{Day, Reading, Said};
+use calendar::Date;
+use lists::Writer;
+use strptime::Reading;
 
-// Each function here puts some bytes into `out` from `at` on, as many as fit, and answers the place after them, as those of `lists` do.
-
-fn put_day(out: &mut [u8], at: usize, day: Day) -> usize
-    ensures { Put (day_shown day) out.old at out.new result }
+fn put_day(w: &mut Writer, day: Option<Date>)
+    ensures { Writes (day_shown day) w.old w.new }
 {
     match day {
-        Day::NoDate => put_byte(out, at, b'-'),
-        Day::On(date) => put_date(out, at, date),
+        None => w.byte(b'-'),
+        Some(date) => w.date(date),
     }
 }
 
 // An hour, minute or second.
-fn put_said(out: &mut [u8], at: usize, said: Said) -> usize
-    ensures { Put (said_shown said) out.old at out.new result }
+fn put_said(w: &mut Writer, said: Option<u32>)
+    ensures { Writes (said_shown said) w.old w.new }
 {
     match said {
-        Said::Unsaid => {
-            let at = put_byte(out, at, b'-');
-            put_byte(out, at, b'-')
-        }
-        Said::Is(n) => put_two(out, at, n),
+        None => w.bytes(b"--"),
+        Some(n) => w.two(n),
     }
 }
 
-fn put_moment(out: &mut [u8], at: usize, day: Day, hour: Said, minute: Said, second: Said) -> usize
-    ensures { Put (moment_shown day hour minute second) out.old at out.new result }
+fn put_moment(w: &mut Writer, reading: Reading)
+    ensures { Writes (moment_shown reading.day reading.hour reading.minute reading.second) w.old w.new }
 {
-    let at = put_day(out, at, day);
-    let at = put_byte(out, at, b' ');
-    let at = put_said(out, at, hour);
-    let at = put_byte(out, at, b':');
-    let at = put_said(out, at, minute);
-    let at = put_byte(out, at, b':');
-    put_said(out, at, second)
+    put_day(w, reading.day);
+    w.byte(b' ');
+    put_said(w, reading.hour);
+    w.byte(b':');
+    put_said(w, reading.minute);
+    w.byte(b':');
+    put_said(w, reading.second);
 }
 
 // The whole line.
-pub(crate) fn put_line(out: &mut [u8], at: usize, reading: Reading) -> usize
+pub(crate) fn put_line(w: &mut Writer, reading: Reading)
     requires { reading.place < 2 ^ 32 }
-    ensures { Put (line_of reading) out.old at out.new result }
+    ensures { Writes (line_of reading) w.old w.new }
 {
-    let number = reading.number;
-    let place = reading.place as u32;
-    let day = reading.day;
-    let hour = reading.hour;
-    let minute = reading.minute;
-    let second = reading.second;
-    let at = put_plain(out, at, number);
-    let at = put_byte(out, at, b' ');
-    let at = put_plain(out, at, place);
-    let at = put_byte(out, at, b' ');
-    let at = put_moment(out, at, day, hour, minute, second);
-    put_byte(out, at, b'\n')
+    w.plain(reading.number);
+    w.byte(b' ');
+    w.plain(reading.place as u32);
+    w.byte(b' ');
+    put_moment(w, reading);
+    w.byte(b'\n');
 }

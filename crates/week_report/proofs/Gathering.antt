@@ -8,40 +8,40 @@ use borrow.Author.Tests.{eq-eqb, ne_eqb}
 use lib.Dec.{eqb, lit<, lit≤}
 use lib.ListN.{length, set, take, drop, length-append}
 use lib.Seq.{sets}
+use Rattle.std.specs.Prelude.{Ok, Err}
 use Rattle.laws.proofs.Cases.{picked}
 use Rattle.laws.proofs.Stores.{sets_append}
-use Rattle.format.specs.declared.opening.Opened.{Opened}
 use Rattle.lists.specs.Answers.{opened_reading}
 use Rattle.lists.specs.Lines.{lines, line_length}
 use Rattle.lists.proofs.Figures.{opened_numbers}
 use Rattle.lists.proofs.NextLine.{next_line, no_line}
 use Rattle.sheets.specs.Sheets.{packing, reading_fields}
-use Rattle.sheets.specs.declared.Packed.{Packed}
-use Rattle.sheets.specs.declared.Packed.TheVariants.{Word, NoDay, Bad}
 use Rattle.strptime.specs.declared.Reading.{Reading}
 use Rattle.week_report.specs.Private.{tallied, sum_of, Took, Gathered}
-use Rattle.week_report.specs.Texts.{sheet_or_out, given_by, sheet_in, out_in, sheets_of, outs_of}
-use Rattle.week_report.specs.declared.texts.Gives.{Gives}
-use Rattle.week_report.specs.declared.texts.Gives.TheVariants.{Sheet, Out}
+use Rattle.week_report.specs.Texts.{Gives, sheet_or_out, given_by, sheet_in, out_in, sheets_of, outs_of}
 use Rattle.week_report.proofs.Tallying.{Below, below_append, tallied_length, tallied_append, tallied_sum}
+use Rattle.std.specs.Prelude.{Err, Ok, Result, ℕ}
+use Rattle.format.specs.declared.opening.Unopened.{Unopened}
+use Rattle.sheets.specs.declared.Unpackable.TheVariants.{Bad, NoDay}
+use Rattle.sheets.specs.declared.Unpackable.{Unpackable}
 
 -- ---- one text
 
 module _ (r : Reading) where
-  pub refused_out : (r.number ≡ 0 → ⊥) → Out r.number ≡ given_by r
+  pub refused_out : (r.number ≡ 0 → ⊥) → Err r.number ≡ given_by r
   unfolding given_by
   refused_out n = rw (ne_eqb r.number 0 n)
 
-  pub read_gives : r.number ≡ 0 → {p : Packed} → packing (reading_fields r) ≡ p → sheet_or_out p ≡ given_by r
+  pub read_gives : r.number ≡ 0 → {p : Result ℕ Unpackable} → packing (reading_fields r) ≡ p → sheet_or_out p ≡ given_by r
   unfolding given_by
   read_gives e q = rw (eq-eqb r.number 0 e, q)
 
 -- its number is below 16
-packed_below : (p : Packed) → Below 16 (out_in (sheet_or_out p))
+packed_below : (p : Result ℕ Unpackable) → Below 16 (out_in (sheet_or_out p))
 unfolding sheet_or_out out_in Below
-packed_below (Word x) = tt
-packed_below NoDay = (lit< tt, tt)
-packed_below (Bad k) = (lit< tt, tt)
+packed_below (Ok x) = tt
+packed_below (Err NoDay) = (lit< tt, tt)
+packed_below (Err (Bad k)) = (lit< tt, tt)
 
 out_below : (r : Reading) → r.number < 16 → Below 16 (out_in (given_by r))
 unfolding given_by
@@ -49,28 +49,28 @@ out_below r h =
     picked (λ (g : Gives). Below 16 (out_in g)) (eqb r.number 0) (packed_below (packing (reading_fields r)))
     (unfold out_in Below in (h, tt))
 
-pub number_below : (r : Reading) {n : ℕ} → r.number < 16 → given_by r ≡ Out n → n < 16
+pub number_below : (r : Reading) {n : ℕ} → r.number < 16 → given_by r ≡ Err n → n < 16
 unfolding out_in Below
 number_below r h e = (rw e at (out_below r h)).0
 
 one_each : (g : Gives) → length (sheet_in g) + length (out_in g) ≡ 1
 unfolding sheet_in out_in
-one_each (Sheet x) = refl
-one_each (Out n) = refl
+one_each (Ok x) = refl
+one_each (Err n) = refl
 
-pub took_sheet : {g : Gives} {x : ℕ} (words counts : List ℕ) (n : ℕ) → g ≡ Sheet x
+pub took_sheet : {g : Gives} {x : ℕ} (words counts : List ℕ) (n : ℕ) → g ≡ Ok x
     → Took g words n (set words n x) counts counts (n + 1)
 unfolding sheet_in out_in tallied
 took_sheet words counts n e = record { ends = rw e; sheets = rw e; outs = rw e }
 
-pub took_out : {g : Gives} {k : ℕ} (words counts : List ℕ) {counts' : List ℕ} (n : ℕ) → g ≡ Out k → counts' ≡ tallied (k ∷ []) counts
+pub took_out : {g : Gives} {k : ℕ} (words counts : List ℕ) {counts' : List ℕ} (n : ℕ) → g ≡ Err k → counts' ≡ tallied (k ∷ []) counts
     → Took g words n words counts counts' n
 unfolding sheet_in out_in
 took_out words counts n e f = record { ends = rw e (omega arith); sheets = rw e; outs = rw e f }
 
 -- ---- all texts
 
-pub read_below : (o : Opened) (es t : List ℕ) → (opened_reading o es t).number < 16
+pub read_below : (o : Result ℕ Unopened) (es t : List ℕ) → (opened_reading o es t).number < 16
 read_below o es t =
     let n = opened_numbers (λ n x. n ≤ 11) (λ n h. h) (λ a b. lit≤ tt) (λ a b h i. lit≤ tt) o es t in omega arith
 
@@ -138,7 +138,7 @@ gather_next {read} {s} {from} {words₀} {counts₀} {words} {counts} {n} {next}
       few = omega (arith, v.ahead, t.ends, sum, one);
     }
 
-pub gathered : {o : Opened} {es s : List ℕ} {from : ℕ} {words₀ counts₀ words counts : List ℕ} {n next : ℕ}
+pub gathered : {o : Result ℕ Unopened} {es s : List ℕ} {from : ℕ} {words₀ counts₀ words counts : List ℕ} {n next : ℕ}
     → Gathering (opened_reading o es) s from words₀ counts₀ words counts n next → length s ≤ next
     → Gathered o es s from words₀ words counts₀ counts n
 unfolding tallied

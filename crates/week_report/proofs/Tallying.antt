@@ -10,8 +10,10 @@ use native.Mathlib.Numerals.{add-one}
 use native.Mathlib.Omega.{arith}
 use borrow.Author.Tests.{eq-eqb, ne_eqb}
 use lib.Dec.{eqb}
-use lib.ListN.{length, get_or, set, drop, replicate, length-set}
-use lib.Seq.{get_or-set_same, get_or-set_other, set-set, set-get_or, drop-cons}
+use lib.ListN.{length, get_or, set, replicate, length-set}
+use lib.Seq.{get_or-set_same, get_or-set_other, set-set, set-get_or}
+use Rattle.std.specs.List.{sum}
+use Rattle.std.proofs.lemmas.List.Recursion.{is_sum_by}
 use Rattle.week_report.specs.Counting.{how_many}
 use Rattle.week_report.specs.Private.{tallied, sum_of}
 
@@ -97,7 +99,8 @@ tallied_at k (n ∷ ns) c p =
         let g = get_or-set_other c n k (suc (get_or c n 0)) 0 h in
         rw (ne_eqb k n h) (omega (arith, again, g))
 
--- ---- the sum from a place on
+-- ---- the sum, as std has it
 
-pub sum_next : (c : List ℕ) (i : ℕ) → i < length c → sum_of (drop i c) ≡ get_or c i 0 + sum_of (drop (i + 1) c)
-sum_next c i h = rw (add-one, drop-cons c i 0 h) (unfold sum_of in refl)
+pub sum_is : (c : List ℕ) → sum_of c ≡ sum c
+unfolding sum_of
+sum_is = is_sum_by sum_of (λ x. x) refl (λ n c. refl)

@@ -13,11 +13,13 @@ use Rattle.laws.proofs.Stores.{sets_start}
 use Rattle.lists.specs.Answers.{opened_reading}
 use Rattle.lists.specs.Lines.{lines, line_length, longest_input, too_long, on_lines}
 use Rattle.lists.specs.Parts.{Begun}
-use Rattle.lists.specs.Putting.{Put}
+use Rattle.lists.specs.Putting.{Put, Writes}
 use Rattle.lists.specs.declared.First.{First}
+use Rattle.lists.specs.declared.putting.Writer.{Writer}
 use Rattle.lists.proofs.Begun.{reads_alike}
 use Rattle.lists.proofs.NextLine.{first_line}
-use Rattle.lists.proofs.Puts.{then}
+use Rattle.lists.proofs.Puts as puts
+use Rattle.lists.proofs.Writing.{then, given_back}
 use Rattle.sheet_list.specs.Adding.{most_words, table_length}
 use Rattle.sheet_list.specs.Private.{IsTallied}
 use Rattle.sheet_list.specs.Tallies.{tallies_of, with_sheets}
@@ -193,11 +195,12 @@ module _ {s room es before between : List ℕ} {f : First} (b : Begun [] s room 
             )
 
         pub done : ((k : ℕ) → get_or s k 0 < 256) → most_elements ≤ length room → most_elements ≤ length es → 65536 ≤ length before
-            → {middle after : List ℕ} {at r : ℕ} → Put (table_shown (take t.weeks table)) between f.count middle at
-            → Put (left_shown (set counts no_room (get_or counts no_room 0 + t.left))) middle at after r
-            → Reported (week_report_of s) before after r
+            → {first middle last : Writer} {after : List ℕ} → first.out.now ≡ between → first.at ≡ 0
+            → Writes (table_shown (take t.weeks table)) first middle
+            → Writes (left_shown (set counts no_room (get_or counts no_room 0 + t.left))) middle last
+            → after ≡ last.out.now → Reported (week_report_of s) before after last.at
         unfolding weeks_and_left
-        done are_bytes h k l p q =
+        done are_bytes h k l {last = last} {after} same front-is p q back =
             let ts = (tallies_of sheets).weeks in
             let ns = outs ++ replicate (tallies_of sheets).left no_room in
             let e = whole s short (reads_alike b are_bytes h k) in
@@ -205,7 +208,10 @@ module _ {s room es before between : List ℕ} {f : First} (b : Begun [] s room 
             = ap table_shown (front i) ∙ table_lines (length sheets) ts (omega (arith, n-is, g.few)) (good sheets).most in
             let left_is : left_shown (set counts no_room (get_or counts no_room 0 + t.left)) ≡ left_out ns
             = ap left_shown then-counts ∙ left_lines ns all-below in
-            let put = then begun (then (rw lines_are at p) (rw left_is at q)) in
+            let none : f.count ≡ 0 = omega (arith, begun.ends) in
+            let both : Put (week_lines ts ++ left_out ns) between 0 after last.at
+            = given_back (then (rw lines_are at p) (rw left_is at q)) same front-is back in
+            let put = puts.then (rw none at begun) both in
             let m = weeks_most (length sheets) ts (omega (arith, n-is, g.few)) (good sheets).most in
             rw e
             (reported put

@@ -7,11 +7,9 @@ use Rattle.laws.specs.Bytes.{bytes}
 use Rattle.sheet_list.specs.Tallies.{tallies}
 use Rattle.sheet_list.specs.Weeks.{tally}
 use Rattle.strptime.specs.Answers.{refused, finished}
-use Rattle.strptime.specs.declared.Day.TheVariants.{NoDate, On}
 use Rattle.strptime.specs.declared.Reading.{Reading}
-use Rattle.strptime.specs.declared.Said.TheVariants.{Unsaid, Is}
-use Rattle.values.specs.declared.offsets.Offset.TheVariants.{Unsaid as NoOffset}
 use Rattle.week_report.specs.Weeks.{weeks_and_left, week_report_by, week_report_of}
+use Rattle.std.specs.Prelude.{None, Some}
 
 -- a case: what is done, and what it must give
 abbrev pub Case : Type 0
@@ -22,7 +20,7 @@ unfoldable pub lists : String → List ℕ
 lists s = week_report_of (bytes s)
 
 unfoldable pub says : ℕ → ℕ → ℕ → Reading
-says y m d = finished 0 (On (date y m d)) (Is 23) Unsaid Unsaid NoOffset
+says y m d = finished 0 (Some (date y m d)) (Some 23) None None None
 
 unfoldable pub texts : List Reading → List (List ℕ) → List ℕ
 texts rs ts = week_report_by (λ t. get_or rs (get_or t 0 0 - 97) (refused 6 0)) ts
@@ -32,7 +30,7 @@ week_cases =
     -- a year's last day in a week of the next year; weeks in order, days not; a day twice; refused, and without a day
     (
       texts
-          (says 1 12 31 ∷ says 1 1 8 ∷ says 1 1 1 ∷ refused 9 1 ∷ says 1 1 7 ∷ finished 0 NoDate (Is 23) Unsaid Unsaid NoOffset
+          (says 1 12 31 ∷ says 1 1 8 ∷ says 1 1 1 ∷ refused 9 1 ∷ says 1 1 7 ∷ finished 0 None (Some 23) None None None
           ∷ says 1 12 30 ∷ [])
           (map (λ (b : ℕ). b ∷ []) (bytes "abcdefgzyc")),
       bytes "0001-W01 3\n0001-W02 1\n0001-W52 1\n0002-W01 1\nleft out: 4\nnumber 6: 2\nnumber 9: 1\nnumber 13: 1\n",

@@ -1,14 +1,14 @@
 -- What the code passes through on the way: no part of a promise of the crate.
 use Rattle.std.specs.Prelude.{ℕ, suc, ◌+◌, ◌/◌, ◌%◌, ◌^◌, ◌<◌, ◌≤◌, List, [], ◌∷◌, ◌++◌, ◌≡◌, length, get_or, set, drop}
 use Rattle.std.proofs.lemmas.List.Edits.{sets}
-use Rattle.format.specs.declared.opening.Opened.{Opened}
 use Rattle.lists.specs.Answers.{opened_reading}
 use Rattle.lists.specs.Lines.{lines}
 use Rattle.lists.specs.Putting.{each}
 use Rattle.sheet_list.specs.Weeks.{Tally, tally}
-use Rattle.week_report.specs.Texts.{sheet_in, out_in, sheets_of, outs_of}
+use Rattle.week_report.specs.Texts.{Gives, sheet_in, out_in, sheets_of, outs_of}
 use Rattle.week_report.specs.Weeks.{total_line, number_line, week_line}
-use Rattle.week_report.specs.declared.texts.Gives.{Gives}
+use Rattle.std.specs.Prelude.{Result}
+use Rattle.format.specs.declared.opening.Unopened.{Unopened}
 
 -- counts by number, with some numbers more
 unfoldable pub tallied : List ℕ → List ℕ → List ℕ
@@ -45,7 +45,7 @@ pub record Took (g : Gives) (words : List ℕ) (n : ℕ) (words' counts counts' 
   pub outs : counts' ≡ tallied (out_in g) counts
 
 -- what the texts of an input from a place on give, from the front of the sheets' words on
-pub record Gathered (o : Opened) (es s : List ℕ) (from : ℕ) (words words' counts counts' : List ℕ) (r : ℕ) : Type 0 where
+pub record Gathered (o : Result ℕ Unopened) (es s : List ℕ) (from : ℕ) (words words' counts counts' : List ℕ) (r : ℕ) : Type 0 where
   pub few : r + sum_of counts' ≤ length s
   pub long : length counts' ≡ length counts
   pub ends : r ≡ length (sheets_of (opened_reading o es) (lines (drop from s)))

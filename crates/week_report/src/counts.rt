@@ -1,10 +1,10 @@
 // How many texts each number left out.
-ghost use Rattle.std.specs.Prelude.{◌≡◌, [], ◌∷◌, ◌<◌, length};
-ghost use Rattle.lists.specs.Putting.{Put};
+ghost use Rattle.std.specs.Prelude.{◌≡◌, [], ◌∷◌, ◌<◌, length, sum};
+ghost use Rattle.lists.specs.Putting.{Writes};
 ghost use Rattle.week_report.specs.Private.{tallied, sum_of, numbers_shown, left_shown};
 ghost use Rattle.week_report.specs.Weeks.{total_line, number_line};
 
-use lists::{first_place, put_byte, put_bytes, put_plain};
+use lists::Writer;
 
 // Numbers are below 16.
 pub(crate) const NUMBERS: usize = 16;
@@ -14,63 +14,53 @@ pub(crate) fn count_number(counts: &mut [u32], number: usize)
     requires { (number < length counts.old) × (sum_of counts.old < 32768) }
     ensures { counts.new ≡ tallied (number ∷ []) counts.old }
 {
-    counts[number] = counts[number] + 1;
+    counts[number] += 1;
 }
 
 // All of them together.
 fn sum_of(counts: &[u32]) -> u32
-    requires { sum_of counts.now < 65536 }
-    ensures { result ≡ sum_of counts.now }
+    requires { sum counts.now < 65536 }
+    ensures { result ≡ sum counts.now }
 {
-    let mut sum = 0;
-    let mut i = 0;
-    while i < counts.len() {
-        sum += counts[i];
-        i += 1;
-    }
-    sum
+    counts.iter().sum()
 }
 
-fn put_total(out: &mut [u8], at: usize, n: u32) -> usize
-    ensures { Put (total_line n) out.old at out.new result }
+fn put_total(w: &mut Writer, n: u32)
+    ensures { Writes (total_line n) w.old w.new }
 {
-    let at = put_bytes(out, at, b"left out: ");
-    let at = put_plain(out, at, n);
-    put_byte(out, at, b'\n')
+    w.bytes(b"left out: ");
+    w.plain(n);
+    w.byte(b'\n');
 }
 
-fn put_number(out: &mut [u8], at: usize, number: u32, n: u32) -> usize
-    ensures { Put (number_line number n) out.old at out.new result }
+fn put_number(w: &mut Writer, number: u32, n: u32)
+    ensures { Writes (number_line number n) w.old w.new }
 {
     if n == 0 {
-        return first_place(out, at);
+        return;
     }
-    let at = put_bytes(out, at, b"number ");
-    let at = put_plain(out, at, number);
-    let at = put_bytes(out, at, b": ");
-    let at = put_plain(out, at, n);
-    put_byte(out, at, b'\n')
+    w.bytes(b"number ");
+    w.plain(number);
+    w.bytes(b": ");
+    w.plain(n);
+    w.byte(b'\n');
 }
 
 // A line for each number that left some out.
-fn put_numbers(out: &mut [u8], at: usize, counts: &[u32]) -> usize
+fn put_numbers(w: &mut Writer, counts: &[u32])
     requires { length counts.now < 65536 }
-    ensures { Put (numbers_shown counts.now) out.old at out.new result }
+    ensures { Writes (numbers_shown counts.now) w.old w.new }
 {
-    let mut at = first_place(out, at);
-    let mut i = 0;
-    while i < counts.len() {
-        at = put_number(out, at, i as u32, counts[i]);
-        i += 1;
+    for (i, n) in counts.iter().enumerate() {
+        put_number(w, i as u32, *n);
     }
-    at
 }
 
 // How many texts were left out, and by which numbers.
-pub(crate) fn put_left_out(out: &mut [u8], at: usize, counts: &[u32]) -> usize
+pub(crate) fn put_left_out(w: &mut Writer, counts: &[u32])
     requires { (length counts.now < 65536) × (sum_of counts.now < 65536) }
-    ensures { Put (left_shown counts.now) out.old at out.new result }
+    ensures { Writes (left_shown counts.now) w.old w.new }
 {
-    let at = put_total(out, at, sum_of(counts));
-    put_numbers(out, at, counts)
+    put_total(w, sum_of(counts));
+    put_numbers(w, counts);
 }

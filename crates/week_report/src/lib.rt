@@ -6,7 +6,7 @@ ghost use Rattle.week_report.specs.Weeks.{week_report_of, Reported};
 
 use counts::{NUMBERS, put_left_out};
 use format::MOST_ELEMENTS;
-use lists::{LONGEST_INPUT, PART, begin};
+use lists::{LONGEST_INPUT, PART, Writer, begin};
 use sheet_list::{TABLE_LENGTH, count_sheets};
 use texts::gather;
 use weeks::put_weeks;
@@ -39,6 +39,8 @@ pub fn report(input: &[u8], out: &mut [u8; PART]) -> usize
     let tallied = count_sheets(&words[..n], &mut table);
     let weeks = tallied.weeks;
     counts[14] += tallied.left as u32;
-    let at = put_weeks(out, first.count, &table[..weeks]);
-    put_left_out(out, at, &counts)
+    let mut w = Writer::new(out);
+    put_weeks(&mut w, &table[..weeks]);
+    put_left_out(&mut w, &counts);
+    w.at
 }

@@ -1,32 +1,34 @@
 // What the texts of a list give: each a sheet, or the number by which it is left out.
 ghost use Rattle.std.specs.Prelude.{◌≡◌, ◌≤◌, ◌<◌, length};
 ghost use Rattle.week_report.specs.Private.{sum_of, Took, Gathered};
-ghost use Rattle.week_report.specs.Texts.{given_by};
+ghost use Rattle.week_report.specs.Texts.{sheet_or_out, given_by};
 
 use crate::counts::count_number;
 use format::{MOST_ELEMENTS, Opened};
 use lists::{LONGEST_INPUT, answer_to, line_end};
-use sheets::{Packed, pack, reading_fields};
+use sheets::{Unpackable, pack, reading_fields};
 use strptime::{Reading, reading_of};
 
-// What a text gives: the word of its sheet, or the number by which it is left out.
-#[derive(Clone, Copy)]
-pub(crate) enum Gives {
-    Sheet(u64),
-    Out(u32),
+// The number by which a sheet that has no word is left out.
+fn out_number(why: Unpackable) -> u32
+    ensures { Err result ≡ sheet_or_out (Err why) }
+{
+    match why {
+        Unpackable::NoDay => 13,
+        Unpackable::Bad(_) => 2,
+    }
 }
 
-fn given_by(reading: Reading) -> Gives
+// What a text gives: the word of its sheet, or the number by which it is left out.
+fn given_by(reading: Reading) -> Result<u64, u32>
     ensures { result ≡ given_by reading }
 {
-    let number = reading.number;
-    if number != 0 {
-        return Gives::Out(number);
+    if reading.number != 0 {
+        return Err(reading.number);
     }
     match pack(reading_fields(reading)) {
-        Packed::Word(word) => Gives::Sheet(word),
-        Packed::NoDay => Gives::Out(13),
-        Packed::Bad(_) => Gives::Out(2),
+        Ok(word) => Ok(word),
+        Err(why) => Err(out_number(why)),
     }
 }
 
@@ -42,11 +44,11 @@ fn take_text(
     ensures { Took (given_by reading) words.old n words.new counts.old counts.new result }
 {
     match given_by(reading) {
-        Gives::Sheet(word) => {
+        Ok(word) => {
             words[n] = word;
             n + 1
         }
-        Gives::Out(number) => {
+        Err(number) => {
             count_number(counts, number as usize);
             n
         }

@@ -1,32 +1,22 @@
 -- `refusals::line_number` meets its contract. Assumes nothing.
-use mathlib.Core.Path.{◌≡◌, sym, ◌∙◌}
+use mathlib.Core.Path.{◌≡◌, sym, ap, ◌∙◌}
+use Prim.Native.Nat.{min}
+use lib.ListN.{length, take}
+use Rattle.lists.specs.Lines.{newline}
+use Rattle.std.specs.List.{count_by}
+use Rattle.std.specs.Prelude.{◌==◌}
+use Rattle.std.proofs.Common.{rules}
+use Rattle.refusals.specs.Blocks.{newlines, line_number}
+use Rattle.lists.proofs.Formats.{first_few}
+use Rattle.refusals.proofs.Numbering.{newlines_is}
 use native.Mathlib.Omega.{arith}
-use Rattle.refusals.proofs.Numbering.{first_number, number_most, next_byte, past_end}
 use Rattle.refusals.proofs.line_number.Goals as goal
 
-pub loop-i-init : goal.loop-i-init
-loop-i-init c = (sym (first_number _), omega arith)
-
-pub returns-then-input-i : goal.returns-then-input-i
-returns-then-input-i c =
-    let l = c in
-    let a = l.args in
-    l.loop-i.invariant.0 ∙ sym (past_end a.input.now l.loop-i.i a.from (omega arith) (omega arith))
-
-pub next_number-number-requires : goal.next_number-number-requires
-next_number-number-requires c =
-    let l = c in
-    let a = c in
-    omega (arith, l.loop-i.invariant.0, a.requires, (number_most a.args.input.now l.loop-i.i).1)
-
-pub loop-i-preserved : goal.loop-i-preserved
-loop-i-preserved c =
-    let l = c in
-    let s = l.args.input.now in
-    (c.next_number-number.ensures ∙ rw l.loop-i.invariant.0 (sym (next_byte s l.loop-i.i (omega arith))), omega arith)
-
 pub returns : goal.returns
+unfolding line_number
 returns c =
-    let l = c in
-    let e : l.loop-i.i ≡ l.args.from = omega arith in
-    rw (← e) l.loop-i.invariant.0
+    let p : c.count.result ≡ count_by (λ b. b == newline) (take (min c.args.from (length c.args.input.now)) c.args.input.now) =
+    search rules in
+    let q : c.count.result ≡ newlines (take c.args.from c.args.input.now)
+    = p ∙ sym (newlines_is _) ∙ ap newlines (first_few c.args.input.now c.args.from) in
+    omega arith

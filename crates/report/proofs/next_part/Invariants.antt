@@ -6,8 +6,7 @@ use Rattle.report.proofs.next_part.Given as goal
 
 abbrev pub invariant-loop-next : goal.invariant-loop-next
 invariant-loop-next l =
-    Listing (lines_by l.opened l.elements l.input l.from) l.initial.out l.out l.count
-    (lines_by l.opened l.elements l.input l.next) l.from l.next
+    Listing (lines_by l.opened l.elements l.input l.from) l.initial.w l.w (lines_by l.opened l.elements l.input l.next) l.from l.next
 
 abbrev pub decreases-loop-next : goal.decreases-loop-next
 decreases-loop-next l = length l.input - l.next

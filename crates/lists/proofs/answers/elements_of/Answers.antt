@@ -3,14 +3,10 @@ use lib.ListN.{length-take}
 use Rattle.lists.specs.Answers.{opened_elements}
 use Rattle.lists.proofs.answers.elements_of.Goals as goal
 
-pub returns-in-Done : goal.returns-in-Done
+pub returns-in-Ok : goal.returns-in-Ok
 unfolding opened_elements
-returns-in-Done c = rw (c.in-Done.is, length-take) c.smaller.ensures
+returns-in-Ok c = rw (c.in-Ok.is, length-take) c.min.ensures
 
-pub returns-in-TooLong : goal.returns-in-TooLong
+pub returns-in-Err : goal.returns-in-Err
 unfolding opened_elements
-returns-in-TooLong c = rw c.in-TooLong.is
-
-pub returns-in-Bad : goal.returns-in-Bad
-unfolding opened_elements
-returns-in-Bad c = rw c.in-Bad.is
+returns-in-Err c = rw c.in-Err.is

@@ -9,7 +9,9 @@ use Rattle.laws.specs.Bytes.{bytes}
 use Rattle.format.specs.Opening.{opened, opened_into}
 use Rattle.format.specs.declared.opening.Side.TheVariants.{Reader}
 use Rattle.lists.specs.Lines.{line_length, longest_input}
+use Rattle.std.proofs.Common.{rules}
 use Rattle.lists.proofs.Splitting.{within}
+use Rattle.lists.proofs.Writing.{given_back}
 use Rattle.lists.proofs.beginning.begin.Goals as goal
 use Rattle.lists.proofs.beginning.begin.Goals.{After-line_end-end, After-open-opened}
 
@@ -42,7 +44,7 @@ returns-then-input-gt-LONGEST_INPUT c =
       opens = (formats (goal.at.returns-then-input-gt-LONGEST_INPUT c).After-open-opened).0;
       stores =
           (formats (goal.at.returns-then-input-gt-LONGEST_INPUT c).After-open-opened).1;
-      puts = rw t p.put_bytes-count.ensures;
+      puts = rw t (given_back c.bytes.ensures c.new-w.ensures.starts.0 c.new-w.ensures.starts.1 (search rules));
       goes = rw t;
     }
 
@@ -61,6 +63,6 @@ returns c =
       opens = (formats (goal.at.returns c).After-open-opened).0;
       stores =
           (formats (goal.at.returns c).After-open-opened).1;
-      puts = rw t p.put_bytes-count-2.ensures;
+      puts = rw t (given_back c.bytes-2.ensures c.new-w.ensures.starts.0 c.new-w.ensures.starts.1 (search rules));
       goes = rw (t, n);
     }

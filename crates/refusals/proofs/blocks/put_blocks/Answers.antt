@@ -1,10 +1,11 @@
 -- `refusals::blocks::put_blocks` meets its contract. Assumes nothing.
 use Prim.Native.Nat.{◌-◌, ◌≤◌, ◌<◌}
-use mathlib.Core.Path.{◌≡◌}
+use mathlib.Core.Path.{◌≡◌, sym, ap, ◌∙◌}
 use native.Mathlib.Omega.{arith}
+use Rattle.std.proofs.Common.{rules}
 use lib.ListN.{length, take, drop, length-take, length-drop}
 use Rattle.lists.specs.Lines.{lines, longest_input}
-use Rattle.lists.proofs.Listing.{list_start, list_next}
+use Rattle.lists.proofs.Listing.{list_start, list_next, listed}
 use Rattle.lists.proofs.Splitting.{within}
 use Rattle.refusals.specs.Blocks.{blocks, opened_block, blocks_by}
 use Rattle.refusals.proofs.Lengths.{block_most}
@@ -24,7 +25,7 @@ loop-next-init c =
     let s = a.input.now in
     let n = c.requires.1 in (
       rw (← left a.opened a.elements.now s a.from a.first c.requires.0 (λ _. n))
-          (list_start (blocks_by a.opened a.elements.now s a.from) a.out.now a.from),
+          (list_start (blocks_by a.opened a.elements.now s a.from) _ a.from c.new-w.ensures.starts.1),
       omega (arith, n, (number_most s a.from).0),
       λ _. n,
     )
@@ -38,11 +39,16 @@ rest c =
     let a = c.args in
     left a.opened a.elements.now a.input.now c.loop-next.next c.loop-next.line c.requires.0 c.loop-next.invariant.2
 
-pub returns-then-count : goal.returns-then-count
-returns-then-count c =
-    let l = c in
-    let i = l.loop-next.invariant.0 in
-    record { puts = rw (rest (goal.at.returns-then-count c).At-loop-next) i.puts; goes = λ _. i.some (omega arith) }
+pub shape_of-out-then-w : goal.shape_of-out-then-w
+shape_of-out-then-w c = sym (c.loop-next.invariant.0.same_buffer ∙ c.new-w.ensures.same_buffer)
+
+pub returns-then-w : goal.returns-then-w
+returns-then-w c =
+    let i = c.loop-next.invariant.0 in
+    record {
+      puts = rw (rest (goal.at.returns-then-w c).At-loop-next) (listed i c.new-w.ensures.starts.0 (search rules));
+      goes = λ _. i.some (omega arith);
+    }
 
 -- the line found lies in the input
 found : (c : After-line_end-stop) →
@@ -58,8 +64,8 @@ slice_bounds-put_text-count c = (found (goal.at.slice_bounds-put_text-count c).A
 pub slice_bounds-put_text-start : goal.slice_bounds-put_text-start
 slice_bounds-put_text-start c = (found (goal.at.slice_bounds-put_text-start c).After-line_end-stop).0
 
-pub slice_bounds-put_text-end-in-loop-next-2 : goal.slice_bounds-put_text-end-in-loop-next-2
-slice_bounds-put_text-end-in-loop-next-2 c = (found (goal.at.slice_bounds-put_text-end-in-loop-next-2 c).After-line_end-stop).1
+pub slice_bounds-put_text-end-in-loop-next : goal.slice_bounds-put_text-end-in-loop-next
+slice_bounds-put_text-end-in-loop-next c = (found (goal.at.slice_bounds-put_text-end-in-loop-next c).After-line_end-stop).1
 
 pub overflow_add-next : goal.overflow_add-next
 overflow_add-next c = omega (arith, found (goal.at.overflow_add-next c).After-line_end-stop)
@@ -92,8 +98,8 @@ loop-next-preserved c =
     ) in (
       list_next i.0
           (next_block (opened_block a.opened a.elements.now) l.loop-next.line s l.loop-next.next (omega arith) e.line_end-stop.ensures)
-          c.put_text-count.ensures
-          (omega (arith, block_most a.opened a.elements.now t l.loop-next.line few short))
+          c.put_text.ensures
+          (omega (arith, block_most a.opened a.elements.now t l.loop-next.line few short, ap length c.new-w.ensures.starts.0))
           (omega (arith, found (goal.at.loop-next-preserved c).After-line_end-stop)),
       omega (arith, found (goal.at.loop-next-preserved c).After-line_end-stop, i.1),
       λ h. omega (arith, i.2 (omega arith), next_number s l.loop-next.next e.line_end-stop.ensures (omega arith)),
@@ -101,5 +107,10 @@ loop-next-preserved c =
 
 pub returns : goal.returns
 returns c =
-    let l = c in
-    record { puts = rw (rest (goal.at.returns c).At-loop-next) l.loop-next.invariant.0.puts; goes = λ h. omega arith }
+    record {
+      puts = rw (rest (goal.at.returns c).At-loop-next) (listed c.loop-next.invariant.0 c.new-w.ensures.starts.0 (search rules));
+      goes = λ h. omega arith;
+    }
+
+pub shape_of-out : goal.shape_of-out
+shape_of-out c = sym (c.loop-next.invariant.0.same_buffer ∙ c.new-w.ensures.same_buffer)

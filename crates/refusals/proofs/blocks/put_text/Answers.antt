@@ -1,13 +1,16 @@
 -- `refusals::blocks::put_text` meets its contract. Assumes nothing.
 use mathlib.Core.Path.{◌≡◌, sym, ap, ◌∙◌}
 use lib.ListN.{length, take}
-use Rattle.lists.specs.Answers.{opened_elements}
+use Rattle.lists.specs.Answers.{opened_reading, opened_elements}
 use Rattle.lists.proofs.Figures.{place_fits}
 use Rattle.lists.proofs.Formats.{elements_first}
+use Rattle.lists.proofs.Writing.{nothing}
 use Rattle.reasons.proofs.Places.{explained_inside}
-use Rattle.refusals.specs.Blocks.{opened_block}
+use Rattle.refusals.specs.Blocks.{block, opened_block}
+use Rattle.strptime.specs.Answers.{reading_of, refusal_of}
+use Rattle.refusals.proofs.Answers.{is_done}
 use Rattle.refusals.proofs.blocks.put_text.Goals as goal
-use Rattle.refusals.proofs.blocks.put_text.Goals.{After-elements_of-count}
+use Rattle.refusals.proofs.blocks.put_text.Goals.{After-elements_of-count, In-Err}
 
 -- the first entries are the elements
 first-ones : (c : After-elements_of-count) → let a = c.args in
@@ -17,24 +20,27 @@ first-ones c = rw c.elements_of-count.ensures (elements_first _ _)
 pub slice_bounds-explain-end : goal.slice_bounds-explain-end
 slice_bounds-explain-end c = c.elements_of-count.ensures ∙ ap length (sym (first-ones c))
 
-pub put_block-requires : goal.put_block-requires
-put_block-requires c =
-    let e = c in
-    let n = c in
-    let r = c in
-    let a = r.args in record {
-      answer_bound =
-          rw r.answer_to-answer.ensures (place_fits a.opened a.elements.now a.text.now);
-      all_inside = λ k. rw e.explain-explained.ensures
-          (explained_inside _ _ a.text.now k).1;
+-- the refusal is that of the reading
+refusal-is : (c : In-Err) → let a = c.args in
+    refusal_of c.in-Err.refusal ≡ opened_reading a.opened a.elements.now a.text.now
+unfolding reading_of
+refusal-is c = rw c.in-Err.is at c.answer_to-answer.ensures
+
+pub invariant_of-put_block : goal.invariant_of-put_block
+invariant_of-put_block c =
+    let a = c.args in
+    record {
+      place_fits = rw (refusal-is (goal.at.invariant_of-put_block c).In-Err) (place_fits a.opened a.elements.now a.text.now);
+      all_inside = λ k. rw c.explain.ensures (explained_inside _ _ a.text.now k).1;
     }
 
+pub returns-in_default : goal.returns-in_default
+unfolding opened_block block
+returns-in_default c =
+    rw (← c.answer_to-answer.ensures, is_done c.answer_to-answer.result c.in_default.not-Err) (nothing c.args.w.now)
+
 pub returns : goal.returns
-unfolding opened_block
+unfolding opened_block reading_of
 returns c =
-    let p = c in
-    let e = c in
-    let n = c in
-    let r = c in
-    rw (← r.answer_to-answer.ensures, ← first-ones (goal.at.returns c).After-elements_of-count, ← e.explain-explained.ensures)
-    p.put_block.ensures
+    let k = goal.at.returns c in
+    rw (← refusal-is k.In-Err, ← first-ones k.After-elements_of-count) (rw c.explain.ensures at c.put_block.ensures)

@@ -3,10 +3,10 @@ use borrow.Author.Tests.{le-leb, lt-leb}
 use Rattle.refusals.specs.Marks.{covers}
 use Rattle.refusals.proofs.marks.covers.Goals as goal
 
-pub returns-then-offset-extent : goal.returns-then-offset-extent
+pub returns-then-extent-offset : goal.returns-then-extent-offset
 unfolding covers
-returns-then-offset-extent c = rw (lt-leb _ _ c.if-offset-extent.true)
+returns-then-extent-offset c = rw (le-leb _ _ c.if-extent-offset.true)
 
-pub returns : goal.returns
+pub returns-else-extent-offset : goal.returns-else-extent-offset
 unfolding covers
-returns c = rw (le-leb _ _ c.if-offset-extent.false)
+returns-else-extent-offset c = rw (lt-leb _ _ c.if-extent-offset.false)

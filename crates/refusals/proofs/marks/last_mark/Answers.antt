@@ -8,19 +8,16 @@ use Rattle.refusals.specs.Over.{most}
 use Rattle.refusals.proofs.Over.{most_more}
 use Rattle.refusals.proofs.marks.last_mark.Goals as goal
 
-pub loop-kind-init : goal.loop-kind-init
+pub loop-extent-init : goal.loop-extent-init
 unfolding most
-loop-kind-init c = (omega arith, refl)
+loop-extent-init c = refl
 
-pub loop-kind-preserved : goal.loop-kind-preserved
+pub loop-extent-preserved : goal.loop-extent-preserved
 unfolding nowhere
-loop-kind-preserved c =
-    let l = c.loop-kind in
-    (omega arith, rw (most_more _ l.kind, ← l.invariant.1) c.later-last.ensures)
+loop-extent-preserved c = rw (most_more _ c.loop-extent.extent-index, ← c.loop-extent.invariant) c.max-last.ensures
 
 pub returns : goal.returns
 unfolding last_mark
 returns c =
-    let l = c.loop-kind in
-    let e : l.kind ≡ kinds = omega arith in
-    rw e at l.invariant.1
+    let e : c.loop-extent.extent-index ≡ kinds = omega arith in
+    rw e at c.loop-extent.invariant

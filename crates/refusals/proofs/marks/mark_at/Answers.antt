@@ -7,6 +7,6 @@ pub returns-then-is_marked : goal.returns-then-is_marked
 unfolding mark_at
 returns-then-is_marked c = rw (sym c.is_marked.ensures ∙ c.if-is_marked.true)
 
-pub returns : goal.returns
+pub returns-else-is_marked : goal.returns-else-is_marked
 unfolding mark_at
-returns c = rw (sym c.is_marked.ensures ∙ c.if-is_marked.false)
+returns-else-is_marked c = rw (sym c.is_marked.ensures ∙ c.if-is_marked.false)

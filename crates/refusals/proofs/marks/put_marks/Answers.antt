@@ -1,24 +1,16 @@
 -- `refusals::marks::put_marks` meets its contract. Assumes nothing.
 use mathlib.Core.Path.{◌≡◌}
 use native.Mathlib.Omega.{arith}
-use Rattle.lists.proofs.Puts.{each_start, each_next, kept_length}
+use Rattle.lists.proofs.Writing.{each_start, each_next}
 use Rattle.refusals.proofs.marks.put_marks.Goals as goal
 
 pub loop-i-init : goal.loop-i-init
-loop-i-init c = (omega arith, each_start _ c.first_place-end.ensures)
+loop-i-init c = each_start _ c.args.w.now
 
 pub loop-i-preserved : goal.loop-i-preserved
-loop-i-preserved c =
-    let l = c.loop-i in
-    let p = c in
-    (omega arith, each_next _ l.i l.invariant.1 (rw p.mark_at.ensures at p.put_byte-end.ensures))
-
-pub shape_of-out : goal.shape_of-out
-shape_of-out c = kept_length c.loop-i.invariant.1
+loop-i-preserved c = each_next _ c.loop-i.i c.loop-i.invariant (rw c.mark_at.ensures at c.byte.ensures)
 
 pub returns : goal.returns
 returns c =
-    let a = c.args in
-    let l = c.loop-i in
-    let e : l.i ≡ a.last = omega arith in
-    rw e at l.invariant.1
+    let e : c.loop-i.i ≡ c.args.last = omega arith in
+    rw e at c.loop-i.invariant

@@ -6,8 +6,8 @@ use Rattle.refusals.proofs.sentences.put_mismatch.Goals as goal
 
 pub returns-then-place-text : goal.returns-then-place-text
 unfolding mismatch bytes
-returns-then-place-text c = rw (lt-ltb _ _ c.if-place-text.true) c.put_bytes.ensures
+returns-then-place-text c = rw (lt-ltb _ _ c.if-place-text.true) c.bytes.ensures
 
-pub returns : goal.returns
+pub returns-else-place-text : goal.returns-else-place-text
 unfolding mismatch bytes
-returns c = rw (le-ltb _ _ c.if-place-text.false) c.put_bytes-2.ensures
+returns-else-place-text c = rw (le-ltb _ _ c.if-place-text.false) c.bytes-else-place-text.ensures

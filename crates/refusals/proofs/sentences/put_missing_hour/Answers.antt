@@ -6,23 +6,21 @@ use borrow.Author.Tests.{eq-eqb, ne_eqb}
 use Rattle.laws.specs.Bytes.{bytes}
 use Rattle.refusals.specs.Sentences.{missing_hour}
 use Rattle.refusals.proofs.sentences.put_missing_hour.Goals as goal
-
-pub returns-then-second-lt12 : goal.returns-then-second-lt12
-unfolding missing_hour bytes
-returns-then-second-lt12 c =
-    let a = c.args in
-    let d : a.second ≡ a.first + 12 → ⊥ = λ e. omega arith in
-    rw (ne_eqb a.second (a.first + 12) d) c.put_bytes.ensures
+use Rattle.refusals.proofs.sentences.put_missing_hour.Goals.{else-second-ge12-via-then-second-ge12+else-second-first}
+use Rattle.refusals.proofs.sentences.put_missing_hour.Goals.{else-second-ge12-via-else-second-ge12}
 
 pub returns-then-second-first : goal.returns-then-second-first
 unfolding missing_hour bytes
 returns-then-second-first c =
     let a = c.args in
-    rw (eq-eqb a.second (a.first + 12) (omega arith)) c.put_bytes-then-second-first.ensures
+    rw (eq-eqb a.second (a.first + 12) (omega arith)) c.bytes.ensures
 
-pub returns : goal.returns
+pub returns-else-second-ge12 : goal.returns-else-second-ge12
 unfolding missing_hour bytes
-returns c =
+returns-else-second-ge12 c =
     let a = c.args in
-    let d : a.second ≡ a.first + 12 → ⊥ = λ e. c.if-second-first.false (omega arith) in
-    rw (ne_eqb a.second (a.first + 12) d) c.put_bytes-2.ensures
+    let d : a.second ≡ a.first + 12 → ⊥ = λ e. elim c.else-second-ge12.branch [
+      | else-second-ge12-via-then-second-ge12+else-second-first w ↦ w.if-second-first.false (omega arith)
+      | else-second-ge12-via-else-second-ge12 w ↦ absurd (omega (arith, w.if-second-ge12.false))
+    ] in
+    rw (ne_eqb a.second (a.first + 12) d) c.bytes-else-second-ge12.ensures

@@ -5,12 +5,12 @@ use Rattle.refusals.proofs.sentences.put_part.Goals as goal
 
 pub returns-in-Year : goal.returns-in-Year
 unfolding part_name bytes
-returns-in-Year c = rw c.in-Year.is c.put_bytes.ensures
+returns-in-Year c = rw c.in-Year.is c.bytes.ensures
 
 pub returns-in-Month : goal.returns-in-Month
 unfolding part_name bytes
-returns-in-Month c = rw c.in-Month.is c.put_bytes-in-Month.ensures
+returns-in-Month c = rw c.in-Month.is c.bytes-in-Month.ensures
 
 pub returns-in-Day : goal.returns-in-Day
 unfolding part_name bytes
-returns-in-Day c = rw c.in-Day.is c.put_bytes-in-Day.ensures
+returns-in-Day c = rw c.in-Day.is c.bytes-in-Day.ensures

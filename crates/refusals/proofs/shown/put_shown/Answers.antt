@@ -1,27 +1,18 @@
 -- `refusals::shown::put_shown` meets its contract. Assumes nothing.
-use mathlib.Core.Path.{◌≡◌}
 use native.Mathlib.Omega.{arith}
-use lib.ListN.{length}
-use Rattle.lists.proofs.Puts.{each_start, each_next, each_all, kept_length}
+use lib.Seq.{take_all}
+use Rattle.lists.proofs.Writing.{nothing, mapped}
 use Rattle.refusals.specs.Shown.{shown_byte, shown}
 use Rattle.refusals.proofs.shown.put_shown.Goals as goal
 
-pub loop-i-init : goal.loop-i-init
-loop-i-init c = (omega arith, each_start _ c.first_place-end.ensures)
+pub loop-b-init : goal.loop-b-init
+loop-b-init c = nothing c.args.w.now
 
-pub loop-i-preserved : goal.loop-i-preserved
-loop-i-preserved c =
-    let l = c.loop-i in
-    let p = c in
-    (omega arith, each_next _ l.i l.invariant.1 (rw p.shown_byte.ensures at p.put_byte-end.ensures))
-
-pub shape_of-out : goal.shape_of-out
-shape_of-out c = kept_length c.loop-i.invariant.1
+pub loop-b-preserved : goal.loop-b-preserved
+loop-b-preserved c =
+    let l = c.loop-b in
+    mapped shown_byte c.args.text.now l.b-index (omega arith) l.invariant (rw c.shown_byte.ensures at c.byte.ensures)
 
 pub returns : goal.returns
 unfolding shown
-returns c =
-    let s = c.args.text.now in
-    let l = c.loop-i in
-    let e : l.i ≡ length s = omega arith in
-    rw (e, each_all shown_byte s) at l.invariant.1
+returns c = rw (take_all c.loop-b.b-index c.args.text.now (omega arith)) at c.loop-b.invariant

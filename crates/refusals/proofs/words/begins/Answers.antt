@@ -6,8 +6,8 @@ use Rattle.refusals.proofs.words.begins.Goals as goal
 
 pub returns-then-extent-offset : goal.returns-then-extent-offset
 unfolding begins nowhere
-returns-then-extent-offset c = rw (ne_eqb _ _ c.if-extent-offset.true)
+returns-then-extent-offset c = rw (eq-eqb _ _ c.if-extent-offset.true)
 
-pub returns : goal.returns
+pub returns-else-extent-offset : goal.returns-else-extent-offset
 unfolding begins nowhere
-returns c = rw (eq-eqb _ _ c.if-extent-offset.false)
+returns-else-extent-offset c = rw (ne_eqb _ _ c.if-extent-offset.false)

@@ -5,7 +5,7 @@ use native.Mathlib.Omega.{arith}
 use borrow.Author.Tests.{not-true, not-false}
 use lib.ListN.{get_or}
 use Rattle.matching.specs.Extents.{nowhere}
-use Rattle.lists.proofs.Puts.{then}
+use Rattle.lists.proofs.Writing.{nothing, then}
 use Rattle.refusals.specs.Words.{phrase_at}
 use Rattle.refusals.proofs.Phrases.{some_words}
 use Rattle.refusals.proofs.words.put_phrase_at.Goals as goal
@@ -15,15 +15,15 @@ pub returns-then-not-begins : goal.returns-then-not-begins
 unfolding phrase_at
 returns-then-not-begins c =
     let b = c.begins.ensures in
-    rw (sym b ∙ not-true _ c.if-not-begins.true-raw) c.first_place.ensures
+    rw (sym b ∙ not-true _ c.if-not-begins.true-raw) (nothing c.args.w.now)
 
 -- the words are some
 begun : (c : Else-not-begins) →
     let a = c.args in
-    (get_or a.words a.kind nowhere).from < (get_or a.words a.kind nowhere).next
+    (get_or a.refused.now.words a.kind nowhere).from < (get_or a.refused.now.words a.kind nowhere).next
 begun c =
     let a = c.args in
-    some_words a.words a.offset a.kind (sym c.begins.ensures ∙ not-false _ c.if-not-begins.false-raw)
+    some_words a.refused.now.words a.offset a.kind (sym c.begins.ensures ∙ not-false _ c.if-not-begins.false-raw)
 
 pub slice_bounds-put_phrase-count : goal.slice_bounds-put_phrase-count
 unfolding nowhere
@@ -37,7 +37,7 @@ pub slice_bounds-put_phrase-end : goal.slice_bounds-put_phrase-end
 unfolding nowhere
 slice_bounds-put_phrase-end c =
     let s = c in
-    s.requires.all_inside s.args.kind
+    s.args.refused.now.all_inside s.args.kind
 
 pub returns : goal.returns
 unfolding phrase_at nowhere
@@ -47,4 +47,4 @@ returns c =
     let f = c in
     let e = c in
     rw (sym e.begins.ensures ∙ not-false _ e.if-not-begins.false-raw)
-    (then f.put_phrase-at.ensures (rw w at p.put_separator.ensures))
+    (then f.put_phrase.ensures (rw w at p.put_separator.ensures))

@@ -1,19 +1,19 @@
 -- `refusals::words::put_separator` meets its contract. Assumes nothing.
+use native.Mathlib.Omega.{arith}
 use borrow.Author.Tests.{ne_eqb}
 use Rattle.laws.specs.Bytes.{bytes}
+use Rattle.lists.proofs.Writing.{nothing}
 use Rattle.refusals.specs.Words.{separator}
 use Rattle.refusals.proofs.words.put_separator.Goals as goal
 
-pub returns-then-more-eq0 : goal.returns-then-more-eq0
+pub returns-in-0 : goal.returns-in-0
 unfolding separator
-returns-then-more-eq0 c = rw c.if-more-eq0.true c.first_place.ensures
+returns-in-0 c = rw c.in-0.is (nothing c.args.w.now)
 
-pub returns-then-more-eq1 : goal.returns-then-more-eq1
+pub returns-in-1 : goal.returns-in-1
 unfolding separator bytes
-returns-then-more-eq1 c = rw c.if-more-eq1.true c.put_bytes.ensures
+returns-in-1 c = rw c.in-1.is c.bytes.ensures
 
-pub returns : goal.returns
+pub returns-in_default : goal.returns-in_default
 unfolding separator bytes
-returns c =
-    let d = c in
-    rw (ne_eqb _ 0 d.if-more-eq0.false, ne_eqb _ 1 d.if-more-eq1.false) c.put_bytes-2.ensures
+returns-in_default c = rw (ne_eqb c.args.more 0 (λ e. omega arith), ne_eqb c.args.more 1 (λ e. omega arith)) c.bytes-in_default.ensures

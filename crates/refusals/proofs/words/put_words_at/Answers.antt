@@ -2,27 +2,16 @@
 use mathlib.Core.Path.{◌≡◌}
 use native.Mathlib.Omega.{arith}
 use Rattle.kinds.specs.Kinds.{kinds}
-use Rattle.lists.proofs.Puts.{each_start, each_next, kept_length}
+use Rattle.lists.proofs.Writing.{each_start, each_next}
 use Rattle.refusals.proofs.words.put_words_at.Goals as goal
 
 pub loop-kind-init : goal.loop-kind-init
-loop-kind-init c = (omega arith, each_start _ c.first_place-end.ensures)
-
-pub put_phrase_at-end-requires : goal.put_phrase_at-end-requires
-put_phrase_at-end-requires c =
-    let s = c in
-    record { kind_lt_kinds = (omega arith, s.requires.offset_in_bounds); all_inside = s.requires.all_inside }
+loop-kind-init c = each_start _ c.args.w.now
 
 pub loop-kind-preserved : goal.loop-kind-preserved
-loop-kind-preserved c =
-    let l = c.loop-kind in
-    (omega arith, each_next _ l.kind l.invariant.1 c.put_phrase_at-end.ensures)
-
-pub shape_of-out : goal.shape_of-out
-shape_of-out c = kept_length c.loop-kind.invariant.1
+loop-kind-preserved c = each_next _ c.loop-kind.kind c.loop-kind.invariant c.put_phrase_at.ensures
 
 pub returns : goal.returns
 returns c =
-    let l = c.loop-kind in
-    let e : l.kind ≡ kinds = omega arith in
-    rw e at l.invariant.1
+    let e : c.loop-kind.kind ≡ kinds = omega arith in
+    rw e at c.loop-kind.invariant

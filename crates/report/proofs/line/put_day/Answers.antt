@@ -3,10 +3,10 @@ use Rattle.laws.specs.Bytes.{bytes}
 use Rattle.report.specs.Line.{day_shown}
 use Rattle.report.proofs.line.put_day.Goals as goal
 
-pub returns-in-NoDate : goal.returns-in-NoDate
+pub returns-in-None : goal.returns-in-None
 unfolding day_shown bytes
-returns-in-NoDate c = rw c.in-NoDate.is c.put_byte.ensures
+returns-in-None c = rw c.in-None.is c.byte.ensures
 
-pub returns-in-On : goal.returns-in-On
+pub returns-in-Some : goal.returns-in-Some
 unfolding day_shown
-returns-in-On c = rw c.in-On.is c.put_date.ensures
+returns-in-Some c = rw c.in-Some.is c.date.ensures

@@ -1,13 +1,12 @@
 -- `week_report::counts::put_left_out` meets its contract. Assumes nothing.
+use Rattle.lists.proofs.Writing.{then}
 use Rattle.week_report.specs.Private.{left_shown}
-use Rattle.lists.proofs.Puts.{then}
+use Rattle.week_report.proofs.Tallying.{sum_is}
 use Rattle.week_report.proofs.counts.put_left_out.Goals as goal
+
+pub sum_of-requires : goal.sum_of-requires
+sum_of-requires c = rw (sum_is c.args.counts.now) at c.requires.1
 
 pub returns : goal.returns
 unfolding left_shown
-returns c =
-    let put-numbers-then = c in
-    let put-total-then = c in
-    let sum-of-then = c in
-    let total = rw sum-of-then.sum_of.ensures at put-total-then.put_total-at.ensures in
-    then total put-numbers-then.put_numbers.ensures
+returns c = then (rw (c.sum_of.ensures, ← sum_is c.args.counts.now) at c.put_total.ensures) c.put_numbers.ensures

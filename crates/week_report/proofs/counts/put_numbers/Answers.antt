@@ -1,26 +1,19 @@
 -- `week_report::counts::put_numbers` meets its contract. Assumes nothing.
-use Rattle.week_report.specs.Private.{numbers_shown}
-use Rattle.lists.proofs.Puts.{each_start, each_next, kept_length}
-use lib.ListN.{length}
-use native.Mathlib.Omega.{arith}
 use mathlib.Core.Path.{◌≡◌}
+use native.Mathlib.Omega.{arith}
+use lib.ListN.{length}
+use Rattle.lists.proofs.Writing.{each_start, each_next}
+use Rattle.week_report.specs.Private.{numbers_shown}
 use Rattle.week_report.proofs.counts.put_numbers.Goals as goal
 
 pub loop-i-init : goal.loop-i-init
-loop-i-init c = (omega arith, each_start _ c.first_place-at.ensures)
+loop-i-init c = each_start _ c.args.w.now
 
 pub loop-i-preserved : goal.loop-i-preserved
-loop-i-preserved c =
-    let l = c.loop-i in
-    (omega arith, each_next _ l.i l.invariant.1 c.put_number-at.ensures)
-
-pub shape_of-out : goal.shape_of-out
-shape_of-out c = kept_length c.loop-i.invariant.1
+loop-i-preserved c = each_next _ c.loop-i.i c.loop-i.invariant c.put_number.ensures
 
 pub returns : goal.returns
 unfolding numbers_shown
 returns c =
-    let l = c in
-    let s = c.args.counts.now in
-    let e : l.loop-i.i ≡ length s = omega arith in
-    rw e at l.loop-i.invariant.1
+    let e : c.loop-i.i ≡ length c.args.counts.now = omega arith in
+    rw e at c.loop-i.invariant

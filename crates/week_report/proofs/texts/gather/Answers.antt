@@ -18,9 +18,7 @@ loop-next-init c =
 found : (c : After-line_end-stop) →
     let l = c in
     (l.loop-next.next ≤ c.line_end-stop.result) × (c.line_end-stop.result ≤ length l.args.input.now)
-found c =
-    let l = c in
-    within l.args.input.now l.loop-next.next (omega arith) c.line_end-stop.ensures
+found c = within c.args.input.now c.loop-next.next (omega arith) c.line_end-stop.ensures
 
 pub slice_bounds-answer_to-count : goal.slice_bounds-answer_to-count
 slice_bounds-answer_to-count c = (found (goal.at.slice_bounds-answer_to-count c).After-line_end-stop).0

@@ -5,36 +5,16 @@ use Rattle.sheets.specs.Sheets.{packing}
 use Rattle.week_report.specs.Texts.{sheet_or_out}
 use Rattle.week_report.proofs.texts.given_by.Goals as goal
 
-pub returns-then-number-ne0 : goal.returns-then-number-ne0
-returns-then-number-ne0 c = refused_out _ c.if-number-ne0.true
+pub returns-then-reading-ne0 : goal.returns-then-reading-ne0
+returns-then-reading-ne0 c = refused_out _ c.if-reading-ne0.true
 
-pub returns-in-Word : goal.returns-in-Word
+pub returns-in-Ok : goal.returns-in-Ok
 unfolding sheet_or_out
-returns-in-Word c =
-    let word-then = c in
-    let pack-then = c in
-    let reading-fields-then = c in
-    let else1-then = c in
-    let start = c in
-    let packed = pack-then.pack.ensures ∙ ap packing reading-fields-then.reading_fields.ensures in
-    read_gives start.args.reading else1-then.if-number-ne0.false (sym packed ∙ word-then.in-Word.is)
+returns-in-Ok c =
+    let packed = c.pack.ensures ∙ ap packing c.reading_fields.ensures in
+    read_gives c.args.reading c.if-reading-ne0.false (sym packed ∙ c.in-Ok.is)
 
-pub returns-in-NoDay : goal.returns-in-NoDay
-unfolding sheet_or_out
-returns-in-NoDay c =
-    let pack-then = c in
-    let reading-fields-then = c in
-    let else1-then = c in
-    let start = c in
-    let packed = pack-then.pack.ensures ∙ ap packing reading-fields-then.reading_fields.ensures in
-    read_gives start.args.reading else1-then.if-number-ne0.false (sym packed ∙ c.in-NoDay.is)
-
-pub returns-in-Bad : goal.returns-in-Bad
-unfolding sheet_or_out
-returns-in-Bad c =
-    let pack-then = c in
-    let reading-fields-then = c in
-    let else1-then = c in
-    let start = c in
-    let packed = pack-then.pack.ensures ∙ ap packing reading-fields-then.reading_fields.ensures in
-    read_gives start.args.reading else1-then.if-number-ne0.false (sym packed ∙ c.in-Bad.is)
+pub returns-in-Err : goal.returns-in-Err
+returns-in-Err c =
+    let packed = c.pack.ensures ∙ ap packing c.reading_fields.ensures in
+    c.out_number.ensures ∙ read_gives c.args.reading c.if-reading-ne0.false (sym packed ∙ c.in-Err.is)

@@ -1,13 +1,8 @@
-use Rattle.week_report.specs.Weeks.{week_line}
+use lib.ListN.{get_or}
+use Rattle.lists.specs.Putting.{Writes, each}
 use Rattle.week_report.specs.Private.{tally_of}
-use Rattle.lists.specs.Putting.{Put, each}
-use lib.ListN.{length, get_or}
-use Prim.Native.Nat.{◌-◌, ◌≤◌}
+use Rattle.week_report.specs.Weeks.{week_line}
 use Rattle.week_report.proofs.weeks.put_weeks.Given as goal
 
-abbrev pub invariant-loop-i : goal.invariant-loop-i
-invariant-loop-i l = (l.i ≤ length l.table)
-    × Put (each (λ j. week_line (tally_of (get_or l.table j 0))) l.i) l.initial.out l.at-2 l.out l.at
-
-abbrev pub decreases-loop-i : goal.decreases-loop-i
-decreases-loop-i l = length l.table - l.i
+abbrev pub invariant-loop-word : goal.invariant-loop-word
+invariant-loop-word l = Writes (each (λ j. week_line (tally_of (get_or l.table j 0))) l.word-index) l.initial.w l.w

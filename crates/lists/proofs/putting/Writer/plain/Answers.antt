@@ -1,4 +1,4 @@
--- `lists::putting::put_plain` meets its contract. Assumes nothing.
+-- `lists::putting::Writer::plain` meets its contract. Assumes nothing.
 use Prim.Native.Nat.{ℕ, ◌≤◌}
 use mathlib.Core.List.{List}
 use mathlib.Core.Path.{◌≡◌, sym, ap, ◌∙◌}
@@ -9,8 +9,8 @@ use lib.Seq.{length-take-le, take_at}
 use Rattle.text.specs.Digits.{plain}
 use Rattle.lists.proofs.Puts.{first_fits}
 use Rattle.text.proofs.Fill.{plain_most, plain_places}
-use Rattle.lists.proofs.putting.put_plain.Goals as goal
-use Rattle.lists.proofs.putting.put_plain.Goals.{After-digit_count-count, After-write_number}
+use Rattle.lists.proofs.putting.Writer.plain.Goals as goal
+use Rattle.lists.proofs.putting.Writer.plain.Goals.{After-digit_count-count, After-write_number}
 
 -- a number of 32 bits has at most ten digits
 ten : (c : After-digit_count-count) → c.digit_count-count.result ≤ 10
@@ -43,11 +43,11 @@ slice_bounds-digits-end-2 c =
     first_fits w.write_number.new.out (drop w.digit_count-count.result (replicate 10 0))
     (as_many (goal.at.slice_bounds-digits-end-2 c).After-write_number)
 
-pub slice_bounds-put_bytes-end : goal.slice_bounds-put_bytes-end
-slice_bounds-put_bytes-end c =
+pub slice_bounds-bytes-end : goal.slice_bounds-bytes-end
+slice_bounds-bytes-end c =
     let w = c in
     let rest : List ℕ = drop w.digit_count-count.result (replicate 10 0) in
-    sym (length-take-le _ _ (first_fits w.write_number.new.out rest (as_many (goal.at.slice_bounds-put_bytes-end c).After-write_number)))
+    sym (length-take-le _ _ (first_fits w.write_number.new.out rest (as_many (goal.at.slice_bounds-bytes-end c).After-write_number)))
 
 pub returns : goal.returns
 returns c =
@@ -57,4 +57,4 @@ returns c =
       digits_are
           (goal.at.returns c).After-write_number,
     )
-    at c.put_bytes.ensures
+    at c.bytes.ensures

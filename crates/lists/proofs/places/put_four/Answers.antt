@@ -1,0 +1,7 @@
+-- `lists::places::put_four` meets its contract. Assumes nothing.
+use Rattle.std.proofs.Common.{rules}
+use Rattle.lists.proofs.Writing.{put_from}
+use Rattle.lists.proofs.places.put_four.Goals as goal
+
+pub returns : goal.returns
+returns c = put_from c.four.ensures c.from_place-w.ensures.starts.0 c.from_place-w.ensures.starts.1 (search rules)
