@@ -1,6 +1,6 @@
 -- What the arguments of a program ask for (RULES 9.1).
 use Prim.Native.Char.{code}
-use Rattle.std.specs.Prelude.{ℕ, Bool, true, false, cond, not, ◌&&◌, List, [], ◌∷◌, eqb, ltb}
+use Rattle.std.specs.Prelude.{ℕ, Bool, true, false, cond, not, ◌&&◌, List, [], ◌∷◌, Option, None, Some, eqb, ltb}
 use Rattle.laws.specs.Bytes.{bytes}
 use Rattle.console.specs.declared.Asked.{Asked}
 use Rattle.console.specs.declared.Asked.TheVariants.{Standard, File, Help, Version, Unknown}
@@ -24,6 +24,11 @@ asked_by s =
     (cond (same_bytes s (bytes "--version")) Version
     (cond (names_file s) File Unknown))
 
--- by so many arguments, the program's own name among them, and the first after that, if it was fetched whole
-unfoldable pub asked : ℕ → Bool → List ℕ → Asked
-asked count fetched first = cond (ltb count 2) Standard (cond (eqb count 2 && fetched) (asked_by first) Unknown)
+-- by the first argument after the program's name, if it was fetched whole
+unfoldable pub asked_first : Option (List ℕ) → Asked
+asked_first None = Unknown
+asked_first (Some s) = asked_by s
+
+-- by so many arguments, the program's own name among them, and the first after that
+unfoldable pub asked : ℕ → Option (List ℕ) → Asked
+asked count first = cond (ltb count 2) Standard (cond (eqb count 2) (asked_first first) Unknown)

@@ -1,15 +1,21 @@
-// What the programs have in common: what their arguments ask for, and what they print of themselves (RULES 9.1).
+// What the programs that report on lists have in common: what their arguments ask for, the list that they read, and what they print of
+// themselves (RULES 9.1).
 #![tactic(auto)]
 
-ghost use Rattle.std.specs.Prelude.{◌≡◌};
+ghost use Rattle.std.specs.Prelude.{◌≡◌, ◌<◌, ◌≤◌, ℕ, Result, length, option_copied};
+ghost use Rattle.format.specs.declared.opening.Unopened.{Unopened};
+ghost use Rattle.lists.specs.declared.First.{First};
+ghost use Rattle.lists.specs.declared.Next.{Next};
 ghost use Rattle.console.specs.Arguments.{asked_by, asked};
 
-use itoa::Buffer;
+use format::{MOST_ELEMENTS, Opened};
+use lists::{First, LONGEST_INPUT, Next, PART};
 use std::env::{Env, FillError};
+use std::fmt::Display;
 use std::fs::File;
 use std::io;
-use std::io::{ErrorKind, Write};
-use streams::write_all;
+use std::io::{ErrorKind, Read, Write};
+use streams::{read_all, write_all};
 
 // What a program is asked for: its report, on standard input or on the file that its argument names; its help; its version; or nothing
 // that it knows.
@@ -31,7 +37,7 @@ fn asked_by(argument: &[u8]) -> Asked
     if argument == b"--version".as_slice() {
         return Asked::Version;
     }
-    if argument.len() == 0 {
+    if argument.is_empty() {
         return Asked::Unknown;
     }
     if argument[0] == b'-' {
@@ -41,20 +47,17 @@ fn asked_by(argument: &[u8]) -> Asked
 }
 
 // What a program is asked for by so many arguments, its own name among them, and the first after that, if it was fetched whole.
-#[tactic(auto, unfolding(crate::specs::Arguments::asked))]
-pub fn what_is_asked(count: usize, fetched: bool, first: &[u8]) -> Asked
-    ensures { result ≡ asked count fetched first.now }
+#[tactic(auto, unfolding(crate::specs::Arguments::asked, crate::specs::Arguments::asked_first))]
+pub fn what_is_asked(count: usize, first: Option<&[u8]>) -> Asked
+    ensures { result ≡ asked count (option_copied first.entry) }
 {
     if count < 2 {
         return Asked::Standard;
     }
-    if 2 < count {
-        return Asked::Unknown;
+    match first {
+        Some(argument) if count == 2 => asked_by(argument),
+        _ => Asked::Unknown,
     }
-    if !fetched {
-        return Asked::Unknown;
-    }
-    asked_by(first)
 }
 
 // How many arguments there are, the program's own name among them.
@@ -86,58 +89,165 @@ fn words(text: &[u8]) -> &[u8] {
     }
 }
 
-// Says on standard error what failed and why, in a line.
-pub fn fail(rt: &HostRuntime, what: &[u8], why: io::Error) {
+// A value's text at the front of `room`, as much of it as fits.
+fn shown<'a>(room: &'a mut [u8], value: &impl Display) -> &'a [u8] {
+    let most = room.len();
+    let mut rest = &mut *room;
+    let _ = write!(rest, "{value}");
+    let count = most.saturating_sub(rest.len());
+    &room[..count]
+}
+
+// Writes texts one after the other, and answers whether all was written, or why not.
+fn put<W: Write>(rt: &HostRuntime, out: &mut W, texts: &[&[u8]]) -> io::Result<()> {
+    for text in texts {
+        write_all(rt, out, text)?;
+    }
+    Ok(())
+}
+
+// Says on standard error what a program could not do and why, in a line.
+pub fn fail(rt: &HostRuntime, program: &[u8], what: &[u8], why: io::Error) {
     let mut room = [0u8; 320];
-    let mut rest = room.as_mut_slice();
-    let _ = write!(rest, "{why}");
-    let count = 320usize.saturating_sub(rest.len());
+    let why = words(shown(&mut room, &why));
     let mut out = rt.stderr();
-    write_all(rt, &mut out, what);
-    write_all(rt, &mut out, b": ");
-    write_all(rt, &mut out, words(&room[..count]));
-    write_all(rt, &mut out, b"\n");
-}
-
-// Each of these answers whether all was written, or why not.
-
-fn put(rt: &HostRuntime, bytes: &[u8]) -> io::Result<()> {
-    write_all(rt, &mut rt.stdout(), bytes).whole()
-}
-
-fn put_number(rt: &HostRuntime, n: u32) -> io::Result<()> {
-    put(rt, Buffer::new().format(n).as_bytes())
-}
-
-fn put_version(rt: &HostRuntime, program: &[u8]) -> io::Result<()> {
-    put(rt, program)?;
-    put(rt, b" ")?;
-    put_number(rt, version::MAJOR)?;
-    put(rt, b".")?;
-    put_number(rt, version::MINOR)?;
-    put(rt, b".")?;
-    put_number(rt, version::PATCH)?;
-    put(rt, b"\n")
-}
-
-fn put_help(rt: &HostRuntime, usage: &[u8], more: &[u8]) -> io::Result<()> {
-    put(rt, usage)?;
-    put(rt, more)
-}
-
-// Says what failed where a text was not written whole.
-fn tell(rt: &HostRuntime, written: io::Result<()>, failure: &[u8]) {
-    if let Err(why) = written {
-        fail(rt, failure, why);
+    for text in [program, b": ", what, b": ", why, b"\n"] {
+        let _ = write_all(rt, &mut out, text);
     }
 }
 
+// Says what failed where a text was not written whole.
+fn tell(rt: &HostRuntime, program: &[u8], written: io::Result<()>) {
+    if let Err(why) = written {
+        fail(rt, program, b"the text could not be written whole", why);
+    }
+}
+
+// What comes after a program's name where it says how it is used.
+const USAGE: &[u8] = b" [FILE] | --help | --version\n";
+
 // Prints how a program is used, and more about it, or says what failed.
-pub fn print_help(rt: &HostRuntime, usage: &[u8], more: &[u8], failure: &[u8]) {
-    tell(rt, put_help(rt, usage, more), failure);
+pub fn print_help(rt: &HostRuntime, program: &[u8], more: &[u8]) {
+    let texts = [b"usage: ", program, USAGE, more];
+    tell(rt, program, put(rt, &mut rt.stdout(), &texts));
 }
 
 // Prints the version of the project after a program's name, or says what failed.
-pub fn print_version(rt: &HostRuntime, program: &[u8], failure: &[u8]) {
-    tell(rt, put_version(rt, program), failure);
+pub fn print_version(rt: &HostRuntime, program: &[u8]) {
+    let mut room = [0u8; 40];
+    let version = shown(
+        &mut room,
+        &format_args!(
+            " {}.{}.{}\n",
+            version::MAJOR,
+            version::MINOR,
+            version::PATCH
+        ),
+    );
+    tell(rt, program, put(rt, &mut rt.stdout(), &[program, version]));
+}
+
+fn refuse(rt: &HostRuntime, program: &[u8]) {
+    let _ = put(rt, &mut rt.stderr(), &[b"usage: ", program, USAGE]);
+}
+
+#[tactic(auto, unfolding(streams::specs::Got::Within))]
+fn report_on<R: Read, F: Fn(&HostRuntime, &[u8]) -> io::Result<()>>(
+    rt: &HostRuntime,
+    program: &str,
+    list: &mut R,
+    write_report: F,
+)
+    requires { F.IsAlwaysCallable write_report }
+{
+    // One byte more than the longest input decides whether there is more.
+    let mut input = [0u8; LONGEST_INPUT + 1];
+    match read_all(rt, list, &mut input) {
+        Ok(n) => {
+            if let Err(why) = write_report(rt, &input[..n]) {
+                fail(
+                    rt,
+                    program.as_bytes(),
+                    b"the report could not be written whole",
+                    why,
+                );
+            }
+        }
+        Err(why) => fail(
+            rt,
+            program.as_bytes(),
+            b"the list could not be read to its end",
+            why,
+        ),
+    }
+}
+
+fn report_on_file<F: Fn(&HostRuntime, &[u8]) -> io::Result<()>>(
+    rt: &HostRuntime,
+    program: &str,
+    name: &[u8],
+    write_report: F,
+)
+    requires { F.IsAlwaysCallable write_report }
+{
+    match open(rt, name) {
+        Ok(mut list) => report_on(rt, program, &mut list, write_report),
+        Err(why) => fail(rt, program.as_bytes(), b"the file could not be opened", why),
+    }
+}
+
+// Runs a program that reads a list, on standard input or in the file that its argument names, and writes a report on it. A list that was
+// not read to its end gets no report; what could not be done is said on standard error.
+pub fn run<F: Fn(&HostRuntime, &[u8]) -> io::Result<()>>(
+    rt: &HostRuntime,
+    program: &str,
+    more: &str,
+    write_report: F,
+)
+    requires { F.IsAlwaysCallable write_report }
+{
+    let mut argument = [0u8; 4096];
+    let first = match rt.arg(1, &mut argument) {
+        Ok(n) => Some(&argument[..n]),
+        Err(_) => None,
+    };
+    match what_is_asked(argument_count(rt), first) {
+        Asked::Standard => report_on(rt, program, &mut rt.stdin(), write_report),
+        Asked::File => report_on_file(rt, program, first.unwrap_or(b""), write_report),
+        Asked::Help => print_help(rt, program.as_bytes(), more.as_bytes()),
+        Asked::Version => print_version(rt, program.as_bytes()),
+        Asked::Unknown => refuse(rt, program.as_bytes()),
+    }
+}
+
+// Writes a report that is made in parts: the first, and then one after the other from where the one before ended, up to the input's end.
+pub fn write_parts<F, G>(
+    rt: &HostRuntime,
+    input: &[u8],
+    first_part: F,
+    next_part: G,
+) -> io::Result<()>
+where
+    F: Fn(&[u8], &mut [u32; MOST_ELEMENTS], &mut [u8; PART]) -> First,
+    G: Fn(Opened, &[u32; MOST_ELEMENTS], &[u8], usize, &mut [u8; PART]) -> Next,
+    requires first { F.IsAlwaysCallable first_part }
+    requires first_fits { (s es out : _) (part : First) (es' out' : _)
+        → F.post first_part s es out part es' out' → part.count ≤ length out'.now }
+    requires next { G.IsAlwaysCallable next_part }
+    requires next_fits { (o : Result ℕ Unopened) (es s : _) (from : ℕ) (out : _) (part : Next) (out' : _)
+        → G.post next_part o es s from out part out' → part.count ≤ length out'.now }
+    requires next_goes { (o : Result ℕ Unopened) (es s : _) (from : ℕ) (out : _) (part : Next) (out' : _)
+        → G.post next_part o es s from out part out' → from < length s.now → from < part.next }
+{
+    let mut elements = [0; MOST_ELEMENTS];
+    let mut out = [0; PART];
+    let first = first_part(input, &mut elements, &mut out);
+    write_all(rt, &mut rt.stdout(), &out[..first.count])?;
+    let mut from = first.next;
+    while from < input.len() {
+        let part = next_part(first.opened, &elements, input, from, &mut out);
+        write_all(rt, &mut rt.stdout(), &out[..part.count])?;
+        from = part.next;
+    }
+    Ok(())
 }

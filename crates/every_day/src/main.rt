@@ -3,8 +3,7 @@
 // tests/every_day.py makes the same lines by Python's datetime module.
 #![tactic(auto)]
 
-use calendar::{Date, FromFields, FromNumber};
-use text::write_number;
+use calendar::Date;
 
 // A digest starts at 0 and takes values one after the other, h to (h * P + v) mod M.
 // M is prime and P is not a multiple of it, so multiplying by P takes different remainders to different ones. If one value below M is
@@ -21,14 +20,14 @@ fn mix(h: u32, v: u32) -> u32 {
 // The day number of the date with these fields; 0 where there is no such date.
 fn number_of(year: u32, month: u32, day: u32) -> u32 {
     match Date::from_fields(year, month, day) {
-        FromFields::Valid(date) => date.day_number(),
-        FromFields::Bad(_) => 0,
+        Ok(date) => date.day_number(),
+        Err(_) => 0,
     }
 }
 
 // Takes what the calendar says of day `k`, and the day number again from the fields of its date.
 fn digest_day(h: u32, k: u32) -> u32 {
-    let FromNumber::Day(date) = Date::from_day_number(k) else {
+    let Some(date) = Date::from_day_number(k) else {
         return mix(h, 0);
     };
     let year = date.year as u32;
@@ -51,20 +50,9 @@ fn digest_days(past: u32, last: u32) -> u32 {
     h
 }
 
-fn print(rt: &impl Print, bytes: &[u8]) {
-    let _ = rt.write_all(bytes);
-}
-
 // One line: the year in four digits, a blank, the digest in ten, a newline.
 fn print_line(rt: &impl Print, year: u32, digest: u32) {
-    let mut four = [0u8; 4];
-    write_number(&mut four, b'0', year);
-    print(rt, &four);
-    print(rt, b" ");
-    let mut ten = [0u8; 10];
-    write_number(&mut ten, b'0', digest);
-    print(rt, &ten);
-    print(rt, b"\n");
+    let _ = println!(rt; "{year:04} {digest:010}");
 }
 
 // The lines of all hundred centuries.

@@ -4,204 +4,140 @@
 // -, or each kind that quarrels with where its words begin and end, or the part in which two days differ, or two hours.
 #![tactic(auto)]
 
-ghost use Rattle.std.specs.Prelude.{◌≡◌, ◌+◌, min, length};
-
 use calendar::Date;
 use judge::Engine;
-use lists::line_end;
 use matching::Extent;
 use names::NameForm;
 use reasons::{Explained, Part, Reason, explain_by_format};
+use std::fmt;
+use std::fmt::{Display, Formatter, Write};
 use streams::read_full;
-use strptime::{Day, Reading, Said, Shown, reading_of, strptime};
-use values::{Offset, is_negative, magnitude};
+use strptime::{Reading, Shown, reading_of, strptime};
 
-fn print(rt: &impl Print, bytes: &[u8]) {
-    let _ = rt.write_all(bytes);
+// A value of another crate, as the lines of the output show it.
+#[derive(Clone, Copy)]
+struct Told<T>(T);
+
+impl Display for Told<Date> {
+    fn fmt<W: Write>(&self, f: &mut Formatter<W>) -> fmt::Result {
+        let date = self.0;
+        write!(f, "{:04}-{:02}-{:02}", date.year, date.month, date.day)
+    }
 }
 
-fn print_decimal(rt: &impl Print, n: u64) {
-    let _ = print!(rt; "{n}");
-}
-
-fn print_number(rt: &impl Print, n: u32) {
-    print_decimal(rt, n as u64);
-}
-
-fn print_two(rt: &impl Print, n: u32) {
-    let mut digits = [0u8; 2];
-    text::write_number(&mut digits, b'0', n);
-    print(rt, &digits);
-}
-
-fn print_date(rt: &impl Print, date: Date) {
-    let mut year = [0u8; 4];
-    text::write_number(&mut year, b'0', date.year as u32);
-    print(rt, &year);
-    print(rt, b"-");
-    print_two(rt, date.month as u32);
-    print(rt, b"-");
-    print_two(rt, date.day as u32);
-}
-
-fn print_day(rt: &impl Print, day: Day) {
-    match day {
-        Day::NoDate => print(rt, b"-"),
-        Day::On(date) => print_date(rt, date),
+impl Display for Told<Option<Date>> {
+    fn fmt<W: Write>(&self, f: &mut Formatter<W>) -> fmt::Result {
+        match self.0 {
+            None => f.write_str("-"),
+            Some(date) => write!(f, "{}", Told(date)),
+        }
     }
 }
 
 // A zone offset: its sign and its minutes.
-fn print_offset(rt: &impl Print, offset: Offset) {
-    print(rt, b" ");
-    match offset {
-        Offset::Unsaid => print(rt, b"-"),
-        Offset::Minutes(east) => print_minutes(rt, east as i64),
+impl Display for Told<Option<i32>> {
+    fn fmt<W: Write>(&self, f: &mut Formatter<W>) -> fmt::Result {
+        match self.0 {
+            None => f.write_str("-"),
+            Some(east) => write!(f, "{east:+}"),
+        }
     }
 }
 
-fn print_minutes(rt: &impl Print, east: i64) {
-    if is_negative(east) {
-        print(rt, b"-");
-    } else {
-        print(rt, b"+");
-    }
-    print_decimal(rt, magnitude(east));
-}
-
-fn print_said(rt: &impl Print, said: Said) {
-    print(rt, b" ");
-    match said {
-        Said::Unsaid => print(rt, b"-"),
-        Said::Is(n) => print_number(rt, n),
+impl Display for Told<Option<u32>> {
+    fn fmt<W: Write>(&self, f: &mut Formatter<W>) -> fmt::Result {
+        match self.0 {
+            None => f.write_str("-"),
+            Some(n) => write!(f, "{n}"),
+        }
     }
 }
 
 // The first two days or hours.
-fn print_shown(rt: &impl Print, shown: Shown) {
-    match shown {
-        Shown::Nothing => {}
-        Shown::Days { first, second } => {
-            print_date(rt, first);
-            print(rt, b" ");
-            print_date(rt, second);
-        }
-        Shown::Hours { first, second } => {
-            print_number(rt, first);
-            print(rt, b" ");
-            print_number(rt, second);
+impl Display for Told<Option<Shown>> {
+    fn fmt<W: Write>(&self, f: &mut Formatter<W>) -> fmt::Result {
+        match self.0 {
+            None => Ok(()),
+            Some(Shown::Days { first, second }) => write!(f, "{} {}", Told(first), Told(second)),
+            Some(Shown::Hours { first, second }) => write!(f, "{first} {second}"),
         }
     }
 }
 
-fn print_form(rt: &impl Print, form: NameForm) {
-    print(rt, b" ");
-    match form {
-        NameForm::NoName => print(rt, b"-"),
-        NameForm::Full => print(rt, b"full"),
-        NameForm::Middle => print(rt, b"middle"),
-        NameForm::Short => print(rt, b"short"),
+impl Display for Told<Option<NameForm>> {
+    fn fmt<W: Write>(&self, f: &mut Formatter<W>) -> fmt::Result {
+        f.write_str(match self.0 {
+            None => "-",
+            Some(NameForm::Full) => "full",
+            Some(NameForm::Middle) => "middle",
+            Some(NameForm::Short) => "short",
+        })
     }
 }
 
-fn print_reading(rt: &impl Print, reading: Reading) {
-    let day = reading.day;
-    let hour = reading.hour;
-    let minute = reading.minute;
-    let second = reading.second;
-    let offset = reading.offset;
-    let forms = reading.forms;
-    let weekday = forms.weekday;
-    let month = forms.month;
-    let shown = reading.shown;
-    print_number(rt, reading.number);
-    print(rt, b" ");
-    print_decimal(rt, reading.place as u64);
-    print(rt, b" ");
-    print_day(rt, day);
-    print_said(rt, hour);
-    print_said(rt, minute);
-    print_said(rt, second);
-    print_offset(rt, offset);
-    print(rt, b" | ");
-    print_shown(rt, shown);
-    print(rt, b" | ");
-    print_number(rt, reading.examined);
-    print(rt, b" |");
-    print_form(rt, weekday);
-    print_form(rt, month);
-}
-
-// Where the words of a kind stand, if they stand anywhere.
-fn print_extent(rt: &impl Print, kind: usize, extent: Extent) {
-    if extent.next == 0 {
-        return;
-    }
-    print(rt, b" ");
-    print_decimal(rt, kind as u64);
-    print(rt, b":");
-    print_decimal(rt, extent.from as u64);
-    print(rt, b"-");
-    print_decimal(rt, extent.next as u64);
-}
-
-fn print_words(rt: &impl Print, words: [Extent; kinds::KINDS]) {
-    for kind in 0..kinds::KINDS {
-        print_extent(rt, kind, words[kind]);
+impl Display for Told<Reading> {
+    fn fmt<W: Write>(&self, f: &mut Formatter<W>) -> fmt::Result {
+        let reading = self.0;
+        write!(
+            f,
+            "{} {} {} ",
+            reading.number,
+            reading.place,
+            Told(reading.day)
+        )?;
+        write!(f, "{} {} ", Told(reading.hour), Told(reading.minute))?;
+        write!(f, "{} {} | ", Told(reading.second), Told(reading.offset))?;
+        write!(f, "{} | {} | ", Told(reading.shown), reading.examined)?;
+        let forms = reading.forms;
+        write!(f, "{} {}", Told(forms.weekday), Told(forms.month))
     }
 }
 
-fn print_part(rt: &impl Print, part: Part) {
-    match part {
-        Part::Year => print(rt, b" year"),
-        Part::Month => print(rt, b" month"),
-        Part::Day => print(rt, b" day"),
+// Where the words of each kind stand, if they stand anywhere.
+impl Display for Told<[Extent; kinds::KINDS]> {
+    fn fmt<W: Write>(&self, f: &mut Formatter<W>) -> fmt::Result {
+        for (kind, extent) in self.0.iter().enumerate() {
+            if extent.next != 0 {
+                write!(f, " {kind}:{}-{}", extent.from, extent.next)?;
+            }
+        }
+        Ok(())
     }
 }
 
-fn print_explained(rt: &impl Print, explained: Explained) {
-    let reason = explained.reason;
-    let words = explained.words;
-    print(rt, b" |");
-    match reason {
-        Reason::NoReason => print(rt, b" -"),
-        Reason::Quarrel(_) => print_words(rt, words),
-        Reason::Differ(part) => print_part(rt, part),
-        Reason::Hours { first, second } => {
-            print(rt, b" hours ");
-            print_number(rt, first);
-            print(rt, b" ");
-            print_number(rt, second);
+impl Display for Told<Part> {
+    fn fmt<W: Write>(&self, f: &mut Formatter<W>) -> fmt::Result {
+        f.write_str(match self.0 {
+            Part::Year => "year",
+            Part::Month => "month",
+            Part::Day => "day",
+        })
+    }
+}
+
+impl Display for Told<Explained> {
+    fn fmt<W: Write>(&self, f: &mut Formatter<W>) -> fmt::Result {
+        match self.0.reason {
+            None => f.write_str(" -"),
+            Some(Reason::Quarrel(_)) => write!(f, "{}", Told(self.0.words)),
+            Some(Reason::Differ(part)) => write!(f, " {}", Told(part)),
+            Some(Reason::Hours { first, second }) => write!(f, " hours {first} {second}"),
         }
     }
 }
 
 fn print_case(rt: &impl Print, format: &[u8], text: &[u8]) {
     let answer = strptime(Engine::Skipping, format, text);
-    print_reading(rt, reading_of(answer));
-    print_explained(rt, explain_by_format(answer, format, text));
-    print(rt, b"\n");
-}
-
-// Where the line after the one that ends at `end` begins.
-fn next_line(input: &[u8], end: usize) -> usize
-    ensures { result ≡ min (end + 1) (length input.now) }
-{
-    if end < input.len() {
-        end + 1
-    } else {
-        input.len()
-    }
+    let explained = explain_by_format(answer, format, text);
+    let _ = println!(rt; "{} |{}", Told(reading_of(answer)), Told(explained));
 }
 
 fn print_readings(rt: &impl Print, input: &[u8]) {
-    let mut at = 0;
-    while at < input.len() {
-        let middle = line_end(input, at);
-        let from = next_line(input, middle);
-        let end = line_end(input, from);
-        print_case(rt, &input[at..middle], &input[from..end]);
-        at = next_line(input, end);
+    let mut lines = input
+        .split_inclusive(|b| *b == b'\n')
+        .map(|line| line.strip_suffix(b"\n").unwrap_or(line));
+    while let Some(format) = lines.next() {
+        print_case(rt, format, lines.next().unwrap_or(&[]));
     }
 }
 

@@ -2,7 +2,7 @@
 // block waits and is tried again.
 #![tactic(auto)]
 
-ghost use Rattle.std.specs.Prelude.{◌≡◌, ◌↔◌, ◌<◌, ◌≤◌, length, take, Err, IfSome, IsNone, IsOk};
+ghost use Rattle.std.specs.Prelude.{◌≡◌, ◌<◌, ◌≤◌, length, take, IfErr, IfOk, MatchResult};
 ghost use Rattle.std.specs.Io.KnownBytes.{Appends, Consumes, IsAtEnd};
 ghost use Rattle.streams.specs.Got.{Brought, Gave, Took, Within};
 
@@ -10,30 +10,19 @@ use std::io::{ErrorKind, Read, Write};
 use std::time::{Clock, Duration};
 use std::{io, thread};
 
-// How many bytes came, or that a call failed, and why.
+// A failure after some bytes had moved: how many a reader had put at the front of a buffer, or how many of its first bytes a writer had
+// taken, and why no more.
 #[derive(Drop)]
-pub enum Got {
-    All(usize),
-    Failed(io::Error),
-}
-
-// How many bytes a reader put at the front of a buffer, or how many of its first bytes a writer took, and why no more, where a call failed.
-#[derive(Drop)]
-pub struct Moved {
+pub struct Stopped {
     pub count: usize,
-    pub failure: Option<io::Error>,
+    pub why: io::Error,
 }
 
-impl Moved {
-    // Whether no call failed, or why one did.
-    pub fn whole(self) -> io::Result<()>
-        ensures ok { IsOk result ↔ IsNone self.failure }
-        ensures err { IfSome self.failure (λ why. result ≡ Err why) }
+impl From<Stopped> for io::Error {
+    fn from(stopped: Stopped) -> io::Error
+        ensures { result ≡ stopped.why }
     {
-        match self.failure {
-            None => Ok(()),
-            Some(why) => Err(why),
-        }
+        stopped.why
     }
 }
 
@@ -59,79 +48,62 @@ const TRIES: u64 = u64::MAX;
 
 // One read: how many bytes it put at the front of `buf`, 0 at the input's end.
 #[tactic(auto, unfolding(crate::specs::Got::Within, crate::specs::Got::Gave))]
-fn read_some<C: Clock, R: Read>(rt: &C, input: &mut R, buf: &mut [u8]) -> Got
+fn read_some<C: Clock, R: Read>(rt: &C, input: &mut R, buf: &mut [u8]) -> io::Result<usize>
     ensures within { Within result (length buf.old) }
     ensures bytes { Gave result (R.remaining input.old) (R.remaining input.new) buf.new }
 {
     for _ in 0..TRIES {
         match input.read(buf) {
-            Ok(n) => return Got::All(n),
-            Err(why) => {
-                if !again(rt, &why) {
-                    return Got::Failed(why);
-                }
-            }
+            Err(why) if again(rt, &why) => {}
+            read => return read,
         }
     }
-    Got::Failed(io::Error::from(ErrorKind::TimedOut))
+    Err(io::Error::from(ErrorKind::TimedOut))
 }
 
-// One write: how many of the first bytes of `buf` it took.
+// One write: how many of the first bytes of `buf` it took. (No one function with `read_some`, tried: no proof knows what a closure that is
+// handed on has changed.)
 #[tactic(auto, unfolding(crate::specs::Got::Within, crate::specs::Got::Took))]
-fn write_some<C: Clock, W: Write>(rt: &C, output: &mut W, buf: &[u8]) -> Got
+fn write_some<C: Clock, W: Write>(rt: &C, output: &mut W, buf: &[u8]) -> io::Result<usize>
     ensures within { Within result (length buf.now) }
     ensures bytes { Took result (W.contents output.old) (W.contents output.new) buf.now }
 {
     for _ in 0..TRIES {
         match output.write(buf) {
-            Ok(n) => return Got::All(n),
-            Err(why) => {
-                if !again(rt, &why) {
-                    return Got::Failed(why);
-                }
-            }
+            Err(why) if again(rt, &why) => {}
+            written => return written,
         }
     }
-    Got::Failed(io::Error::from(ErrorKind::TimedOut))
+    Err(io::Error::from(ErrorKind::TimedOut))
 }
 
 // Reads until the input ends, `buf` is full or a read fails.
 #[tactic(auto, unfolding(crate::specs::Got::Within, crate::specs::Got::Gave))]
-fn fill<C: Clock, R: Read>(rt: &C, input: &mut R, buf: &mut [u8]) -> Moved
-    ensures within { result.count ≤ length buf.old }
-    ensures bytes { Consumes (R.remaining input.old) (R.remaining input.new) (take result.count buf.new) }
-    ensures end { IsNone result.failure → result.count < length buf.old → IsAtEnd (R.remaining input.new) }
+fn fill<C: Clock, R: Read>(rt: &C, input: &mut R, buf: &mut [u8]) -> Result<usize, Stopped>
+    ensures within { MatchResult result (λ n. n ≤ length buf.old) (λ stopped. stopped.count ≤ length buf.old) }
+    ensures bytes { MatchResult result
+        (λ n. Consumes (R.remaining input.old) (R.remaining input.new) (take n buf.new))
+        (λ stopped. Consumes (R.remaining input.old) (R.remaining input.new) (take stopped.count buf.new)) }
+    ensures end { IfOk result (λ n. n < length buf.old → IsAtEnd (R.remaining input.new)) }
 {
-    let mut done = 0;
-    while done < buf.len() {
-        match read_some(rt, input, &mut buf[done..]) {
-            Got::All(0) => break,
-            Got::All(n) => done += n,
-            Got::Failed(why) => {
-                return Moved {
-                    count: done,
-                    failure: Some(why),
-                };
-            }
+    let mut count = 0;
+    while count < buf.len() {
+        match read_some(rt, input, &mut buf[count..]) {
+            Ok(0) => break,
+            Ok(n) => count += n,
+            Err(why) => return Err(Stopped { count, why }),
         }
     }
-    Moved {
-        count: done,
-        failure: None,
-    }
+    Ok(count)
 }
 
 // Reads until the input ends or `buf` is full, and answers how many bytes it put at the front of `buf`; or fails where a read did.
 #[tactic(auto, unfolding(crate::specs::Got::Within, crate::specs::Got::Brought))]
-pub fn read_all<C: Clock, R: Read>(rt: &C, input: &mut R, buf: &mut [u8]) -> Got
+pub fn read_all<C: Clock, R: Read>(rt: &C, input: &mut R, buf: &mut [u8]) -> io::Result<usize>
     ensures within { Within result (length buf.old) }
     ensures bytes { Brought result (R.remaining input.old) (R.remaining input.new) buf.new }
 {
-    let got = fill(rt, input, buf);
-    match got.failure {
-        None => Got::All(got.count),
-        Some(why) => Got::Failed(why),
-    }
+    Ok(fill(rt, input, buf)?)
 }
 
 // Reads as `read_all` does, but a read that fails ends the input.
@@ -139,36 +111,30 @@ pub fn read_full<C: Clock, R: Read>(rt: &C, input: &mut R, buf: &mut [u8]) -> us
     ensures within { result ≤ length buf.old }
     ensures bytes { Consumes (R.remaining input.old) (R.remaining input.new) (take result buf.new) }
 {
-    fill(rt, input, buf).count
+    match fill(rt, input, buf) {
+        Ok(count) => count,
+        Err(stopped) => stopped.count,
+    }
 }
 
-// Writes all of `buf`, and answers how many of its first bytes were taken: fewer where a write failed, or took nothing.
+// Writes all of `buf`; or says how many of its first bytes were taken before a write failed, or took nothing.
 #[tactic(auto, unfolding(crate::specs::Got::Within, crate::specs::Got::Took))]
-pub fn write_all<C: Clock, W: Write>(rt: &C, output: &mut W, buf: &[u8]) -> Moved
-    ensures within { result.count ≤ length buf.now }
-    ensures bytes { Appends (W.contents output.old) (W.contents output.new) (take result.count buf.now) }
-    ensures whole { IsNone result.failure ↔ (result.count ≡ length buf.now) }
+pub fn write_all<C: Clock, W: Write>(rt: &C, output: &mut W, buf: &[u8]) -> Result<(), Stopped>
+    ensures within { IfErr result (λ stopped. stopped.count < length buf.now) }
+    ensures bytes { MatchResult result
+        (λ _. Appends (W.contents output.old) (W.contents output.new) buf.now)
+        (λ stopped. Appends (W.contents output.old) (W.contents output.new) (take stopped.count buf.now)) }
 {
-    let mut done = 0;
-    while done < buf.len() {
-        match write_some(rt, output, &buf[done..]) {
-            Got::All(0) => {
-                return Moved {
-                    count: done,
-                    failure: Some(io::Error::from(ErrorKind::WriteZero)),
-                };
+    let mut count = 0;
+    while count < buf.len() {
+        match write_some(rt, output, &buf[count..]) {
+            Ok(0) => {
+                let why = io::Error::from(ErrorKind::WriteZero);
+                return Err(Stopped { count, why });
             }
-            Got::All(n) => done += n,
-            Got::Failed(why) => {
-                return Moved {
-                    count: done,
-                    failure: Some(why),
-                };
-            }
+            Ok(n) => count += n,
+            Err(why) => return Err(Stopped { count, why }),
         }
     }
-    Moved {
-        count: done,
-        failure: None,
-    }
+    Ok(())
 }

@@ -4,102 +4,64 @@
 // buffer, which held # before.
 #![tactic(auto)]
 
-ghost use Rattle.std.specs.Prelude.{◌≤◌, ◌<◌, ◌^◌, length};
+ghost use Rattle.std.specs.Prelude.{◌<◌, ◌^◌};
 
 use streams::read_full;
 use strftime::{Fields, strftime, writing_of};
-use values::Offset;
 
-// A number, and the offset past it and the byte after it.
-#[derive(Clone, Copy)]
-struct Field {
-    value: u32,
-    next: usize,
+// The number in decimal at the front of a line, modulo 2 to the 32, and what follows the byte after it.
+fn number(line: &[u8]) -> (u32, &[u8]) {
+    let count = line
+        .iter()
+        .position(|b| !text::is_digit(*b))
+        .unwrap_or(line.len());
+    let value = line[..count].iter().fold(0u32, |n, b| {
+        n.wrapping_mul(10)
+            .wrapping_add(b.saturating_sub(b'0') as u32)
+    });
+    (value, line.get(count + 1..).unwrap_or(&[]))
 }
 
-// The number in decimal at `at`, modulo 2 to the 32.
-#[tactic(auto, unfolding(text::specs::Digits::is_digit))]
-fn read_field(line: &[u8], at: usize) -> Field
-    requires { at ≤ length line.now }
-    ensures { result.next ≤ length line.now }
-{
-    let mut value: u64 = 0;
-    let mut next = at;
-    while next < line.len() {
-        let b = line[next];
-        next += 1;
-        if !text::is_digit(b) {
-            return Field {
-                value: value as u32,
-                next,
-            };
-        }
-        value = (value * 10 + (b - 48) as u64) % 4294967296;
-    }
-    Field {
-        value: value as u32,
-        next,
-    }
+// The offset at the front of a line, and what follows the byte after it.
+fn offset(line: &[u8]) -> (Option<i32>, &[u8]) {
+    let Some((sign, rest)) = line.split_first() else {
+        return (None, line);
+    };
+    let (minutes, rest) = number(rest);
+    (signed(*sign, minutes % 2147483648), rest)
 }
 
-// An offset, and the offset in the line past it and the byte after it.
-#[derive(Clone, Copy)]
-struct OffsetField {
-    offset: Offset,
-    next: usize,
-}
-
-fn read_offset(line: &[u8], at: usize) -> OffsetField
-    requires { at ≤ length line.now }
-    ensures { result.next ≤ length line.now }
-{
-    if line.len() <= at {
-        return OffsetField {
-            offset: Offset::Unsaid,
-            next: at,
-        };
-    }
-    let sign = line[at];
-    let minutes = read_field(line, at + 1);
-    OffsetField {
-        offset: signed(sign, minutes.value % 2147483648),
-        next: minutes.next,
-    }
-}
-
-fn signed(sign: u8, minutes: u32) -> Offset
+fn signed(sign: u8, minutes: u32) -> Option<i32>
     requires { minutes < 2 ^ 31 }
 {
     match sign {
-        b'+' => Offset::Minutes(minutes as i32),
-        b'-' => Offset::Minutes(-(minutes as i32)),
-        _ => Offset::Unsaid,
+        b'+' => Some(minutes as i32),
+        b'-' => Some(-(minutes as i32)),
+        _ => None,
     }
 }
 
 fn write_case(rt: &impl Print, line: &[u8]) {
-    let year = read_field(line, 0);
-    let month = read_field(line, year.next);
-    let day = read_field(line, month.next);
-    let hour = read_field(line, day.next);
-    let minute = read_field(line, hour.next);
-    let second = read_field(line, minute.next);
-    let offset = read_offset(line, second.next);
-    let size = read_field(line, offset.next);
-    let zone = offset.offset;
+    let (year, rest) = number(line);
+    let (month, rest) = number(rest);
+    let (day, rest) = number(rest);
+    let (hour, rest) = number(rest);
+    let (minute, rest) = number(rest);
+    let (second, rest) = number(rest);
+    let (offset, rest) = offset(rest);
+    let (size, format) = number(rest);
     let fields = Fields {
-        year: year.value,
-        month: month.value,
-        day: day.value,
-        hour: hour.value,
-        minute: minute.value,
-        second: second.value,
-        offset: zone,
+        year,
+        month,
+        day,
+        hour,
+        minute,
+        second,
+        offset,
     };
-    let from = size.next;
     let mut buffer = [b'#'; 200];
-    let n = buffer.len().min(size.value as usize);
-    write_answer(rt, &line[from..], fields, &mut buffer[..n]);
+    let n = buffer.len().min(size as usize);
+    write_answer(rt, format, fields, &mut buffer[..n]);
 }
 
 fn write_answer(rt: &impl Print, format: &[u8], fields: Fields, buffer: &mut [u8]) {
@@ -109,24 +71,9 @@ fn write_answer(rt: &impl Print, format: &[u8], fields: Fields, buffer: &mut [u8
     let _ = rt.write_all(b"]\n");
 }
 
-// Where the line that begins at `at` ends.
-fn line_end(input: &[u8], at: usize) -> usize
-    requires { at ≤ length input.now }
-    ensures after { at ≤ result }
-    ensures within { result ≤ length input.now }
-{
-    match input[at..].iter().position(|b| *b == b'\n') {
-        Some(n) => at + n,
-        None => input.len(),
-    }
-}
-
 fn write_cases(rt: &impl Print, input: &[u8]) {
-    let mut at = 0;
-    while at < input.len() {
-        let end = line_end(input, at);
-        write_case(rt, &input[at..end]);
-        at = end + 1;
+    for line in input.split_inclusive(|b| *b == b'\n') {
+        write_case(rt, line.strip_suffix(b"\n").unwrap_or(line));
     }
 }
 

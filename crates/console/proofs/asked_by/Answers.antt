@@ -13,11 +13,11 @@ unfolding bytes
 returns-then-eq-2 c =
     by_version _ (test _ _ _ c.eq.ensures c.as_slice.ensures) c.if-eq.false (test _ _ _ c.eq-2.ensures c.as_slice-2.ensures) c.if-eq-2.true
 
-pub returns-then-argument-eq0 : goal.returns-then-argument-eq0
+pub returns-then-is_empty : goal.returns-then-is_empty
 unfolding bytes
-returns-then-argument-eq0 c =
+returns-then-is_empty c =
     by_nothing _ (test _ _ _ c.eq.ensures c.as_slice.ensures) c.if-eq.false (test _ _ _ c.eq-2.ensures c.as_slice-2.ensures) c.if-eq-2.false
-    c.if-argument-eq0.true
+    (search rules)
 
 pub returns-then-argument-eq45 : goal.returns-then-argument-eq45
 unfolding bytes
