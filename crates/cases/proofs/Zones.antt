@@ -23,9 +23,6 @@ use Rattle.values.specs.Offsets as offsets
 use Rattle.values.specs.Offsets.{is_offset}
 use Rattle.values.specs.Values as values
 use Rattle.values.specs.declared.Moment.{Moment}
-use Rattle.values.specs.declared.MomentFields.{MomentFields}
-use Rattle.values.specs.declared.MomentFields.TheVariants.{Valid}
-use Rattle.values.specs.declared.offsets.Offset.TheVariants.{Minutes}
 use Rattle.names.specs.Case.{fold, cased}
 use Rattle.text.specs.Digits as digits
 use Rattle.text.specs.Digits.{plain, filled, leading, is_digit, digit_run, decimal, read_digits}
@@ -65,14 +62,14 @@ use Rattle.matching.specs.Steps as steps
 use Rattle.matching.specs.Steps.{noted}
 use Rattle.strptime.specs.Answers as answers
 use Rattle.strptime.specs.Answers.{finished, reading}
-use Rattle.strptime.specs.declared.Day.TheVariants.{NoDate}
 use Rattle.strptime.specs.declared.Reading.{Reading}
-use Rattle.strptime.specs.declared.Said.TheVariants.{Unsaid}
 use Rattle.demands.specs.Columns.{Writes}
 use Rattle.demands.proofs.Seconds.{no_seconds}
 use Rattle.cases.specs.Offsets as cases
 use Rattle.cases.specs.Offsets.{ZoneRule, Ignored, Answer, write_cases, read_cases}
 use Rattle.cases.specs.Starred.{Case}
+use Rattle.std.specs.Prelude.{None, Ok, Result, Some}
+use Rattle.values.specs.declared.fields.Field.{Field}
 
 -- ---- the cases
 
@@ -93,7 +90,7 @@ reads_all = refl
 
 -- a reading of five bytes by %z that gives an offset
 abbrev got : ℤ → Reading
-got z = finished 5 NoDate Unsaid Unsaid Unsaid (Minutes z)
+got z = finished 5 None None None None (Some z)
 
 from_zero : (n : ℕ) → n ≤ 1439 → reading (bytes "%z") (east (pos n)) ≡ got (pos n)
 from_zero n h = same_at (λ k. reading (bytes "%z") (east (pos k))) (λ k. got (pos k)) 1440 0 computed n (omega arith) (omega arith)
@@ -113,7 +110,7 @@ below_zero n h = same_at (λ k. reading (bytes "%z") (east (negsuc k))) (λ k. g
         agreement.computes verdicts.computes engines.computes elements.computes steps.computes answers.computes offsets.computes range
         in refl
 
-reads_back : (z : ℤ) → is_offset (Minutes z) ≡ true → reading (bytes "%z") (east z) ≡ got z
+reads_back : (z : ℤ) → is_offset (Some z) ≡ true → reading (bytes "%z") (east z) ≡ got z
 unfolding is_offset
 reads_back (pos n) e = from_zero n (leb-true n 1439 e)
 reads_back (negsuc n) e = below_zero n (omega (arith, leb-true (suc n) 1439 e))
@@ -211,10 +208,10 @@ module _ (f : Facts) (n : ℕ) where
 -- ---- %z of a moment
 
 same_offset : (t : Fields) (m : Moment)
-    → moment_of t.year t.month t.day t.hour t.minute t.second t.offset ≡ Valid m → m.offset ≡ t.offset
+    → moment_of t.year t.month t.day t.hour t.minute t.second t.offset ≡ Ok m → m.offset ≡ t.offset
 unfolding moment_of
 same_offset t m =
-    either (λ (r : MomentFields). r ≡ Valid m → m.offset ≡ t.offset)
+    either (λ (r : Result Moment Field). r ≡ Ok m → m.offset ≡ t.offset)
     (eqb (moment_fault t.year t.month t.day t.hour t.minute t.second t.offset) 0)
     (λ _ q.
     let e : record {
@@ -240,7 +237,7 @@ unfolding zone_element writer.text writer.element written.converted written.form
 zone_text m = append-nil (zone m.offset)
 
 module _ (t : Fields) (m : Moment)
-    (v : moment_of t.year t.month t.day t.hour t.minute t.second t.offset ≡ Valid m) where
+    (v : moment_of t.year t.month t.day t.hour t.minute t.second t.offset ≡ Ok m) where
   zone-writes : Writes (bytes "%z") t (zone t.offset)
   zone-writes b =
       puts_text (bytes "%z") t b (unfold bytes in lit≤ tt) (ap (λ (o : Opening). o.ended) opened) v

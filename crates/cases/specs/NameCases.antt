@@ -13,20 +13,20 @@ use Rattle.judge.specs.declared.Engine.TheVariants.{Skipping, Within}
 use Rattle.strptime.specs.Answers.{reading_by}
 use Rattle.names.specs.Names.{names_of, read_name}
 use Rattle.names.specs.declared.names.NameForm.{NameForm}
-use Rattle.names.specs.declared.names.NameForm.TheVariants.{NoName, Full, Middle, Short}
-use Rattle.names.specs.declared.names.NameRead.{NameRead}
-use Rattle.names.specs.declared.names.NameRead.TheVariants.{Found, Nothing}
+use Rattle.names.specs.declared.names.NameForm.TheVariants.{Full, Middle, Short}
 use Rattle.names.specs.declared.names.Names.{Names}
 use Rattle.names.specs.declared.names.Names.TheVariants.{Weekdays, Months, Halves}
 use Rattle.demands.specs.Facts.{last_form, facts, end_from}
 use Rattle.cases.specs.Starred.{Case}
+use Rattle.std.specs.Prelude.{None, Option, Some}
+use Rattle.names.specs.declared.names.NameRead.{NameRead}
 
 -- a form by a number: 0 none, 1 full, 2 middle, 3 short
-unfoldable pub form : NameForm → ℕ
-form NoName = 0
-form Full = 1
-form Middle = 2
-form Short = 3
+unfoldable pub form : Option NameForm → ℕ
+form None = 0
+form (Some Full) = 1
+form (Some Middle) = 2
+form (Some Short) = 3
 
 -- what a text says by a format: its first unread offset, the form of its last weekday name, and that of its last month name
 unfoldable pub says : String → String → List ℕ
@@ -78,14 +78,14 @@ name_cases =
     ∷ []
 
 -- a text that is read whole as a name, in the form of this number: its letters and a blank
-unfoldable pub whole : ℕ → List ℕ → NameRead → List ℕ
-whole g s (Found i n f) = cond (eqb n (length s) && eqb (form f) g) (s ++ (32 ∷ [])) []
-whole g s Nothing = []
+unfoldable pub whole : ℕ → List ℕ → Option NameRead → List ℕ
+whole g s (Some r) = cond (eqb r.length (length s) && eqb (form (Some r.form)) g) (s ++ (32 ∷ [])) []
+whole g s None = []
 
 -- of all beginnings of the names of a table, from no letter to all, those that are read whole in a form
 unfoldable pub in_form : NameForm → Names → List ℕ
 in_form f t =
-    flat_map (λ n. flat_map (λ k. whole (form f) (take k n) (read_name t (take k n))) (range 0 (suc (length n)))) (names_of t)
+    flat_map (λ n. flat_map (λ k. whole (form (Some f)) (take k n) (read_name t (take k n))) (range 0 (suc (length n)))) (names_of t)
 
 unfoldable pub form_cases : List Case
 form_cases =

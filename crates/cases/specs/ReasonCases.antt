@@ -13,9 +13,10 @@ use Rattle.matching.specs.Extents.{nowhere, first_said}
 use Rattle.reasons.specs.Reasons.{explained_by}
 use Rattle.reasons.specs.declared.About.TheVariants.{Day as TheDay, Hour as TheHour}
 use Rattle.reasons.specs.declared.Part.TheVariants.{Year, Month, Day}
-use Rattle.reasons.specs.declared.Reason.{Reason}
-use Rattle.reasons.specs.declared.Reason.TheVariants.{NoReason, Quarrel, Differ, Hours}
 use Rattle.cases.specs.Starred.{Case}
+use Rattle.std.specs.Prelude.{None, Option, Some}
+use Rattle.reasons.specs.declared.Reason.TheVariants.{Differ, Hours, Quarrel}
+use Rattle.reasons.specs.declared.Reason.{Reason}
 
 -- where kinds are first said by a format: for each its first offset, and the one after its last
 unfoldable pub stand : String → String → List ℕ → List ℕ
@@ -23,14 +24,14 @@ stand s f ks =
     flat_map (λ k. let x = first_said k (opening Reader (bytes f)).elements (bytes s) 0 in x.from ∷ x.next ∷ []) ks
 
 -- a reason by a number: 0 none, 1 and 2 a quarrel on the day and on the hour, 3, 4 and 5 the part in which two days differ, 6 two hours
-unfoldable pub numbered : Reason → List ℕ
-numbered NoReason = 0 ∷ []
-numbered (Quarrel TheDay) = 1 ∷ []
-numbered (Quarrel TheHour) = 2 ∷ []
-numbered (Differ Year) = 3 ∷ []
-numbered (Differ Month) = 4 ∷ []
-numbered (Differ Day) = 5 ∷ []
-numbered (Hours a b) = 6 ∷ a ∷ b ∷ []
+unfoldable pub numbered : Option Reason → List ℕ
+numbered None = 0 ∷ []
+numbered (Some (Quarrel TheDay)) = 1 ∷ []
+numbered (Some (Quarrel TheHour)) = 2 ∷ []
+numbered (Some (Differ Year)) = 3 ∷ []
+numbered (Some (Differ Month)) = 4 ∷ []
+numbered (Some (Differ Day)) = 5 ∷ []
+numbered (Some (Hours a b)) = 6 ∷ a ∷ b ∷ []
 
 -- a reading's reason, and with the words of the kinds of the hour
 unfoldable pub why : Engine → String → String → List ℕ

@@ -3,16 +3,16 @@ use Rattle.std.specs.Prelude.{ℕ, List, [], ◌∷◌, ◌++◌, replicate}
 use Prim.Native.String.{String}
 use Rattle.laws.specs.Bytes.{bytes}
 use Rattle.calendar.specs.declared.Date.{Date}
-use Rattle.values.specs.declared.offsets.Offset.TheVariants.{Unsaid as NoOffset}
 use Rattle.strftime.specs.Writing.{writing}
 use Rattle.strftime.specs.declared.Fields.{Fields}
 use Rattle.strptime.specs.Answers.{reading}
+use Rattle.std.specs.Prelude.{None, Option, Some}
+use Rattle.strptime.specs.declared.Shown.TheVariants.{Days, Hours}
 use Rattle.strptime.specs.declared.Shown.{Shown}
-use Rattle.strptime.specs.declared.Shown.TheVariants.{Nothing, Days, Hours}
 
 -- a moment, without a zone offset
 unfoldable pub moment : ℕ → ℕ → ℕ → ℕ → ℕ → ℕ → Fields
-moment y m d h n s = record { year = y; month = m; day = d; hour = h; minute = n; second = s; offset = NoOffset }
+moment y m d h n s = record { year = y; month = m; day = d; hour = h; minute = n; second = s; offset = None }
 
 -- a date at midnight
 unfoldable pub midnight : ℕ → ℕ → ℕ → Fields
@@ -28,10 +28,10 @@ writes t f n =
 unfoldable pub fields : Date → List ℕ
 fields t = t.year ∷ t.month ∷ t.day ∷ []
 
-unfoldable pub shown : Shown → List ℕ
-shown Nothing = []
-shown (Days a b) = fields a ++ fields b
-shown (Hours a b) = a ∷ b ∷ []
+unfoldable pub shown : Option Shown → List ℕ
+shown None = []
+shown (Some (Days a b)) = fields a ++ fields b
+shown (Some (Hours a b)) = a ∷ b ∷ []
 
 -- what a reading comes to: the number, the place, and what is shown
 unfoldable pub reads : String → String → List ℕ

@@ -37,14 +37,11 @@ use Rattle.conversions.specs.declared.conversions.Form.{Form}
 use Rattle.conversions.specs.declared.conversions.Form.TheVariants.{Zeros, Blanks, FromSunday, Short, Full, Lower, Zone, Seconds, Unknown}
 use Rattle.format.specs.declared.opening.Side.{Side}
 use Rattle.format.specs.declared.opening.Side.TheVariants.{Writer, Reader}
-use Rattle.format.specs.declared.opening.Sign.{Sign}
-use Rattle.format.specs.declared.opening.Sign.TheVariants.{Own}
 use Rattle.conversions.specs.declared.following.Act.TheVariants.{Convert, Refuse}
 use Rattle.conversions.specs.declared.following.Style.{Style}
 use Rattle.values.specs.Moments.{moment_of}
 use Rattle.values.specs.Values.{value}
 use Rattle.values.specs.declared.Moment.{Moment}
-use Rattle.values.specs.declared.MomentFields.TheVariants.{Valid}
 use Rattle.converted.specs.Converted as styles
 use Rattle.strftime.specs.Writing as writer
 use Rattle.converted.specs.Converted.{formed, converted}
@@ -58,6 +55,7 @@ use Rattle.strptime.specs.Answers as reader
 use Rattle.strptime.specs.Answers.{reading}
 use Rattle.demands.specs.Columns.{Columns, Writes, numbers, blanks, names, others, asked, format, digits_of, column}
 use Rattle.demands.specs.Columns.{belongs}
+use Rattle.std.specs.Prelude.{None, Ok, Option, ℕ}
 
 not_eq_true : (t : Bool) → not t ≡ true → t ≡ false
 not_eq_true true e = clash (cc)
@@ -138,7 +136,7 @@ unfolding among
 is_flag f k z = rw z at k
 
 -- the bytes of the element before are passed
-passed : (side : Side) (inner : ℕ → ℕ → Opening) (g : Sign) (s : List ℕ) (i n : ℕ) → n ≡ length s
+passed : (side : Side) (inner : ℕ → ℕ → Opening) (g : Option ℕ) (s : List ℕ) (i n : ℕ) → n ≡ length s
     → open_from side inner g i n s ≡ nothing Whole
 unfolding open_from
 passed side inner g [] i n e = refl
@@ -193,7 +191,7 @@ module _ (f w c : ℕ) (known : among f (0 ∷ flags) ≡ true) (h : w ≤ 99) (
       let n = length (flag_bytes f) + length (asked w) + 2 in
       let e : n - 1 ≡ length (flag_bytes f ++ rest) =
       rw (length-append (flag_bytes f) rest, length-append (asked w) (c ∷ [])) (omega arith) in
-      rw (styled-of, passed Writer (composite_to Writer 2) Own (flag_bytes f ++ rest) 1 (n - 1) e)
+      rw (styled-of, passed Writer (composite_to Writer 2) None (flag_bytes f ++ rest) 1 (n - 1) e)
 
   -- and not at all for the reader
   refused-first : (eqb f 0 && eqb w 0) ≡ false → (conversion (flag_bytes f ++ rest)).act ≡ Refuse
@@ -300,7 +298,7 @@ takes_is true false p false m e = rw e
 takes_is false v p n m e = rw e
 
 -- a moment, and a conversion that takes a flag and a width
-module _ (t : Fields) (m : Moment) (valid : moment_of t.year t.month t.day t.hour t.minute t.second t.offset ≡ Valid m)
+module _ (t : Fields) (m : Moment) (valid : moment_of t.year t.month t.day t.hour t.minute t.second t.offset ≡ Ok m)
     (f w c : ℕ) (known : among f (0 ∷ flags) ≡ true) (h : w ≤ 99) (a : among c letters ≡ true) where
   abbrev style : Style
   style = record { flag = f; width = w }
@@ -485,7 +483,7 @@ among_split (b ∷ x) y c e = split_more (eqb c b) (among c x) (among c y) (amon
 
 -- ---- the whole
 
-module _ (t : Fields) (m : Moment) (v : moment_of t.year t.month t.day t.hour t.minute t.second t.offset ≡ Valid m)
+module _ (t : Fields) (m : Moment) (v : moment_of t.year t.month t.day t.hour t.minute t.second t.offset ≡ Ok m)
     (w c : ℕ) (h : w ≤ 99) (a : among c letters ≡ true) where
   abbrev row : Conversion
   row = conversion_of c
@@ -533,7 +531,7 @@ module _ (t : Fields) (m : Moment) (v : moment_of t.year t.month t.day t.hour t.
       (among_split names others c u))
       (among_split numbers (names ++ others) c a)
 
-pub columns : (t : Fields) (m : Moment) → moment_of t.year t.month t.day t.hour t.minute t.second t.offset ≡ Valid m
+pub columns : (t : Fields) (m : Moment) → moment_of t.year t.month t.day t.hour t.minute t.second t.offset ≡ Ok m
     → (w c : ℕ) → w ≤ 99 → among c (numbers ++ (names ++ others)) ≡ true → Columns t m w c
 unfolding flags
 columns t m v w c h a =

@@ -28,29 +28,24 @@ use Rattle.judge.specs.declared.Engine.TheVariants.{Skipping}
 use Rattle.agreement.proofs.Demand.{day_judged, hour_judged}
 use Rattle.judge.proofs.Engines.{by_skipping}
 use Rattle.values.specs.Offsets.{offset_number, offset_of}
-use Rattle.values.specs.declared.offsets.Offset.{Offset}
-use Rattle.values.specs.declared.offsets.Offset.TheVariants.{Unsaid as NoOffset, Minutes}
 use Rattle.demands.proofs.Offsets.{offset_none, offset_said, said_number, said_valid, back, offset_most}
 use Rattle.strptime.specs.Answers.{naming, examining, said_of, with_day, with_searched, judged, reading}
-use Rattle.strptime.specs.declared.Day.{Day}
-use Rattle.strptime.specs.declared.Day.TheVariants.{NoDate, On}
-use Rattle.strptime.specs.declared.Said.{Said}
-use Rattle.strptime.specs.declared.Said.TheVariants.{Unsaid, Is}
 use Rattle.demands.specs.Facts.{Fact, Says, facts, Matched}
 use Rattle.demands.specs.Demand.{SomeSaid, NoneSaid, DayAgrees, HourAgrees, DayIs, HourIs, NumberIs, OffsetIs, DayStands, Answered}
 use Rattle.demands.proofs.Matched.{read, matched_is, handed, ends_at, forms_are}
 use Rattle.demands.proofs.Verdicts.{Leaves, LeavesHour, day_none, day_two, then_none, then_two, then_done, done_place}
 use Rattle.demands.proofs.Written.{day_would, hour_would}
+use Rattle.std.specs.Prelude.{None, Option, Some, ℕ, ℤ}
 
 -- ---- the same words over other facts and another agreement
 
-module _ {None None' : Type 0} {Is A A' : ℕ → Type 0} (to : None → None') (from : None' → None)
-    (agrees : (k : ℕ) → Is k → A k → A' k) (agrees' : (k : ℕ) → Is k → A' k → A k) where
-  only-over : (a : ℕ) → Only Is A a → Only Is A' a
+module _ {None None' : Type 0} {Some A A' : ℕ → Type 0} (to : None → None') (from : None' → None)
+    (agrees : (k : ℕ) → Some k → A k → A' k) (agrees' : (k : ℕ) → Some k → A' k → A k) where
+  only-over : (a : ℕ) → Only Some A a → Only Some A' a
   only-over a o =
       record { is = o.is; agrees = agrees a o.is o.agrees; alone = λ k i x. o.alone k i (agrees' k i x) }
 
-  earliest-over : (a b : ℕ) → Earliest Is A a b → Earliest Is A' a b
+  earliest-over : (a b : ℕ) → Earliest Some A a b → Earliest Some A' a b
   earliest-over a b e =
       record {
         is_first = e.is_first;
@@ -61,9 +56,9 @@ module _ {None None' : Type 0} {Is A A' : ℕ → Type 0} (to : None → None') 
         none_before = λ k i x. e.none_before k i (agrees' k i x);
       }
 
-module _ {None None' : Type 0} {Is A A' : ℕ → Type 0} (to : None → None') (from : None' → None)
-    (agrees : (k : ℕ) → Is k → A k → A' k) (agrees' : (k : ℕ) → Is k → A' k → A k) where
-  judged-over : (v : Verdict) → Judged None Is A v → Judged None' Is A' v
+module _ {None None' : Type 0} {Some A A' : ℕ → Type 0} (to : None → None') (from : None' → None)
+    (agrees : (k : ℕ) → Some k → A k → A' k) (agrees' : (k : ℕ) → Some k → A' k → A k) where
+  judged-over : (v : Verdict) → Judged None Some A v → Judged None' Some A' v
   judged-over v j =
       record {
         unsaid = (λ e. to (j.unsaid.0 e), λ z. j.unsaid.1 (from z));
@@ -155,68 +150,68 @@ module _ (f s : List ℕ) (m : Matched f s) where
       (hour_verdict kept) (hour_judged kept)
 
   -- the day, the hour, the minute and the second that the facts give
-  day-left : (v : Verdict) → Judged (NoneSaid f s day_kinds) IsDay (DayAgrees f s) v → (x : Day) → Leaves v x ↔ DayIs f s x
-  day-left NotSaid j NoDate = (λ e. j.unsaid.0 refl, λ z. refl)
-  day-left NotSaid j (On x) = (λ e. clash (cc), λ z. absurd (not_none day_kinds z.0 (j.unsaid.0 refl)))
-  day-left Impossible j NoDate = (λ e. absurd e, λ z. clash (cc (j.unsaid.1 z)))
-  day-left Impossible j (On x) = (λ e. absurd e, λ z. absurd (j.impossible.0 refl z.1.0 z.1.2.is z.1.2.agrees))
-  day-left (Open a b) j NoDate = (λ e. absurd e, λ z. clash (cc (j.unsaid.1 z)))
-  day-left (Open a b) j (On x) = (λ e. absurd e, λ z. clash (cc ((j.agreed z.1.0).1 (not_none day_kinds z.0, z.1.2))))
-  day-left (Agreed k) j NoDate = (λ e. clash (cc), λ z. clash (cc (j.unsaid.1 z)))
-  day-left (Agreed k) j (On x) = (
+  day-left : (v : Verdict) → Judged (NoneSaid f s day_kinds) IsDay (DayAgrees f s) v → (x : Option Date) → Leaves v x ↔ DayIs f s x
+  day-left NotSaid j None = (λ e. j.unsaid.0 refl, λ z. refl)
+  day-left NotSaid j (Some x) = (λ e. clash (cc), λ z. absurd (not_none day_kinds z.0 (j.unsaid.0 refl)))
+  day-left Impossible j None = (λ e. absurd e, λ z. clash (cc (j.unsaid.1 z)))
+  day-left Impossible j (Some x) = (λ e. absurd e, λ z. absurd (j.impossible.0 refl z.1.0 z.1.2.is z.1.2.agrees))
+  day-left (Open a b) j None = (λ e. absurd e, λ z. clash (cc (j.unsaid.1 z)))
+  day-left (Open a b) j (Some x) = (λ e. absurd e, λ z. clash (cc ((j.agreed z.1.0).1 (not_none day_kinds z.0, z.1.2))))
+  day-left (Agreed k) j None = (λ e. clash (cc), λ z. clash (cc (j.unsaid.1 z)))
+  day-left (Agreed k) j (Some x) = (
     λ e. let r = (j.agreed k).0 refl in (some-said day_kinds r.0, (k, (cc), r.1)),
     λ z.
         let q = (j.agreed z.1.0).1 (not_none day_kinds z.0, z.1.2) in
         let d : k ≡ z.1.0 = cc in
-        ap On (z.1.1 ∙ ap date_of (sym d)),
+        ap Some (z.1.1 ∙ ap date_of (sym d)),
   )
 
-  hour-left : (w : Verdict) → Judged (NoneSaid f s hour_kinds) IsHour (HourAgrees f s) w → (h : Said) → LeavesHour w h ↔ HourIs f s h
-  hour-left NotSaid j Unsaid = (λ e. j.unsaid.0 refl, λ z. refl)
-  hour-left NotSaid j (Is h) = (λ e. clash (cc), λ z. absurd (not_none hour_kinds z.0 (j.unsaid.0 refl)))
-  hour-left Impossible j Unsaid = (λ e. absurd e, λ z. clash (cc (j.unsaid.1 z)))
-  hour-left Impossible j (Is h) = (λ e. absurd e, λ z. absurd (j.impossible.0 refl h z.1.is z.1.agrees))
-  hour-left (Open a b) j Unsaid = (λ e. absurd e, λ z. clash (cc (j.unsaid.1 z)))
-  hour-left (Open a b) j (Is h) = (λ e. absurd e, λ z. clash (cc ((j.agreed h).1 (not_none hour_kinds z.0, z.1))))
-  hour-left (Agreed k) j Unsaid = (λ e. clash (cc), λ z. clash (cc (j.unsaid.1 z)))
-  hour-left (Agreed k) j (Is h) = (
+  hour-left : (w : Verdict) → Judged (NoneSaid f s hour_kinds) IsHour (HourAgrees f s) w → (h : Option ℕ) → LeavesHour w h ↔ HourIs f s h
+  hour-left NotSaid j None = (λ e. j.unsaid.0 refl, λ z. refl)
+  hour-left NotSaid j (Some h) = (λ e. clash (cc), λ z. absurd (not_none hour_kinds z.0 (j.unsaid.0 refl)))
+  hour-left Impossible j None = (λ e. absurd e, λ z. clash (cc (j.unsaid.1 z)))
+  hour-left Impossible j (Some h) = (λ e. absurd e, λ z. absurd (j.impossible.0 refl h z.1.is z.1.agrees))
+  hour-left (Open a b) j None = (λ e. absurd e, λ z. clash (cc (j.unsaid.1 z)))
+  hour-left (Open a b) j (Some h) = (λ e. absurd e, λ z. clash (cc ((j.agreed h).1 (not_none hour_kinds z.0, z.1))))
+  hour-left (Agreed k) j None = (λ e. clash (cc), λ z. clash (cc (j.unsaid.1 z)))
+  hour-left (Agreed k) j (Some h) = (
     λ e. let d : h ≡ k = cc in let r = (j.agreed k).0 refl in (some-said hour_kinds r.0, rw d r.1),
     λ z. let q = (j.agreed h).1 (not_none hour_kinds z.0, z.1) in cc,
   )
 
-  number-left : (k : ℕ) (x : Said) → (said_of (said kept k) ≡ x) ↔ NumberIs f s k x
+  number-left : (k : ℕ) (x : Option ℕ) → (said_of (said kept k) ≡ x) ↔ NumberIs f s k x
   unfolding said_of
   number-left k x = go (said kept k) refl x
     where
-      go : (y : ℕ) → said kept k ≡ y → (x : Said) → (said_of y ≡ x) ↔ NumberIs f s k x
-      go zero e Unsaid = (λ q n z. omega (arith, sym e ∙ (handed f s m k n).1 z), λ z. refl)
-      go zero e (Is n) = (λ q. clash (cc), λ z. absurd (omega (arith, sym e ∙ (handed f s m k n).1 z)))
-      go (suc a) e Unsaid = (
+      go : (y : ℕ) → said kept k ≡ y → (x : Option ℕ) → (said_of y ≡ x) ↔ NumberIs f s k x
+      go zero e None = (λ q n z. omega (arith, sym e ∙ (handed f s m k n).1 z), λ z. refl)
+      go zero e (Some n) = (λ q. clash (cc), λ z. absurd (omega (arith, sym e ∙ (handed f s m k n).1 z)))
+      go (suc a) e None = (
         λ q. clash (cc (rw (ne_eqb (suc a) 0 (λ (z : suc a ≡ 0). omega arith)) at q)),
         λ z. absurd (z a ((handed f s m k a).0 e)),
       )
-      go (suc a) e (Is n) =
+      go (suc a) e (Some n) =
           let one : suc a - 1 ≡ a = omega arith in
-          let is : said_of (suc a) ≡ Is a = rw (ne_eqb (suc a) 0 (λ (z : suc a ≡ 0). omega arith), one) in (
+          let is : said_of (suc a) ≡ Some a = rw (ne_eqb (suc a) 0 (λ (z : suc a ≡ 0). omega arith), one) in (
             λ q. let d : a ≡ n = cc in rw (← d) ((handed f s m k a).0 e),
-            λ z. let d : a ≡ n = omega (arith, sym e ∙ (handed f s m k n).1 z) in is ∙ ap Is d,
+            λ z. let d : a ≡ n = omega (arith, sym e ∙ (handed f s m k n).1 z) in is ∙ ap Some d,
           )
 
   -- the zone offset, whose fact is in its range
-  offset-left : (o : Offset) → (offset_of (said kept zone_offset) ≡ o) ↔ OffsetIs f s o
+  offset-left : (o : Option ℤ) → (offset_of (said kept zone_offset) ≡ o) ↔ OffsetIs f s o
   offset-left o = go (said kept zone_offset) refl o
     where
-      go : (y : ℕ) → said kept zone_offset ≡ y → (o : Offset) → (offset_of y ≡ o) ↔ OffsetIs f s o
-      go zero e NoOffset = (λ q n z. omega (arith, sym e ∙ (handed f s m zone_offset n).1 z), λ z. offset_none)
-      go zero e (Minutes z) = (
+      go : (y : ℕ) → said kept zone_offset ≡ y → (o : Option ℤ) → (offset_of y ≡ o) ↔ OffsetIs f s o
+      go zero e None = (λ q n z. omega (arith, sym e ∙ (handed f s m zone_offset n).1 z), λ z. offset_none)
+      go zero e (Some z) = (
         λ q. let r = offset_none in clash (cc),
         λ r. absurd (omega (arith, sym e ∙ (handed f s m zone_offset (offset_number z)).1 r.1)),
       )
-      go (suc a) e NoOffset = (
+      go (suc a) e None = (
         λ q. let r = offset_said a (offset_most f s a ((handed f s m zone_offset a).0 e)) in clash (cc),
         λ z. absurd (z a ((handed f s m zone_offset a).0 e)),
       )
-      go (suc a) e (Minutes z) =
+      go (suc a) e (Some z) =
           let l = offset_most f s a ((handed f s m zone_offset a).0 e) in
           let is = offset_said a l in (
             λ q.
@@ -224,7 +219,7 @@ module _ (f s : List ℕ) (m : Matched f s) where
                 (rw d at (said_valid a l), rw (ap offset_number (sym d) ∙ said_number a) ((handed f s m zone_offset a).0 e)),
             λ r.
                 let d : a ≡ offset_number z = omega (arith, sym e ∙ (handed f s m zone_offset (offset_number z)).1 r.1) in
-                is ∙ ap Minutes (rw d (back z r.0)),
+                is ∙ ap Some (rw d (back z r.0)),
           )
 
   -- dates of two days are the same only if the days are
@@ -245,7 +240,7 @@ module _ (f s : List ℕ) (m : Matched f s) where
     hour-borne : ((h : ℕ) → IsHour h → HourAgrees f s h → ⊥) → NoneSaid f s hour_kinds → ⊥
     hour-borne g z = clash (cc (i.impossible.1 g, i.unsaid.1 z))
 
-    stands : ((x : Day) × Leaves v x) ↔ DayStands f s
+    stands : ((x : Option Date) × Leaves v x) ↔ DayStands f s
     stands = (λ r. (r.0, (day-left v j r.0).0 r.1), λ r. (r.0, (day-left v j r.0).1 r.1))
 
     answered-by : Answered f s

@@ -15,8 +15,6 @@ use Rattle.agreement.specs.declared.Verdict.{Verdict}
 use Rattle.judge.specs.Engines.{searched}
 use Rattle.judge.specs.declared.Engine.{Engine}
 use Rattle.judge.specs.declared.Engine.TheVariants.{Skipping, Plain, Within}
-use Rattle.judge.specs.declared.Searched.{Searched}
-use Rattle.judge.specs.declared.Searched.TheVariants.{Judged, OverBudget}
 use Rattle.judge.proofs.Engines as judge
 use Rattle.judge.proofs.Engines.{searched_verdict, by_skipping, by_plain}
 use Rattle.strptime.specs.Answers.{showing, refused, naming, examining, over_budget, with_day, with_searched, judged, reading_by, reading}
@@ -28,6 +26,10 @@ use Rattle.demands.specs.Facts.{Matched}
 use Rattle.demands.proofs.Demand.{none_kept}
 use Rattle.demands.proofs.Matched.{read, Before, matched_or_before, matched_is}
 use Rattle.demands.proofs.Rows.{reading_rows}
+use Rattle.std.specs.Prelude.{Err, Ok, Result}
+use Rattle.judge.specs.Engines.{judged_by, over_by}
+use Rattle.judge.specs.declared.Judged.{Judged}
+use Rattle.judge.specs.declared.OverBudget.{OverBudget}
 
 -- one verdict on every set of facts
 pub one_verdict : (x : Facts) → OneVerdict x
@@ -39,11 +41,11 @@ module _ (t : State) where
   abbrev pub verdicts : Reading
   verdicts = with_day t (day_verdict t.facts) (hour_verdict t.facts)
 
-  judged-is : (e : Engine) {v : Verdict} {n : ℕ} → searched e t.facts ≡ Judged v n → judged e t ≡ examining n verdicts
+  judged-is : (e : Engine) {v : Verdict} {n : ℕ} → searched e t.facts ≡ Ok (judged_by v n) → judged e t ≡ examining n verdicts
   unfolding judged with_searched
   judged-is e q = let p = searched_verdict e t.facts q in rw (q, p)
 
-  over-is : (e : Engine) {b : ℕ} → searched e t.facts ≡ OverBudget b → judged e t ≡ over_budget b
+  over-is : (e : Engine) {b : ℕ} → searched e t.facts ≡ Err (over_by b) → judged e t ≡ over_budget b
   unfolding judged with_searched
   over-is e q = rw q
 
@@ -52,9 +54,10 @@ module _ (t : State) where
   unfolding over_budget examining refused showing
   judged_or e = go (searched e t.facts) refl
     where
-      go : (x : Searched) → searched e t.facts ≡ x → ((n : ℕ) × (judged e t ≡ examining n verdicts)) ⊎ ((judged e t).number ≡ 11)
-      go (Judged v n) q = inl (n, judged-is e q)
-      go (OverBudget b) q = inr (rw (over-is e q))
+      go : (x : Result Judged OverBudget) → searched e t.facts ≡ x
+          → ((n : ℕ) × (judged e t ≡ examining n verdicts)) ⊎ ((judged e t).number ≡ 11)
+      go (Ok j) q = inl (j.examined, judged-is e q)
+      go (Err o) q = inr (rw (over-is e q))
 
 -- ---- a text that was refused before its day was judged
 module _ (f s : List ℕ) (w : Before f s) where
@@ -71,7 +74,7 @@ module _ (f s : List ℕ) (m : Matched f s) where
   kept = (read f s).state.facts
 
   -- by an engine that gives a verdict
-  pub read_is : (e : Engine) {v : Verdict} {n : ℕ} → searched e kept ≡ Judged v n
+  pub read_is : (e : Engine) {v : Verdict} {n : ℕ} → searched e kept ≡ Ok (judged_by v n)
       → reading_by e f s ≡ naming (read f s).forms (examining n (verdicts (read f s).state))
   read_is e q = matched_is f s e m ∙ ap (naming (read f s).forms) (judged-is (read f s).state e q)
 

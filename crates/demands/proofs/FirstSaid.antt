@@ -11,13 +11,15 @@ use lib.ListN.{length}
 use Rattle.kinds.specs.Kinds.{zone_offset}
 use Rattle.matching.specs.Elements.{read_element}
 use Rattle.matching.specs.Extents.{extent, said_at, first_said}
-use Rattle.matching.specs.declared.elements.Item.{Item}
-use Rattle.matching.specs.declared.elements.Item.TheVariants.{Skip, Fact as Reads, NoMatch, OutOfRange}
 use Rattle.matching.specs.declared.extents.Extent.{Extent}
 use Rattle.matching.proofs.Sound.{Finds, Sound, sound}
 use Rattle.demands.specs.Facts.{Fact, saying, facts_from, Says}
 use Rattle.demands.specs.Reasons.{FirstOf, here, later, Spelled}
 use Rattle.demands.proofs.Spelled.{Words, element_words}
+use Rattle.std.specs.Prelude.{Err, Ok, Result}
+use Rattle.matching.specs.declared.Refused.{Refused}
+use Rattle.matching.specs.declared.elements.Item.TheVariants.{Fact as Reads, Skip}
+use Rattle.matching.specs.declared.elements.Item.{Item}
 
 module _ (k : ℕ) (s : List ℕ) (named : k ≡ zone_offset → ⊥) where
   -- the first of some facts that is of kind k, and where it stands
@@ -30,11 +32,11 @@ module _ (k : ℕ) (s : List ℕ) (named : k ≡ zone_offset → ⊥) where
   -- by the item of the first element, where the others do
   module _ (es : List ℕ) (n : ℕ)
       (rest : (p : ℕ) → p ≤ length s → Says (facts_from es s p) k n → Stands (facts_from es s p) (first_said k es s p)) where
-    stands_by : (i : Item) → Sound s i → (p : ℕ) → Words s p i → Says (saying (λ next. facts_from es s next) i) k n
+    stands_by : (i : Result Item Refused) → Sound s i → (p : ℕ) → Words s p i → Says (saying (λ next. facts_from es s next) i) k n
         → Stands (saying (λ next. facts_from es s next) i) (said_at k (λ next. first_said k es s next) i)
     unfolding saying said_at Says Finds Words
-    stands_by (Skip next) h p w x = rest next h x
-    stands_by (Reads j m f from next) h p w x = go (eqb j k) refl
+    stands_by (Ok (Skip next)) h p w x = rest next h x
+    stands_by (Ok (Reads j m f from next)) h p w x = go (eqb j k) refl
       where
         own : Fact
         own = record { kind = j; number = m; form = f; from = from; next = next }
@@ -51,8 +53,7 @@ module _ (k : ℕ) (s : List ℕ) (named : k ≡ zone_offset → ⊥) where
             let away = eqb-false j k e in
             let r = rest next h.2 (⊎_elim (λ z. absurd (away z.0)) (λ z. z) x) in
             record { fact = r.fact; first = later away r.first; spelled = r.spelled; at = r.at }
-    stands_by (NoMatch q) h p w x = absurd x
-    stands_by (OutOfRange q) h p w x = absurd x
+    stands_by (Err why) h p w x = absurd x
 
   pub stands : (es : List ℕ) (p : ℕ) → p ≤ length s → (n : ℕ) → Says (facts_from es s p) k n
       → Stands (facts_from es s p) (first_said k es s p)

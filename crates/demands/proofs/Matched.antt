@@ -18,20 +18,21 @@ use Rattle.agreement.specs.declared.Verdict.{Verdict}
 use Rattle.agreement.specs.declared.Verdict.TheVariants.{Unsaid, Impossible, Open, Agreed}
 use Rattle.judge.specs.Engines.{searched}
 use Rattle.judge.specs.declared.Engine.{Engine}
-use Rattle.judge.specs.declared.Searched.{Searched}
-use Rattle.judge.specs.declared.Searched.TheVariants.{Judged, OverBudget}
 use Rattle.strptime.specs.Answers.{showing, refused, finished, naming, examining, over_budget, done, with_hour, with_day, with_searched}
 use Rattle.strptime.specs.Answers.{judged, concluded, read_by, by_format, unless_long, reading_by}
 use Rattle.matching.specs.Steps.{unsaid, start, no_forms, is_read, read_all}
-use Rattle.strptime.specs.declared.Day.{Day}
-use Rattle.matching.specs.declared.Outcome.{Outcome}
-use Rattle.matching.specs.declared.Outcome.TheVariants.{Read, Mismatch, Range, Conflict}
 use Rattle.strptime.specs.declared.Reading.{Reading}
 use Rattle.matching.specs.declared.State.{State}
 use Rattle.matching.specs.declared.Stepped.{Stepped}
 use Rattle.demands.specs.Facts.{Says, last_form, facts, end_from, Consistent, Matched}
 use Rattle.demands.specs.Demand.{before_nine}
 use Rattle.demands.proofs.Walk.{Kept, last_first, Went, went, goes_through}
+use Rattle.std.specs.Prelude.{Err, Ok, Option, Result}
+use Rattle.calendar.specs.declared.Date.{Date}
+use Rattle.judge.specs.declared.Judged.{Judged}
+use Rattle.judge.specs.declared.OverBudget.{OverBudget}
+use Rattle.matching.specs.declared.Refused.TheVariants.{Conflict, Mismatch, Range}
+use Rattle.matching.specs.declared.Refused.{Refused}
 
 -- ---- numbers of a judging
 
@@ -39,7 +40,7 @@ abbrev Judging : Reading → Type 0
 Judging r = among r.number before_nine ≡ false
 
 module _ (t : State) where
-  hour-numbers : (d : Day) (v : Verdict) → Judging (with_hour t d v)
+  hour-numbers : (d : Option Date) (v : Verdict) → Judging (with_hour t d v)
   unfolding with_hour done finished refused showing among
   hour-numbers d Unsaid = refl
   hour-numbers d Impossible = refl
@@ -53,10 +54,10 @@ module _ (t : State) where
   day-numbers (Open a b) w = refl
   day-numbers (Agreed k) w = hour-numbers _ w
 
-  searched-numbers : (x : Searched) (w : Verdict) → Judging (with_searched t x w)
+  searched-numbers : (x : Result Judged OverBudget) (w : Verdict) → Judging (with_searched t x w)
   unfolding with_searched examining over_budget refused showing among
-  searched-numbers (Judged v n) w = day-numbers v w
-  searched-numbers (OverBudget b) w = refl
+  searched-numbers (Ok j) w = day-numbers j.verdict w
+  searched-numbers (Err o) w = refl
 
   judged-numbers : (e : Engine) → Judging (judged e t)
   unfolding judged
@@ -111,12 +112,10 @@ module _ (f s : List ℕ) where
       rw (le-leb (length f) longest m.format_short, le-leb (length s) longest m.text_short, m.format_whole)
       (concluding (read f s).outcome (matched-read m))
     where
-      concluding : (o : Outcome) → is_read o ≡ true
+      concluding : (o : Result (Unit {0}) Refused) → is_read o ≡ true
           → concluded e (read f s).state (read f s).forms o ≡ naming (read f s).forms (judged e (read f s).state)
-      concluding Read q = refl
-      concluding (Mismatch p) q = absurd (false≢true q)
-      concluding (Range p) q = absurd (false≢true q)
-      concluding (Conflict p) q = absurd (false≢true q)
+      concluding (Ok u) q = refl
+      concluding (Err why) q = absurd (false≢true q)
 
   -- a text that is not matched is refused by one of the numbers before 9, the same by every engine
   pub record Before : Type 0 where
@@ -127,15 +126,15 @@ module _ (f s : List ℕ) where
 
   -- each way out of the order
   way_out : (a : Bool) → leb (length f) longest ≡ a → (b : Bool) → leb (length s) longest ≡ b
-      → (d : Ended) → (opening Reader f).ended ≡ d → (o : Outcome) → (read f s).outcome ≡ o → Matched f s ⊎ Before
+      → (d : Ended) → (opening Reader f).ended ≡ d → (o : Result (Unit {0}) Refused) → (read f s).outcome ≡ o → Matched f s ⊎ Before
   unfolding reading_by unless_long by_format read_by concluded among is_read start
   way_out false p b g d h o q = inr (record { number = 1; place = 0; early = refl; refuses = λ e. rw p })
   way_out true p false g d h o q = inr (record { number = 5; place = 0; early = refl; refuses = λ e. rw (p, g) })
   way_out true p true g (BadAt k) h o q = inr (record { number = 3; place = k; early = refl; refuses = λ e. rw (p, g, h) })
-  way_out true p true g Whole h (Mismatch k) q = inr (record { number = 6; place = k; early = refl; refuses = λ e. rw (p, g, h, q) })
-  way_out true p true g Whole h (Range k) q = inr (record { number = 7; place = k; early = refl; refuses = λ e. rw (p, g, h, q) })
-  way_out true p true g Whole h (Conflict k) q = inr (record { number = 8; place = k; early = refl; refuses = λ e. rw (p, g, h, q) })
-  way_out true p true g Whole h Read q =
+  way_out true p true g Whole h (Err (Mismatch k)) q = inr (record { number = 6; place = k; early = refl; refuses = λ e. rw (p, g, h, q) })
+  way_out true p true g Whole h (Err (Range k)) q = inr (record { number = 7; place = k; early = refl; refuses = λ e. rw (p, g, h, q) })
+  way_out true p true g Whole h (Err (Conflict k)) q = inr (record { number = 8; place = k; early = refl; refuses = λ e. rw (p, g, h, q) })
+  way_out true p true g Whole h (Ok u) q =
       let w : is_read (read f s).outcome ≡ true = rw q in
       inl
       (record {

@@ -9,7 +9,7 @@ use Rattle.laws.proofs.Lists.{every_member}
 use Rattle.names.specs.Names as names
 use Rattle.names.specs.Names.{Form, others_of, read_name}
 use Rattle.names.specs.declared.names.NameForm.{NameForm}
-use Rattle.names.specs.declared.names.NameForm.TheVariants.{NoName, Full, Middle, Short}
+use Rattle.names.specs.declared.names.NameForm.TheVariants.{Full, Middle, Short}
 use Rattle.names.specs.declared.names.Names.{Names}
 use Rattle.names.specs.declared.names.Names.TheVariants.{Weekdays, Months, Halves}
 use Rattle.names.proofs.Forms.{of_name_lem, one_value, longest, longest_other, reads_full, no_full, reads_none}
@@ -21,7 +21,6 @@ other : Form → Bool
 other x = go x.form
   where
     go : NameForm → Bool
-    go NoName = false
     go Full = false
     go Middle = true
     go Short = true

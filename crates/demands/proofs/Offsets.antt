@@ -15,21 +15,22 @@ use Rattle.kinds.specs.Kinds.{zone_offset}
 use Rattle.format.specs.Opening.{opening}
 use Rattle.format.specs.declared.opening.Side.TheVariants.{Reader}
 use Rattle.matching.specs.Elements.{read_element}
-use Rattle.matching.specs.declared.elements.Item.{Item}
-use Rattle.matching.specs.declared.elements.Item.TheVariants.{Skip, Fact as Reads, NoMatch, OutOfRange}
 use Rattle.matching.proofs.Sound.{Finds, Sound, sound}
 use Rattle.values.specs.Offsets.{is_offset, offset_number, offset_of}
-use Rattle.values.specs.declared.offsets.Offset.TheVariants.{Unsaid, Minutes}
 use Rattle.values.proofs.Ranges.{highest}
 use Rattle.demands.specs.Facts.{saying, facts_from, facts, Says}
+use Rattle.std.specs.Prelude.{Err, None, Ok, Result, Some}
+use Rattle.matching.specs.declared.Refused.{Refused}
+use Rattle.matching.specs.declared.elements.Item.TheVariants.{Fact as Reads, Skip}
+use Rattle.matching.specs.declared.elements.Item.{Item}
 
 -- ---- from the number to the offset, and back
 
-pub offset_none : offset_of 0 ≡ Unsaid
+pub offset_none : offset_of 0 ≡ None
 unfolding offset_of
 offset_none = refl
 
-pub offset_said : (n : ℕ) → n ≤ 2878 → offset_of (suc n) ≡ Minutes (pos (suc n) -ℤ pos 1440)
+pub offset_said : (n : ℕ) → n ≤ 2878 → offset_of (suc n) ≡ Some (pos (suc n) -ℤ pos 1440)
 unfolding offset_of
 offset_said n h = rw (le-leb 1 (suc n) (omega arith), le-leb (suc n) 2879 (omega arith))
 
@@ -37,7 +38,7 @@ pub said_number : (n : ℕ) → offset_number (pos (suc n) -ℤ pos 1440) ≡ n
 unfolding offset_number
 said_number n = ap nat_abs (+ℤ_assoc (pos (suc n)) (negsuc 1439) (pos 1439) ∙ -ℤ_one (pos (suc n)))
 
-pub said_valid : (n : ℕ) → n ≤ 2878 → is_offset (Minutes (pos (suc n) -ℤ pos 1440)) ≡ true
+pub said_valid : (n : ℕ) → n ≤ 2878 → is_offset (Some (pos (suc n) -ℤ pos 1440)) ≡ true
 unfolding is_offset
 said_valid n h =
     le-leb (nat_abs (pos (suc n) -ℤ pos 1440)) 1439
@@ -45,7 +46,7 @@ said_valid n h =
     (λ e. omega (arith, ltb-true (suc n) 1440 e))
     (λ e. omega (arith, ltb-false (suc n) 1440 e)))
 
-pub back : (z : ℤ) → is_offset (Minutes z) ≡ true → pos (suc (offset_number z)) -ℤ pos 1440 ≡ z
+pub back : (z : ℤ) → is_offset (Some z) ≡ true → pos (suc (offset_number z)) -ℤ pos 1440 ≡ z
 unfolding is_offset offset_number
 back (pos k) e =
     let q : suc (k + 1439) - 1440 ≡ k = omega arith in
@@ -58,14 +59,14 @@ back (negsuc k) e =
 -- ---- what a text says of it
 
 module _ (s : List ℕ) (n : ℕ) where
-  by-item : (es : List ℕ) → ((p : ℕ) → p ≤ length s → Says (facts_from es s p) zone_offset n → n ≤ 2878) → (i : Item) → Sound s i
+  by-item : (es : List ℕ) → ((p : ℕ) → p ≤ length s → Says (facts_from es s p) zone_offset n → n ≤ 2878)
+      → (i : Result Item Refused) → Sound s i
       → Says (saying (λ next. facts_from es s next) i) zone_offset n → n ≤ 2878
   unfolding saying Says Finds highest
-  by-item es rest (Skip next) h x = rest next h x
-  by-item es rest (Reads k v f from next) h x =
+  by-item es rest (Ok (Skip next)) h x = rest next h x
+  by-item es rest (Ok (Reads k v f from next)) h x =
       ⊎_elim (λ z. omega (arith, z.1, rw z.0 at h.0.high)) (λ z. rest next h.2 z) x
-  by-item es rest (NoMatch p) h x = absurd x
-  by-item es rest (OutOfRange p) h x = absurd x
+  by-item es rest (Err why) h x = absurd x
 
   most : (es : List ℕ) (at : ℕ) → at ≤ length s → Says (facts_from es s at) zone_offset n → n ≤ 2878
   unfolding facts_from Says

@@ -31,15 +31,10 @@ use Rattle.reasons.specs.Reasons.{differing, open_reason, about, reason_of, fact
 use Rattle.reasons.specs.declared.About.{About}
 use Rattle.reasons.specs.declared.About.TheVariants.{Day as TheDay, Hour as TheHour}
 use Rattle.reasons.specs.declared.Part.{Part}
-use Rattle.reasons.specs.declared.Reason.{Reason}
-use Rattle.reasons.specs.declared.Reason.TheVariants.{NoReason, Quarrel, Differ, Hours}
 use Rattle.reasons.proofs.Minimal.{Candidate, value_of, some_agrees}
 use Rattle.reasons.proofs.Named.{no_word}
 use Rattle.strptime.specs.Answers.{showing, refused, finished, naming, examining, done, with_hour, with_day, reading_by}
-use Rattle.strptime.specs.declared.Day.{Day}
 use Rattle.strptime.specs.declared.Reading.{Reading}
-use Rattle.strptime.specs.declared.Shown.{Shown}
-use Rattle.strptime.specs.declared.Shown.TheVariants.{Nothing, Days, Hours as TwoHours}
 use Rattle.strptime.proofs.Opened.{read_by_elements}
 use Rattle.demands.specs.Demand.{before_nine}
 use Rattle.demands.specs.Engines.{SameBut}
@@ -52,14 +47,19 @@ use Rattle.demands.proofs.Matched.{read, Before, matched_or_before, matched_is}
 use Rattle.demands.proofs.Quarrels.{quarrels}
 use Rattle.demands.proofs.Verdicts.{day_none, then_none}
 use Rattle.demands.proofs.Written.{day_would, hour_would}
+use Rattle.std.specs.Prelude.{None, Option, Some}
+use Rattle.reasons.specs.declared.Reason.TheVariants.{Differ, Hours, Quarrel}
+use Rattle.reasons.specs.declared.Reason.{Reason}
+use Rattle.strptime.specs.declared.Shown.TheVariants.{Days, Hours as TwoHours}
+use Rattle.strptime.specs.declared.Shown.{Shown}
 
 -- ---- the reason by a reading's number
 module _ (r : Reading) where
-  reason-none : (r.number ≡ 9 → ⊥) → (r.number ≡ 10 → ⊥) → reason_of r ≡ NoReason
+  reason-none : (r.number ≡ 9 → ⊥) → (r.number ≡ 10 → ⊥) → reason_of r ≡ None
   unfolding reason_of
   reason-none a b = rw (ne_eqb r.number 9 a, ne_eqb r.number 10 b)
 
-  reason-nine : r.number ≡ 9 → reason_of r ≡ Quarrel (about r.place)
+  reason-nine : r.number ≡ 9 → reason_of r ≡ Some (Quarrel (about r.place))
   unfolding reason_of
   reason-nine e = rw e
 
@@ -68,18 +68,19 @@ module _ (r : Reading) where
   reason-ten e = rw e
 
 -- where it is no quarrel there are no words
-unworded : (x : Reason) (es s : List ℕ) (k : ℕ) → ((a : About) → x ≡ Quarrel a → ⊥) → get_or (words_for x es s) k nowhere ≡ nowhere
+unworded : (x : Option Reason) (es s : List ℕ) (k : ℕ)
+    → ((a : About) → x ≡ Some (Quarrel a) → ⊥) → get_or (words_for x es s) k nowhere ≡ nowhere
 unfolding words_for
-unworded NoReason es s k d = no_word k
-unworded (Quarrel a) es s k d = absurd (d a refl)
-unworded (Differ p) es s k d = no_word k
-unworded (Hours a b) es s k d = no_word k
+unworded None es s k d = no_word k
+unworded (Some (Quarrel a)) es s k d = absurd (d a refl)
+unworded (Some (Differ p)) es s k d = no_word k
+unworded (Some (Hours a b)) es s k d = no_word k
 
-open_quarrel : (x : Shown) (a : About) → open_reason x ≡ Quarrel a → ⊥
+open_quarrel : (x : Option Shown) (a : About) → open_reason x ≡ Some (Quarrel a) → ⊥
 unfolding open_reason
-open_quarrel Nothing a e = clash (cc)
-open_quarrel (Days x y) a e = clash (cc)
-open_quarrel (TwoHours x y) a e = clash (cc)
+open_quarrel None a e = clash (cc)
+open_quarrel (Some (Days x y)) a e = clash (cc)
+open_quarrel (Some (TwoHours x y)) a e = clash (cc)
 
 -- ---- the first part that differs
 differs : (x y : Date) → (x ≡ y → ⊥) → FirstDiffers (differing x y) x y
@@ -104,7 +105,8 @@ dates_differ a b p q l e =
 
 -- ---- what two verdicts show
 module _ (t : State) where
-  hour-shown : (d : Day) (w : Verdict) → (with_hour t d w).number ≡ 10 → (a : ℕ) × (b : ℕ) × ((with_hour t d w).shown ≡ TwoHours a b)
+  hour-shown : (d : Option Date) (w : Verdict) → (with_hour t d w).number ≡ 10
+      → (a : ℕ) × (b : ℕ) × ((with_hour t d w).shown ≡ Some (TwoHours a b))
   unfolding with_hour done finished refused showing
   hour-shown d Unsaid e = absurd (omega arith)
   hour-shown d Impossible e = absurd (omega arith)
@@ -113,14 +115,15 @@ module _ (t : State) where
 
   -- 10 shows two days, or two hours
   ten-shown : (v w : Verdict) → (with_day t v w).number ≡ 10
-      → ((x : Date) × (y : Date) × ((with_day t v w).shown ≡ Days x y)) ⊎ ((a : ℕ) × (b : ℕ) × ((with_day t v w).shown ≡ TwoHours a b))
+      → ((x : Date) × (y : Date) × ((with_day t v w).shown ≡ Some (Days x y)))
+      ⊎ ((a : ℕ) × (b : ℕ) × ((with_day t v w).shown ≡ Some (TwoHours a b)))
   unfolding with_day refused showing
   ten-shown Unsaid w e = inr (hour-shown _ w e)
   ten-shown Impossible w e = absurd (omega arith)
   ten-shown (Open a b) w e = inl (date_of a, date_of b, refl)
   ten-shown (Agreed k) w e = inr (hour-shown _ w e)
 
-  hour-days : (d : Day) (w : Verdict) (x y : Date) → (with_hour t d w).shown ≡ Days x y → ⊥
+  hour-days : (d : Option Date) (w : Verdict) (x y : Date) → (with_hour t d w).shown ≡ Some (Days x y) → ⊥
   unfolding with_hour done finished refused showing
   hour-days d Unsaid x y e = clash (cc)
   hour-days d Impossible x y e = clash (cc)
@@ -128,7 +131,7 @@ module _ (t : State) where
   hour-days d (Agreed h) x y e = clash (cc)
 
   -- two days are those of an open verdict
-  days-open : (v w : Verdict) (x y : Date) → (with_day t v w).shown ≡ Days x y
+  days-open : (v w : Verdict) (x y : Date) → (with_day t v w).shown ≡ Some (Days x y)
       → (a : ℕ) × (b : ℕ) × (v ≡ Open a b) × (x ≡ date_of a) × (y ≡ date_of b)
   unfolding with_day refused showing
   days-open Unsaid w x y e = absurd (hour-days _ w x y e)
@@ -190,18 +193,18 @@ module _ (e : Engine) (f s : List ℕ) (m : Matched f s) where
       (judged_or state e)
 
   -- the words of a 9
-  worded : (a : About) → reason_of (reading_by e f s) ≡ Quarrel a
-      → (explained_by e f s).words ≡ words_for (Quarrel a) (opening Reader f).elements s
+  worded : (a : About) → reason_of (reading_by e f s) ≡ Some (Quarrel a)
+      → (explained_by e f s).words ≡ words_for (Some (Quarrel a)) (opening Reader f).elements s
   unfolding explained
   worded a q = rw (q, matched_elements f s m)
 
   -- 9 for the day
   quarrel-day : (reading_by e f s).number ≡ 9 → (reading_by e f s).place ≡ 1
-      → ((explained_by e f s).reason ≡ Quarrel TheDay) × Quarrels e f s day_kinds IsDay on_day
+      → ((explained_by e f s).reason ≡ Some (Quarrel TheDay)) × Quarrels e f s day_kinds IsDay on_day
   unfolding explained about naming examining Candidate value_of kinds_of facts_in words_for
   quarrel-day p q =
       let r = by-verdicts (λ z. omega arith) in
-      let why : reason_of (reading_by e f s) ≡ Quarrel TheDay = reason-nine (reading_by e f s) p ∙ rw q in
+      let why : reason_of (reading_by e f s) ≡ Some (Quarrel TheDay) = reason-nine (reading_by e f s) p ∙ rw q in
       let v = (day_none state (day_verdict state.facts) (hour_verdict state.facts)).0 (rw r.1 at p, rw r.1 at q) in (
         why,
         quarrels TheDay e f s m on_day
@@ -212,11 +215,11 @@ module _ (e : Engine) (f s : List ℕ) (m : Matched f s) where
 
   -- 9 for the hour
   quarrel-hour : (reading_by e f s).number ≡ 9 → (reading_by e f s).place ≡ 2
-      → ((explained_by e f s).reason ≡ Quarrel TheHour) × Quarrels e f s hour_kinds IsHour at_hour
+      → ((explained_by e f s).reason ≡ Some (Quarrel TheHour)) × Quarrels e f s hour_kinds IsHour at_hour
   unfolding explained about naming examining Candidate value_of kinds_of facts_in words_for
   quarrel-hour p q =
       let r = by-verdicts (λ z. omega arith) in
-      let why : reason_of (reading_by e f s) ≡ Quarrel TheHour = reason-nine (reading_by e f s) p ∙ rw q in
+      let why : reason_of (reading_by e f s) ≡ Some (Quarrel TheHour) = reason-nine (reading_by e f s) p ∙ rw q in
       let v = ((then_none state (day_verdict state.facts) (hour_verdict state.facts)).0 (rw r.1 at p, rw r.1 at q)).1 in (
         why,
         quarrels TheHour e f s m at_hour
@@ -226,8 +229,8 @@ module _ (e : Engine) (f s : List ℕ) (m : Matched f s) where
       )
 
   -- 10 for the day
-  differ-days : (x y : Date) → (reading_by e f s).number ≡ 10 → (reading_by e f s).shown ≡ Days x y
-      → (p : Part) × ((explained_by e f s).reason ≡ Differ p) × FirstDiffers p x y
+  differ-days : (x y : Date) → (reading_by e f s).number ≡ 10 → (reading_by e f s).shown ≡ Some (Days x y)
+      → (p : Part) × ((explained_by e f s).reason ≡ Some (Differ p)) × FirstDiffers p x y
   unfolding explained open_reason naming examining
   differ-days x y p q =
       let r = by-verdicts (λ z. omega arith) in
@@ -238,11 +241,11 @@ module _ (e : Engine) (f s : List ℕ) (m : Matched f s) where
       (differing x y, reason-ten (reading_by e f s) p ∙ rw q, differs x y apart)
 
   -- 10 shows something
-  ten-reason : (reading_by e f s).number ≡ 10 → reason_of (reading_by e f s) ≡ NoReason → ⊥
+  ten-reason : (reading_by e f s).number ≡ 10 → reason_of (reading_by e f s) ≡ None → ⊥
   unfolding open_reason naming examining
   ten-reason p z =
       let r = by-verdicts (λ y. omega arith) in
-      let o : open_reason (reading_by e f s).shown ≡ NoReason = sym (reason-ten (reading_by e f s) p) ∙ z in
+      let o : open_reason (reading_by e f s).shown ≡ None = sym (reason-ten (reading_by e f s) p) ∙ z in
       ⊎_elim
       (λ x. let i = rw (r.1, x.2) at o in clash (cc))
       (λ x. let i = rw (r.1, x.2) at o in clash (cc))
@@ -277,7 +280,7 @@ module _ (e : Engine) (f s : List ℕ) where
         by_elements_lem = λ short bytes whole. rw (read_by_elements e f short bytes whole s, whole_elements f short whole);
       }
     where
-      no-quarrel : ((reading_by e f s).number ≡ 9 → ⊥) → (a : About) → reason_of (reading_by e f s) ≡ Quarrel a → ⊥
+      no-quarrel : ((reading_by e f s).number ≡ 9 → ⊥) → (a : About) → reason_of (reading_by e f s) ≡ Some (Quarrel a) → ⊥
       no-quarrel d a q = go (ℕ_discrete (reading_by e f s).number 10)
         where
           go : Dec ((reading_by e f s).number ≡ 10) → ⊥

@@ -17,10 +17,8 @@ use Rattle.conversions.specs.Conversions.{among}
 use Rattle.format.specs.Opening.{Ended, Whole, BadAt, opening, longest, is_byte}
 use Rattle.format.specs.declared.opening.Side.TheVariants.{Writer, Reader}
 use Rattle.format.proofs.Refused.{bad_within}
-use Rattle.calendar.specs.Calendar.{within, last_year, month_length, date_fault}
 use Rattle.values.specs.Moments.{moment_fault, moment_of}
 use Rattle.values.specs.declared.Moment.{Moment}
-use Rattle.values.specs.declared.MomentFields.{MomentFields}
 use Rattle.strftime.specs.Writing.{numbered, text, refused, put, lacking, offered, by_format, for_moment, for_fields, writing}
 use Rattle.strftime.specs.declared.Fields.{Fields}
 use Rattle.agreement.specs.declared.Verdict.{Verdict}
@@ -28,44 +26,44 @@ use Rattle.agreement.specs.declared.Verdict.TheVariants.{Unsaid as NotSaid, Impo
 use Rattle.judge.specs.Engines.{searched}
 use Rattle.judge.specs.declared.Engine.{Engine}
 use Rattle.judge.specs.declared.Engine.TheVariants.{Within}
-use Rattle.judge.specs.declared.Searched.{Searched}
-use Rattle.judge.specs.declared.Searched.TheVariants.{Judged, OverBudget}
 use Rattle.judge.proofs.Engines.{searched_over}
 use Rattle.strptime.specs.Answers as reader
 use Rattle.strptime.specs.Answers.{showing, finished, naming, examining, over_budget, done, with_hour, with_day, with_searched}
 use Rattle.strptime.specs.Answers.{judged, concluded, read_by, reading_by}
 use Rattle.matching.specs.Steps.{start, no_forms, read_all}
-use Rattle.strptime.specs.declared.Day.{Day}
 use Rattle.matching.specs.declared.Forms.{Forms}
-use Rattle.matching.specs.declared.Outcome.{Outcome}
-use Rattle.matching.specs.declared.Outcome.TheVariants.{Read as AllRead, Mismatch, Range, Conflict}
 use Rattle.strptime.specs.declared.Reading.{Reading}
-use Rattle.strptime.specs.declared.Said.{Said}
-use Rattle.strptime.specs.declared.Shown.{Shown}
-use Rattle.strptime.specs.declared.Shown.TheVariants.{Nothing, Hours}
 use Rattle.matching.specs.declared.State.{State}
 use Rattle.strptime.proofs.Places.{all_within}
 use Rattle.matching.proofs.Walk.{Placed}
-use Rattle.values.specs.Offsets.{is_offset}
-use Rattle.values.specs.declared.offsets.Offset.{Offset}
-use Rattle.strftime.specs.declared.Lack.{Lack}
-use Rattle.strftime.specs.declared.Lack.TheVariants as Lacks
 use Rattle.demands.specs.Demand.{before_nine}
 use Rattle.demands.proofs.Seconds.{seconds_stand}
 use Rattle.demands.specs.Rows.{OneOf, WritingRow, reading_numbers, ReadingRow}
+use Rattle.std.specs.Prelude.{Err, None, Ok, Option, Result, Some, ℕ, ℤ}
+use Rattle.calendar.specs.declared.Date.{Date}
+use Rattle.judge.specs.Engines.{over_by}
+use Rattle.judge.specs.declared.Judged.{Judged}
+use Rattle.judge.specs.declared.OverBudget.{OverBudget}
+use Rattle.matching.specs.declared.Refused.TheVariants.{Conflict, Mismatch, Range}
+use Rattle.matching.specs.declared.Refused.{Refused}
+use Rattle.strptime.specs.declared.Shown.TheVariants.{Hours}
+use Rattle.strptime.specs.declared.Shown.{Shown}
+use Rattle.values.specs.declared.fields.Field.{Field}
+use Rattle.values.specs.declared.fields.Field.TheVariants.{Year, Month, Day, Hour, Minute, Second, Offset}
+use Rattle.values.specs.Moments.{field_number, field_of}
 
 -- ---- the writer
 
--- the first bad field, or 0, is one of 0 to 7
-fault_few : (y m d h n s : ℕ) (o : Offset) → OneOf (0 ∷ 1 ∷ 2 ∷ 3 ∷ 4 ∷ 5 ∷ 6 ∷ 7 ∷ []) (moment_fault y m d h n s o)
-unfolding moment_fault date_fault among
-fault_few y m d h n s o =
-    let P : ℕ → Type 0 = OneOf (0 ∷ 1 ∷ 2 ∷ 3 ∷ 4 ∷ 5 ∷ 6 ∷ 7 ∷ []) in
-    let date : P (date_fault y m d) =
-    picked P (within 1 last_year y) (picked P (within 1 12 m) (picked P (within 1 (month_length y m) d) refl refl) refl) refl in
-    picked P (eqb (date_fault y m d) 0)
-    (picked P (leb h 23) (picked P (leb n 59) (picked P (leb s 60) (picked P (is_offset o) refl refl) refl) refl) refl)
-    date
+-- a field's number is one of 1 to 7
+field_few : (x : Field) → OneOf (1 ∷ 2 ∷ 3 ∷ 4 ∷ 5 ∷ 6 ∷ 7 ∷ []) (field_number x)
+unfolding field_number among
+field_few Year = refl
+field_few Month = refl
+field_few Day = refl
+field_few Hour = refl
+field_few Minute = refl
+field_few Second = refl
+field_few Offset = refl
 
 module _ (f b : List ℕ) where
   -- a refusal, with what its row says of its place
@@ -117,10 +115,10 @@ module _ (f b : List ℕ) where
   unfolding offered among
   offered-written short m = go (lacking m.offset (opening Writer f).elements) refl
     where
-      go : (l : Lack) → lacking m.offset (opening Writer f).elements ≡ l
+      go : (l : Option ℕ) → lacking m.offset (opening Writer f).elements ≡ l
           → WritingRow f b (offered (opening Writer f).elements b m)
-      go Lacks.Nothing e = rw e (put_written (text m (opening Writer f).elements))
-      go (Lacks.ZoneOffset p) e =
+      go None e = rw e (put_written (text m (opening Writer f).elements))
+      go (Some p) e =
           rw e
           (refusal 12 p refl (λ z. omega (arith, z)) (λ z. absurd (omega (arith, z))) (λ z. absurd (omega (arith, z)))
           (λ z. absurd (omega (arith, z))) (λ b z. seconds_stand f short b m.offset e) (λ z. absurd (omega (arith, z))))
@@ -141,9 +139,9 @@ module _ (f b : List ℕ) where
   writing_rows t =
       either (WritingRow f b) (leb (length f) longest)
       (λ l.
-      either (λ (x : MomentFields). WritingRow f b (for_moment (by_format f b) b x)) (eqb fault 0)
+      either (λ (x : Result Moment Field). WritingRow f b (for_moment (by_format f b) b x)) (eqb fault 0)
       (λ _. format-written (leb-true (length f) longest l) _)
-      (λ e. bad e))
+      (λ _. bad))
       (λ _.
       refusal 1 0 refl (λ z. omega (arith, z)) (λ z. refl) (λ z. absurd (omega (arith, z))) (λ z. absurd (omega (arith, z)))
       (λ b z. absurd (omega (arith, z))) (λ z. absurd (omega (arith, z))))
@@ -151,17 +149,17 @@ module _ (f b : List ℕ) where
       fault : ℕ
       fault = moment_fault t.year t.month t.day t.hour t.minute t.second t.offset
 
-      bad : eqb fault 0 ≡ false → WritingRow f b (refused 2 fault b)
-      bad e =
-          refusal 2 fault refl (λ z. omega (arith, z)) (λ z. absurd (omega (arith, z)))
-          (λ z. rw e at (fault_few t.year t.month t.day t.hour t.minute t.second t.offset))
+      bad : WritingRow f b (refused 2 (field_number (field_of fault)) b)
+      bad =
+          refusal 2 (field_number (field_of fault)) refl (λ z. omega (arith, z)) (λ z. absurd (omega (arith, z)))
+          (λ z. field_few (field_of fault))
           (λ z. absurd (omega (arith, z))) (λ b z. absurd (omega (arith, z))) (λ z. absurd (omega (arith, z)))
 
 -- ---- the reader
 
 module _ (e : Engine) (f s : List ℕ) where
   -- a reading that hands out nothing, k days examined: with what its row says of what is shown, of its place and of the days
-  shown_read : (k n p : ℕ) (x : Shown) → OneOf reading_numbers n → ((n ≡ 10 → ⊥) → x ≡ Nothing)
+  shown_read : (k n p : ℕ) (x : Option Shown) → OneOf reading_numbers n → ((n ≡ 10 → ⊥) → x ≡ None)
       → (OneOf (1 ∷ 5 ∷ []) n → p ≡ 0) → (n ≡ 3 → p < length f) → (OneOf (0 ∷ 6 ∷ 7 ∷ 8 ∷ []) n → p ≤ length s)
       → (OneOf (9 ∷ 10 ∷ []) n → OneOf (1 ∷ 2 ∷ []) p) → (OneOf before_nine n → k ≡ 0) → (n ≡ 11 → (e ≡ Within p) × (k ≡ p))
       → ReadingRow e f s (examining k (showing n p x))
@@ -191,7 +189,7 @@ module _ (e : Engine) (f s : List ℕ) where
       → ReadingRow e f s (reader.refused n p)
   unfolding examining showing reader.refused
   early-read n p l one three text nine eleven =
-      shown_read 0 n p Nothing l (λ z. refl) one three text (λ z. absurd (false≢true (sym nine ∙ z))) (λ z. refl)
+      shown_read 0 n p None l (λ z. refl) one three text (λ z. absurd (false≢true (sym nine ∙ z))) (λ z. refl)
       (λ z. absurd (eleven z))
 
   -- 6, 7 or 8, at an offset of the text
@@ -204,12 +202,13 @@ module _ (e : Engine) (f s : List ℕ) where
   budget-read : (b : ℕ) → e ≡ Within b → ReadingRow e f s (over_budget b)
   unfolding over_budget reader.refused among
   budget-read b q =
-      shown_read b 11 b Nothing refl (λ z. refl) (λ z. absurd (false≢true z)) (λ z. absurd (omega (arith, z)))
+      shown_read b 11 b None refl (λ z. refl) (λ z. absurd (false≢true z)) (λ z. absurd (omega (arith, z)))
       (λ z. absurd (false≢true z)) (λ z. absurd (false≢true z)) (λ z. absurd (false≢true z)) (λ z. (q, refl))
 
   -- what is judged after k days were examined
   module _ (k : ℕ) where
-    finished-read : (p : ℕ) (d : Day) (h m c : Said) (o : Offset) → p ≤ length s → ReadingRow e f s (examining k (finished p d h m c o))
+    finished-read : (p : ℕ) (d : Option Date) (h m c : Option ℕ) (o : Option ℤ) → p ≤ length s
+        → ReadingRow e f s (examining k (finished p d h m c o))
     unfolding examining finished among
     finished-read p d h m c o l =
         record {
@@ -234,21 +233,21 @@ module _ (e : Engine) (f s : List ℕ) where
     nine : (p : ℕ) → OneOf (1 ∷ 2 ∷ []) p → ReadingRow e f s (examining k (reader.refused 9 p))
     unfolding reader.refused among
     nine p q =
-        shown_read k 9 p Nothing refl (λ z. refl) (λ z. absurd (false≢true z)) (λ z. absurd (omega (arith, z)))
+        shown_read k 9 p None refl (λ z. refl) (λ z. absurd (false≢true z)) (λ z. absurd (omega (arith, z)))
         (λ z. absurd (false≢true z)) (λ z. q) (λ z. absurd (false≢true z)) (λ z. absurd (omega (arith, z)))
 
-    ten : (p : ℕ) (x : Shown) → OneOf (1 ∷ 2 ∷ []) p → ReadingRow e f s (examining k (showing 10 p x))
+    ten : (p : ℕ) (x : Option Shown) → OneOf (1 ∷ 2 ∷ []) p → ReadingRow e f s (examining k (showing 10 p x))
     unfolding among
     ten p x q =
         shown_read k 10 p x refl (λ z. absurd (z refl)) (λ z. absurd (false≢true z)) (λ z. absurd (omega (arith, z)))
         (λ z. absurd (false≢true z)) (λ z. q) (λ z. absurd (false≢true z)) (λ z. absurd (omega (arith, z)))
 
     module _ (t : State) (h : t.at ≤ length s) where
-      hour-read : (d : Day) (v : Verdict) → ReadingRow e f s (examining k (with_hour t d v))
+      hour-read : (d : Option Date) (v : Verdict) → ReadingRow e f s (examining k (with_hour t d v))
       unfolding with_hour done among
       hour-read d NotSaid = finished-read t.at d _ _ _ _ h
       hour-read d Impossible = nine 2 refl
-      hour-read d (Open a b) = ten 2 (Hours a b) refl
+      hour-read d (Open a b) = ten 2 (Some (Hours a b)) refl
       hour-read d (Agreed k) = finished-read t.at d _ _ _ _ h
 
       day-read : (v w : Verdict) → ReadingRow e f s (examining k (with_day t v w))
@@ -259,10 +258,11 @@ module _ (e : Engine) (f s : List ℕ) where
       day-read (Agreed k) w = hour-read _ w
 
   module _ (t : State) (h : t.at ≤ length s) where
-    searched-read : (x : Searched) (w : Verdict) → ((b : ℕ) → x ≡ OverBudget b → e ≡ Within b) → ReadingRow e f s (with_searched t x w)
+    searched-read : (x : Result Judged OverBudget) (w : Verdict) → ((b : ℕ) → x ≡ Err (over_by b) → e ≡ Within b)
+        → ReadingRow e f s (with_searched t x w)
     unfolding with_searched
-    searched-read (Judged v k) w q = day-read k t h v w
-    searched-read (OverBudget b) w q = budget-read b (q b refl)
+    searched-read (Ok j) w q = day-read j.examined t h j.verdict w
+    searched-read (Err o) w q = budget-read o.budget (q o.budget refl)
 
   -- with the forms of names, which only a finished one has
   named-read : (fs : Forms) (r : Reading) → ReadingRow e f s r → ReadingRow e f s (naming fs r)
@@ -286,13 +286,14 @@ module _ (e : Engine) (f s : List ℕ) where
         examined_11 = w.examined_11;
       }
 
-  concluded-read : (t : State) (fs : Forms) (o : Outcome) → t.at ≤ length s → Placed s o → ReadingRow e f s (concluded e t fs o)
+  concluded-read : (t : State) (fs : Forms) (o : Result (Unit {0}) Refused) → t.at ≤ length s → Placed s o
+      → ReadingRow e f s (concluded e t fs o)
   unfolding concluded judged Placed among
-  concluded-read t fs AllRead h p =
+  concluded-read t fs (Ok u) h p =
       named-read fs (judged e t) (searched-read t h (searched e t.facts) _ (λ b q. searched_over e t.facts q))
-  concluded-read t fs (Mismatch q) h p = text-read 6 q refl refl (λ z. omega (arith, z)) refl (λ z. omega (arith, z)) p
-  concluded-read t fs (Range q) h p = text-read 7 q refl refl (λ z. omega (arith, z)) refl (λ z. omega (arith, z)) p
-  concluded-read t fs (Conflict q) h p = text-read 8 q refl refl (λ z. omega (arith, z)) refl (λ z. omega (arith, z)) p
+  concluded-read t fs (Err (Mismatch q)) h p = text-read 6 q refl refl (λ z. omega (arith, z)) refl (λ z. omega (arith, z)) p
+  concluded-read t fs (Err (Range q)) h p = text-read 7 q refl refl (λ z. omega (arith, z)) refl (λ z. omega (arith, z)) p
+  concluded-read t fs (Err (Conflict q)) h p = text-read 8 q refl refl (λ z. omega (arith, z)) refl (λ z. omega (arith, z)) p
 
   format_read : ReadingRow e f s (reader.by_format e f s)
   unfolding reader.by_format read_by among start

@@ -27,20 +27,16 @@ use Rattle.conversions.specs.declared.following.Act.{Act}
 use Rattle.conversions.specs.declared.following.Act.TheVariants.{Byte, Convert, Open, Refuse}
 use Rattle.conversions.specs.declared.following.Piece.{Piece}
 use Rattle.format.specs.declared.opening.Side.TheVariants.{Writer, Reader}
-use Rattle.format.specs.declared.opening.Sign.TheVariants.{Own}
 use Rattle.conversions.specs.declared.following.Style.{Style}
 use Rattle.format.proofs.Elements.{composite_elements, read_letter}
 use Rattle.format.proofs.Pieces.{Follows, follows}
 use Rattle.conversions.proofs.Seconds.{conversion_s}
 use Rattle.format.proofs.Sides.{composites_alike}
 use Rattle.conversions.proofs.Styles.{flag_run_lem, width_run_lem}
-use Rattle.values.specs.declared.offsets.Offset.{Offset}
-use Rattle.values.specs.declared.offsets.Offset.TheVariants.{Unsaid, Minutes}
 use Rattle.text.specs.Digits.{decimal}
 use Rattle.strftime.specs.Writing.{is_seconds, first_seconds, lacking}
 use Rattle.strftime.proofs.Longest.{Lettered, piece_lettered}
-use Rattle.strftime.specs.declared.Lack.{Lack}
-use Rattle.strftime.specs.declared.Lack.TheVariants.{Nothing, ZoneOffset}
+use Rattle.std.specs.Prelude.{None, Option, Some, ℤ}
 
 -- ---- what is converted as s
 
@@ -188,7 +184,7 @@ module _ (f : List ℕ) where
   next i d = sym (drop-drop 1 i f) ∙ ap (drop 1) d
 
   open-stand : (s : List ℕ) (i past : ℕ) → drop i f ≡ s → i + length s ≤ longest → every is_byte s ≡ true
-      → AllStand f (open_from Writer (composite_to Writer 2) Own i past s).elements
+      → AllStand f (open_from Writer (composite_to Writer 2) None i past s).elements
   unfolding open_from sign_at nothing AllStand every
   open-stand [] i past d h b = tt
   open-stand (c ∷ s) i (suc past) d h b =
@@ -196,7 +192,7 @@ module _ (f : List ℕ) where
   open-stand (c ∷ s) i zero d h b =
       let u = (and-eq-true_iff (is_byte c) (every is_byte s)).0 b in
       let p = piece_of Writer c s in
-      acted-stand i (length s) p.length (open_from Writer (composite_to Writer 2) Own (i + 1) (p.length - 1) s) p.act
+      acted-stand i (length s) p.length (open_from Writer (composite_to Writer 2) None (i + 1) (p.length - 1) s) p.act
       (λ m. omega arith)
       (follows Writer c s)
       (piece_lettered c s (ltb-true c 256 u.0))
@@ -204,24 +200,24 @@ module _ (f : List ℕ) where
       (open-stand s (i + 1) (p.length - 1) (next i d) (omega arith) u.1)
 
 -- the first of them
-first_stands : (f es : List ℕ) → AllStand f es → {p : ℕ} → first_seconds es ≡ ZoneOffset p → take 2 (drop p f) ≡ bytes "%s"
+first_stands : (f es : List ℕ) → AllStand f es → {p : ℕ} → first_seconds es ≡ Some p → take 2 (drop p f) ≡ bytes "%s"
 unfolding AllStand first_seconds
 first_stands f [] a e = clash (cc)
 first_stands f (x ∷ es) a {p} e =
-    either (λ (l : Lack). l ≡ ZoneOffset p → take 2 (drop p f) ≡ bytes "%s") (is_seconds x)
+    either (λ (l : Option ℕ). l ≡ Some p → take 2 (drop p f) ≡ bytes "%s") (is_seconds x)
     (λ z q. let r : after_sign x - 1 ≡ p = cc in rw r at (a.0 z))
     (λ z q. first_stands f es a.1 q)
     e
 
-pub seconds_stand : (f : List ℕ) → length f ≤ longest → every is_byte f ≡ true → (o : Offset) {p : ℕ}
-    → lacking o (opening Writer f).elements ≡ ZoneOffset p → take 2 (drop p f) ≡ bytes "%s"
+pub seconds_stand : (f : List ℕ) → length f ≤ longest → every is_byte f ≡ true → (o : Option ℤ) {p : ℕ}
+    → lacking o (opening Writer f).elements ≡ Some p → take 2 (drop p f) ≡ bytes "%s"
 unfolding lacking opening open_to
-seconds_stand f h b Unsaid e = first_stands f (opening Writer f).elements (open-stand f f 0 0 refl (omega arith) b) e
-seconds_stand f h b (Minutes z) e = clash (cc)
+seconds_stand f h b None e = first_stands f (opening Writer f).elements (open-stand f f 0 0 refl (omega arith) b) e
+seconds_stand f h b (Some z) e = clash (cc)
 
 -- ---- one element alone
 
-pub no_seconds : (o : Offset) (e : ℕ) → is_seconds e ≡ false → lacking o (e ∷ []) ≡ Nothing
+pub no_seconds : (o : Option ℤ) (e : ℕ) → is_seconds e ≡ false → lacking o (e ∷ []) ≡ None
 unfolding lacking first_seconds
-no_seconds Unsaid e z = rw z
-no_seconds (Minutes w) e z = refl
+no_seconds None e z = rw z
+no_seconds (Some w) e z = refl

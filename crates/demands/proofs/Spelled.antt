@@ -23,19 +23,20 @@ use Rattle.matching.specs.Elements.{ordinary, read_byte, ranged, read_number, fr
 use Rattle.matching.specs.Elements.{read_conversion, read_element}
 use Rattle.matching.specs.Zones.{is_sign, offset_at, signed_at, read_zone}
 use Rattle.matching.specs.Extents.{between}
-use Rattle.matching.specs.declared.elements.Item.{Item}
-use Rattle.matching.specs.declared.elements.Item.TheVariants.{Skip, Fact, NoMatch, OutOfRange}
 use Rattle.names.specs.Case.{fold}
 use Rattle.text.specs.Digits.{is_digit, digit_run, decimal, read_digits}
 use Rattle.names.specs.Names as names
 use Rattle.names.specs.Names.{forms_of, goes_on, read_name}
 use Rattle.text.specs.Space.{is_space, spaces}
-use Rattle.names.specs.declared.names.NameRead.{NameRead}
-use Rattle.names.specs.declared.names.NameRead.TheVariants.{Found, Nothing}
 use Rattle.names.specs.declared.names.Names.{Names}
 use Rattle.names.specs.declared.names.Names.TheVariants.{Weekdays, Months, Halves}
 use Rattle.names.proofs.Forms.{is_read}
 use Rattle.demands.specs.Reasons.{is_letter, FromTheFirst}
+use Rattle.std.specs.Prelude.{Err, None, Ok, Option, Result, Some}
+use Rattle.matching.specs.declared.Refused.{Refused}
+use Rattle.matching.specs.declared.elements.Item.TheVariants.{Fact, Skip}
+use Rattle.matching.specs.declared.elements.Item.{Item}
+use Rattle.names.specs.declared.names.NameRead.{NameRead}
 
 -- ---- white space
 
@@ -114,11 +115,10 @@ module _ (s : List ℕ) where
   abbrev Bytes : ℕ → ℕ → Type 0
   Bytes from next = (every is_digit (between s from next) ≡ true) ⊎ (every is_letter (between s from next) ≡ true)
 
-  unfoldable pub Words : ℕ → Item → Type 0
-  Words at (Skip next) = Unit {0}
-  Words at (Fact k n f from next) = Before at from × ((k ≡ zone_offset → ⊥) → Bytes from next)
-  Words at (NoMatch p) = Unit {0}
-  Words at (OutOfRange p) = Unit {0}
+  unfoldable pub Words : ℕ → Result Item Refused → Type 0
+  Words at (Ok (Skip next)) = Unit {0}
+  Words at (Ok (Fact k n f from next)) = Before at from × ((k ≡ zone_offset → ⊥) → Bytes from next)
+  Words at (Err why) = Unit {0}
 
   -- as many bytes as lie between
   between_is : (from n : ℕ) → between s from (from + n) ≡ take n (drop from s)
@@ -135,24 +135,23 @@ module _ (s : List ℕ) where
       picked (Words at) (eqb (length ds) 0) tt
       (picked (Words at) (leb c.low (decimal 0 ds) && leb (decimal 0 ds) c.high) (blank, λ _. digits) tt)
 
-  sunday-words : (at : ℕ) (i : Item) → Words at i → Words at (from_sunday i)
+  sunday-words : (at : ℕ) (i : Result Item Refused) → Words at i → Words at (from_sunday i)
   unfolding from_sunday Words
-  sunday-words at (Skip n) w = tt
-  sunday-words at (Fact k v f from n) w = w
-  sunday-words at (NoMatch p) w = tt
-  sunday-words at (OutOfRange p) w = tt
+  sunday-words at (Ok (Skip n)) w = tt
+  sunday-words at (Ok (Fact k v f from n)) w = w
+  sunday-words at (Err why) w = tt
 
   named-words : (t : Names) (c : Conversion) (at : ℕ) → Words at (read_named t c s at)
   unfolding read_named named Words read_name every
   named-words t c at = go (read_name t (drop at s)) refl
     where
-      go : (r : NameRead) → read_name t (drop at s) ≡ r → Words at (named t c.kind r at)
-      go (Found i n f) e =
+      go : (r : Option NameRead) → read_name t (drop at s) ≡ r → Words at (named t c.kind r at)
+      go (Some x) e =
           let r = is_read (forms_of t) (drop at s) e in
           let l = every_member (λ (x : names.Form). every is_letter x.letters) (forms_of t) (letters_all t) r.form r.listed in
           let none : Before at at = let z : at - at ≡ 0 = omega arith in rw z in
-          (none, λ _. inr (rw (between_is at n, ← r.long) (goes_letters r.form.letters (drop at s) r.fits l)))
-      go Nothing e = tt
+          (none, λ _. inr (rw (between_is at x.length, ← r.long) (goes_letters r.form.letters (drop at s) r.fits l)))
+      go None e = tt
 
   -- a zone offset has a sign, which is neither digit nor letter; no reason names it
   zone-words : (c : Conversion) (at : ℕ) → c.kind ≡ zone_offset → Words at (read_zone c s at)
@@ -199,5 +198,5 @@ module _ (s : List ℕ) where
 pub from_the_first : FromTheFirst
 unfolding Words
 from_the_first e at k n from next s f r =
-    let w : Words s at (Fact k n f from next) = rw r at (element_words s e at) in
+    let w : Words s at (Ok (Fact k n f from next)) = rw r at (element_words s e at) in
     w.0

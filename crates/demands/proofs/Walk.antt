@@ -20,12 +20,14 @@ use Rattle.matching.specs.Steps.{goes, stays, noted, no_forms, later, latest, me
 use Rattle.matching.specs.declared.Forms.{Forms}
 use Rattle.matching.specs.declared.State.{State}
 use Rattle.matching.specs.declared.Stepped.{Stepped}
-use Rattle.matching.specs.declared.elements.Item.{Item}
-use Rattle.matching.specs.declared.elements.Item.TheVariants.{Skip, Fact as Reads, NoMatch, OutOfRange}
 use Rattle.matching.proofs.Sound.{Finds, Sound, sound}
-use Rattle.names.specs.declared.names.NameForm.{NameForm}
-use Rattle.names.specs.declared.names.NameForm.TheVariants.{NoName, Full, Middle, Short}
 use Rattle.demands.specs.Facts.{Fact, saying, facts_from, Says, is_name, last_form, going, all_read, ending, end_from}
+use Rattle.std.specs.Prelude.{Err, None, Ok, Option, Result, Some}
+use Rattle.matching.specs.declared.Refused.{Refused}
+use Rattle.matching.specs.declared.elements.Item.TheVariants.{Fact as Reads, Skip}
+use Rattle.matching.specs.declared.elements.Item.{Item}
+use Rattle.names.specs.declared.names.NameForm.TheVariants.{Full, Middle, Short}
+use Rattle.names.specs.declared.names.NameForm.{NameForm}
 
 -- a number is kept for a kind
 abbrev pub Kept : Facts → ℕ → ℕ → Type 0
@@ -68,23 +70,23 @@ last_after fs xs =
     record { weekday = later fs.weekday (last_form weekday xs); month = later fs.month (last_form month xs) }
 
 -- one fact more
-module _ (k : ℕ) (a : NameForm) (x : Fact) (xs : List Fact) where
+module _ (k : ℕ) (a : Option NameForm) (x : Fact) (xs : List Fact) where
   last-later : later a (last_form k (x ∷ xs)) ≡ later (cond (eqb x.kind k) (later a x.form) a) (last_form k xs)
   unfolding last_form is_name later
   last-later = go (last_form k xs) (eqb x.kind k)
     where
-      go : (f : NameForm) (b : Bool)
-          → later a (cond (is_name f) f (cond b x.form NoName)) ≡ later (cond b (later a x.form) a) f
-      go NoName true = refl
-      go NoName false = refl
-      go Full b = refl
-      go Middle b = refl
-      go Short b = refl
+      go : (f : Option NameForm) (b : Bool)
+          → later a (cond (is_name f) f (cond b x.form None)) ≡ later (cond b (later a x.form) a) f
+      go None true = refl
+      go None false = refl
+      go (Some Full) b = refl
+      go (Some Middle) b = refl
+      go (Some Short) b = refl
 
 last_met : (fs : Forms) (x : Fact) (xs : List Fact) → last_after fs (x ∷ xs) ≡ last_after (met fs x.kind x.form) xs
 unfolding met latest
 last_met fs x xs =
-    ap₂ (λ (a b : NameForm). record { weekday = a; month = b })
+    ap₂ (λ (a b : Option NameForm). record { weekday = a; month = b })
     (last-later weekday fs.weekday x xs)
     (last-later month fs.month x xs)
 
@@ -92,18 +94,18 @@ last_met fs x xs =
 pub last_first : (xs : List Fact) → last_after no_forms xs ≡ record { weekday = last_form weekday xs; month = last_form month xs }
 unfolding no_forms later
 last_first xs =
-    ap₂ (λ (a b : NameForm). record { weekday = a; month = b }) (first (last_form weekday xs)) (first (last_form month xs))
+    ap₂ (λ (a b : Option NameForm). record { weekday = a; month = b }) (first (last_form weekday xs)) (first (last_form month xs))
   where
-    first : (f : NameForm) → later NoName f ≡ f
-    first NoName = refl
-    first Full = refl
-    first Middle = refl
-    first Short = refl
+    first : (f : Option NameForm) → later None f ≡ f
+    first None = refl
+    first (Some Full) = refl
+    first (Some Middle) = refl
+    first (Some Short) = refl
 
 -- ---- one element after the other
 
 -- where an item leads, with the elements that are left
-onward : List ℕ → List ℕ → State → Forms → Item → Stepped
+onward : List ℕ → List ℕ → State → Forms → Result Item Refused → Stepped
 onward es s t fs i = let r = taken t fs i in cond (is_read r.outcome) (read_all es s r.state r.forms) r
 
 abbrev at : Facts → ℕ → State
@@ -127,7 +129,7 @@ pub record Went (es s : List ℕ) (t : State) (fs : Forms) : Type 0 where
   pub ends : (read_all es s t fs).state.at ≡ end_from es s t.at
   pub forms : (read_all es s t fs).forms ≡ last_after fs (facts_from es s t.at)
 
-record WentBy (es s : List ℕ) (t : State) (fs : Forms) (i : Item) : Type 0 where
+record WentBy (es s : List ℕ) (t : State) (fs : Forms) (i : Result Item Refused) : Type 0 where
   reads : going (λ next. all_read es s next) i ≡ true
   keeps : KeepsAll t.facts (saying (λ next. facts_from es s next) i) (onward es s t fs i).state.facts
   ends : (onward es s t fs i).state.at ≡ ending (λ next. end_from es s next) i
@@ -144,9 +146,9 @@ module _ (es s : List ℕ) (t : State) (fs : Forms) (l : length t.facts.said ≡
     (rest : (f : Facts) (p : ℕ) (gs : Forms) → length f.said ≡ kinds → p ≤ length s → Whole (read_all es s (at f p) gs)
     → Went es s (at f p) gs) where
   -- a fact, by whether it is free to be kept
-  kept_by : (k n : ℕ) (x : NameForm) (from next : ℕ) → k < kinds → next ≤ length s
+  kept_by : (k n : ℕ) (x : Option NameForm) (from next : ℕ) → k < kinds → next ≤ length s
       → (b : Bool) → (eqb (said t.facts k) 0 || eqb (said t.facts k) (suc n)) ≡ b
-      → Whole (onward es s t fs (Reads k n x from next)) → WentBy es s t fs (Reads k n x from next)
+      → Whole (onward es s t fs (Ok (Reads k n x from next))) → WentBy es s t fs (Ok (Reads k n x from next))
   unfolding onward taken tell goes stays is_read going saying ending Says
   kept_by k n x from next h q true e w =
       let f = t.facts in
@@ -173,24 +175,23 @@ module _ (es s : List ℕ) (t : State) (fs : Forms) (l : length t.facts.said ≡
       }
   kept_by k n x from next h q false e w = absurd (false≢true (rw e at w))
 
-  went-by : (i : Item) → Sound s i → Whole (onward es s t fs i) → WentBy es s t fs i
+  went-by : (i : Result Item Refused) → Sound s i → Whole (onward es s t fs i) → WentBy es s t fs i
   unfolding onward taken goes stays is_read going saying ending Finds
-  went-by (Skip next) h w =
+  went-by (Ok (Skip next)) h w =
       let r = rest t.facts next fs l h w in
       record { reads = r.reads; keeps = r.keeps; ends = r.ends; forms = r.forms }
-  went-by (Reads k n x from next) h w = kept_by k n x from next h.0.most h.2 _ refl w
-  went-by (NoMatch p) h w = absurd (false≢true w)
-  went-by (OutOfRange p) h w = absurd (false≢true w)
+  went-by (Ok (Reads k n x from next)) h w = kept_by k n x from next h.0.most h.2 _ refl w
+  went-by (Err why) h w = absurd (false≢true w)
 
 -- the other way: elements that all find what they want, with one number for each kind, are read through
 module _ (es s : List ℕ) (t : State) (fs : Forms) (l : length t.facts.said ≡ kinds)
     (rest : (f : Facts) (p : ℕ) (gs : Forms) → length f.said ≡ kinds → p ≤ length s → all_read es s p ≡ true
     → OneEach f (facts_from es s p) → Whole (read_all es s (at f p) gs)) where
-  goes_by : (i : Item) → Sound s i → going (λ next. all_read es s next) i ≡ true
+  goes_by : (i : Result Item Refused) → Sound s i → going (λ next. all_read es s next) i ≡ true
       → OneEach t.facts (saying (λ next. facts_from es s next) i) → Whole (onward es s t fs i)
   unfolding onward taken tell goes stays is_read going saying Says Finds
-  goes_by (Skip next) h r c = rest t.facts next fs l h r c
-  goes_by (Reads k n x from next) h r c =
+  goes_by (Ok (Skip next)) h r c = rest t.facts next fs l h r c
+  goes_by (Ok (Reads k n x from next)) h r c =
       let f = t.facts in
       let inside : k < length f.said = omega (arith, h.0.most) in
       let long : length (noted f k n).said ≡ kinds = unfold noted in length-set f.said k (suc n) ∙ l in
@@ -213,8 +214,7 @@ module _ (es s : List ℕ) (t : State) (fs : Forms) (l : length t.facts.said ≡
       is_free x m (inr e) =
           let d : (x ≡ 0) → ⊥ = λ z. omega arith in
           rw (ne_eqb x 0 d) (eq-eqb x (suc m) e)
-  goes_by (NoMatch p) h r c = absurd (false≢true r)
-  goes_by (OutOfRange p) h r c = absurd (false≢true r)
+  goes_by (Err why) h r c = absurd (false≢true r)
 
 pub went : (es s : List ℕ) (t : State) (fs : Forms) → length t.facts.said ≡ kinds → t.at ≤ length s
     → Whole (read_all es s t fs) → Went es s t fs

@@ -37,17 +37,16 @@ use Rattle.values.specs.Moments.{moment_of, moment_fault}
 use Rattle.values.specs.Offsets.{is_offset}
 use Rattle.values.specs.Values.{value, date_value, hour_value}
 use Rattle.values.specs.declared.Moment.{Moment}
-use Rattle.values.specs.declared.MomentFields.TheVariants.{Valid}
 use Rattle.values.proofs.Ranges.{highest, date_ranged, hour_ranged}
 use Rattle.converted.proofs.Lengths.{by_form, number_plain}
 use Rattle.strftime.proofs.Lengths.{element_plain}
-use Rattle.values.specs.declared.offsets.Offset.TheVariants.{Unsaid as NoOffset}
 use Rattle.strftime.specs.Writing as writer
 use Rattle.converted.specs.Converted.{formed}
 use Rattle.strftime.specs.Writing.{numbered, element, text, put, is_seconds, offered, by_format, for_moment, for_fields, writing}
 use Rattle.strftime.specs.declared.Fields.{Fields}
 use Rattle.demands.proofs.Seconds.{no_seconds}
 use Rattle.demands.specs.Writes.{letters, letter_for, wrote, written, IsHalf, WouldWrite, on_day, at_hour, halves}
+use Rattle.std.specs.Prelude.{None, Ok}
 
 -- ---- one conversion, written
 
@@ -64,7 +63,7 @@ fields m =
     }
 
 abbrev IsMoment : Moment → Type 0
-IsMoment m = moment_of m.date.year m.date.month m.date.day m.hour m.minute m.second m.offset ≡ Valid m
+IsMoment m = moment_of m.date.year m.date.month m.date.day m.hour m.minute m.second m.offset ≡ Ok m
 
 -- the conversion of kind k, as an element
 abbrev element_for : ℕ → ℕ
@@ -208,7 +207,7 @@ module _ (m : Moment) (v : IsMoment m) (r : value half_of_day m ≤ 1) where
 -- a day of the calendar
 module _ (d : ℕ) (l : 1 ≤ d) (h : d ≤ days) where
   midnight : Moment
-  midnight = record { date = date_of d; hour = 0; minute = 0; second = 0; offset = NoOffset }
+  midnight = record { date = date_of d; hour = 0; minute = 0; second = 0; offset = None }
 
   is-midnight : IsMoment midnight
   unfolding midnight moment_of moment_fault is_offset
@@ -224,7 +223,7 @@ module _ (d : ℕ) (l : 1 ≤ d) (h : d ≤ days) where
 -- an hour of the day, on the first day
 module _ (h : ℕ) (l : h ≤ 23) where
   moment : Moment
-  moment = record { date = record { year = 1; month = 1; day = 1 }; hour = h; minute = 0; second = 0; offset = NoOffset }
+  moment = record { date = record { year = 1; month = 1; day = 1 }; hour = h; minute = 0; second = 0; offset = None }
 
   is_moment : IsMoment moment
   unfolding moment moment_of moment_fault is_offset computes

@@ -8,16 +8,12 @@ use Rattle.format.specs.Opening.{opening}
 use Rattle.format.specs.declared.opening.Side.TheVariants.{Reader}
 use Rattle.agreement.specs.Demand.{IsDay, IsHour, Only, Earliest}
 use Rattle.strptime.specs.Answers.{reading}
-use Rattle.strptime.specs.declared.Day.{Day}
-use Rattle.strptime.specs.declared.Day.TheVariants.{NoDate, On}
-use Rattle.strptime.specs.declared.Said.{Said}
-use Rattle.strptime.specs.declared.Said.TheVariants.{Unsaid, Is}
-use Rattle.strptime.specs.declared.Shown.TheVariants.{Days, Hours}
-use Rattle.values.specs.declared.offsets.Offset.{Offset}
-use Rattle.values.specs.declared.offsets.Offset.TheVariants.{Unsaid as NoOffset, Minutes}
 use Rattle.values.specs.Offsets.{is_offset, offset_number}
 use Rattle.demands.specs.Facts.{Says, last_form, facts, end_from}
 use Rattle.demands.specs.Writes.{WouldWrite, on_day, at_hour}
+use Rattle.std.specs.Prelude.{None, Option, Some, ℤ}
+use Rattle.calendar.specs.declared.Date.{Date}
+use Rattle.strptime.specs.declared.Shown.TheVariants.{Days, Hours}
 
 -- the numbers that the reader looks for before 9, in order
 abbrev pub before_nine : List ℕ
@@ -39,28 +35,28 @@ module _ (f s : List ℕ) where
   HourAgrees h = (k n : ℕ) → Member k hour_kinds → Says (facts f s) k n → WouldWrite k n (at_hour h)
 
   -- the day that the facts give: unsaid where none bears on it, or the only one that agrees
-  abbrev pub DayIs : Day → Type 0
-  DayIs NoDate = NoneSaid day_kinds
-  DayIs (On x) = SomeSaid day_kinds × ((d : ℕ) × (x ≡ date_of d) × Only IsDay DayAgrees d)
+  abbrev pub DayIs : Option Date → Type 0
+  DayIs None = NoneSaid day_kinds
+  DayIs (Some x) = SomeSaid day_kinds × ((d : ℕ) × (x ≡ date_of d) × Only IsDay DayAgrees d)
 
   -- the hour likewise
-  abbrev pub HourIs : Said → Type 0
-  HourIs Unsaid = NoneSaid hour_kinds
-  HourIs (Is h) = SomeSaid hour_kinds × Only IsHour HourAgrees h
+  abbrev pub HourIs : Option ℕ → Type 0
+  HourIs None = NoneSaid hour_kinds
+  HourIs (Some h) = SomeSaid hour_kinds × Only IsHour HourAgrees h
 
   -- the minute or second likewise, as it was said
-  abbrev pub NumberIs : ℕ → Said → Type 0
-  NumberIs k Unsaid = (n : ℕ) → Says (facts f s) k n → ⊥
-  NumberIs k (Is n) = Says (facts f s) k n
+  abbrev pub NumberIs : ℕ → Option ℕ → Type 0
+  NumberIs k None = (n : ℕ) → Says (facts f s) k n → ⊥
+  NumberIs k (Some n) = Says (facts f s) k n
 
   -- the zone offset likewise, whose number in a fact is 1439 more
-  abbrev pub OffsetIs : Offset → Type 0
-  OffsetIs NoOffset = (n : ℕ) → Says (facts f s) zone_offset n → ⊥
-  OffsetIs (Minutes z) = (is_offset (Minutes z) ≡ true) × Says (facts f s) zone_offset (offset_number z)
+  abbrev pub OffsetIs : Option ℤ → Type 0
+  OffsetIs None = (n : ℕ) → Says (facts f s) zone_offset n → ⊥
+  OffsetIs (Some z) = (is_offset (Some z) ≡ true) × Says (facts f s) zone_offset (offset_number z)
 
   -- the day is not refused
   abbrev pub DayStands : Type 0
-  DayStands = (x : Day) × DayIs x
+  DayStands = (x : Option Date) × DayIs x
 
   -- how a matched text is answered: each number exactly in its case
   pub record Answered : Type 0 where
@@ -69,16 +65,16 @@ module _ (f s : List ℕ) where
         ↔ (SomeSaid day_kinds × ((d : ℕ) → IsDay d → DayAgrees d → ⊥))
     -- 10: open, with the earliest two
     pub two_days : (a b : ℕ) → IsDay a → IsDay b
-        → (((reading f s).number ≡ 10) × ((reading f s).place ≡ 1) × ((reading f s).shown ≡ Days (date_of a) (date_of b)))
+        → (((reading f s).number ≡ 10) × ((reading f s).place ≡ 1) × ((reading f s).shown ≡ Some (Days (date_of a) (date_of b))))
         ↔ (SomeSaid day_kinds × Earliest IsDay DayAgrees a b)
     -- the same for the hour, where the day is not refused
     pub no_hour : (((reading f s).number ≡ 9) × ((reading f s).place ≡ 2))
         ↔ (DayStands × SomeSaid hour_kinds × ((h : ℕ) → IsHour h → HourAgrees h → ⊥))
     pub two_hours : (a b : ℕ)
-        → (((reading f s).number ≡ 10) × ((reading f s).place ≡ 2) × ((reading f s).shown ≡ Hours a b))
+        → (((reading f s).number ≡ 10) × ((reading f s).place ≡ 2) × ((reading f s).shown ≡ Some (Hours a b)))
         ↔ (DayStands × SomeSaid hour_kinds × Earliest IsHour HourAgrees a b)
     -- 0: done, with exactly the day, hour, minute, second and zone offset that the facts give
-    pub done : (x : Day) (h m c : Said) (o : Offset)
+    pub done : (x : Option Date) (h m c : Option ℕ) (o : Option ℤ)
         → (((reading f s).number ≡ 0) × ((reading f s).day ≡ x) × ((reading f s).hour ≡ h) × ((reading f s).minute ≡ m)
         × ((reading f s).second ≡ c) × ((reading f s).offset ≡ o))
         ↔ (DayIs x × HourIs h × NumberIs minute m × NumberIs second c × OffsetIs o)

@@ -7,20 +7,17 @@ use Rattle.agreement.specs.declared.Verdict.{Verdict}
 use Rattle.judge.specs.Engines.{searched}
 use Rattle.judge.specs.declared.Engine.{Engine}
 use Rattle.judge.specs.declared.Engine.TheVariants.{Skipping, Plain, Within}
-use Rattle.judge.specs.declared.Searched.TheVariants.{Judged}
-use Rattle.values.specs.declared.offsets.Offset.TheVariants.{Unsaid as NoOffset}
 use Rattle.strptime.specs.Answers.{reading_by, reading}
 use Rattle.matching.specs.Steps.{no_forms}
-use Rattle.strptime.specs.declared.Day.TheVariants.{NoDate}
 use Rattle.strptime.specs.declared.Reading.{Reading}
-use Rattle.strptime.specs.declared.Said.TheVariants.{Unsaid}
-use Rattle.strptime.specs.declared.Shown.TheVariants.{Nothing}
 use Rattle.demands.specs.Demand.{before_nine, NoneSaid}
 use Rattle.demands.specs.Rows.{OneOf}
+use Rattle.std.specs.Prelude.{None, Ok}
+use Rattle.judge.specs.Engines.{judged_by}
 
 -- without a budget both engines give one verdict on every set of facts, the first two days included; only their counts may differ
 abbrev pub OneVerdict : Facts → Type 0
-OneVerdict x = (v : Verdict) × (m : ℕ) × (n : ℕ) × (searched Skipping x ≡ Judged v m) × (searched Plain x ≡ Judged v n)
+OneVerdict x = (v : Verdict) × (m : ℕ) × (n : ℕ) × (searched Skipping x ≡ Ok (judged_by v m)) × (searched Plain x ≡ Ok (judged_by v n))
 
 -- two readings are the same but for the days examined
 pub record SameBut (r q : Reading) : Type 0 where
@@ -40,13 +37,13 @@ refused_at b =
     record {
       number = 11;
       place = b;
-      day = NoDate;
-      hour = Unsaid;
-      minute = Unsaid;
-      second = Unsaid;
-      offset = NoOffset;
+      day = None;
+      hour = None;
+      minute = None;
+      second = None;
+      offset = None;
       forms = no_forms;
-      shown = Nothing;
+      shown = None;
       examined = b;
     }
 

@@ -4,26 +4,27 @@ use Rattle.std.specs.Prelude.{ℕ, ◌≤◌, Bool, true, false, cond, List, [],
 use Rattle.format.specs.Opening.{Whole, opening, longest}
 use Rattle.format.specs.declared.opening.Side.TheVariants.{Reader}
 use Rattle.matching.specs.Elements.{read_element}
+use Rattle.std.specs.Prelude.{Err, None, Ok, Option, Result, Some}
+use Rattle.matching.specs.declared.Refused.TheVariants.{Mismatch, Range, Conflict}
+use Rattle.matching.specs.declared.Refused.{Refused}
+use Rattle.matching.specs.declared.elements.Item.TheVariants.{Fact as Reads, Skip}
 use Rattle.matching.specs.declared.elements.Item.{Item}
-use Rattle.matching.specs.declared.elements.Item.TheVariants.{Skip, Fact as Reads, NoMatch, OutOfRange}
 use Rattle.names.specs.declared.names.NameForm.{NameForm}
-use Rattle.names.specs.declared.names.NameForm.TheVariants.{NoName, Full, Middle, Short}
 
 -- A fact is a kind with a number, where AM is 0, PM is 1 and a zone offset is 1439 more than its minutes, and with the form of the name
 -- that says it, or none where digits do; it stands in the text from its first digit or letter, or its sign, up to `next`.
 pub record Fact : Type 0 where
   pub kind : ℕ
   pub number : ℕ
-  pub form : NameForm
+  pub form : Option NameForm
   pub from : ℕ
   pub next : ℕ
 
 -- what an item says, before what `on` says from the offset after it on; after a refusal nothing is read
-unfoldable pub saying : (ℕ → List Fact) → Item → List Fact
-saying on (Skip next) = on next
-saying on (Reads k n f from next) = record { kind = k; number = n; form = f; from = from; next = next } ∷ on next
-saying on (NoMatch p) = []
-saying on (OutOfRange p) = []
+unfoldable pub saying : (ℕ → List Fact) → Result Item Refused → List Fact
+saying on (Ok (Skip next)) = on next
+saying on (Ok (Reads k n f from next)) = record { kind = k; number = n; form = f; from = from; next = next } ∷ on next
+saying on (Err why) = []
 
 -- what elements say, one after the other, from an offset of the text on
 unfoldable pub facts_from : List ℕ → List ℕ → ℕ → List Fact
@@ -40,34 +41,32 @@ Says [] k n = ⊥
 Says (x ∷ xs) k n = ((x.kind ≡ k) × (x.number ≡ n)) ⊎ Says xs k n
 
 -- a number is no name
-unfoldable pub is_name : NameForm → Bool
-is_name NoName = false
-is_name Full = true
-is_name Middle = true
-is_name Short = true
+unfoldable pub is_name : Option NameForm → Bool
+is_name None = false
+is_name (Some f) = true
 
 -- the form of the last name of kind k among some facts, or none
-unfoldable pub last_form : ℕ → List Fact → NameForm
-last_form k [] = NoName
-last_form k (x ∷ xs) = let after = last_form k xs in cond (is_name after) after (cond (eqb x.kind k) x.form NoName)
+unfoldable pub last_form : ℕ → List Fact → Option NameForm
+last_form k [] = None
+last_form k (x ∷ xs) = let after = last_form k xs in cond (is_name after) after (cond (eqb x.kind k) x.form None)
 
 -- every element finds what it wants: none is refused by 6 or 7
-unfoldable pub going : (ℕ → Bool) → Item → Bool
-going on (Skip next) = on next
-going on (Reads k n f from next) = on next
-going on (NoMatch p) = false
-going on (OutOfRange p) = false
+unfoldable pub going : (ℕ → Bool) → Result Item Refused → Bool
+going on (Ok (Skip next)) = on next
+going on (Ok (Reads k n f from next)) = on next
+going on (Err why) = false
 
 unfoldable pub all_read : List ℕ → List ℕ → ℕ → Bool
 all_read [] s at = true
 all_read (e ∷ es) s at = going (λ next. all_read es s next) (read_element e s at)
 
 -- where elements end that all find what they want: the first unread offset of the text
-unfoldable pub ending : (ℕ → ℕ) → Item → ℕ
-ending on (Skip next) = on next
-ending on (Reads k n f from next) = on next
-ending on (NoMatch p) = p
-ending on (OutOfRange p) = p
+unfoldable pub ending : (ℕ → ℕ) → Result Item Refused → ℕ
+ending on (Ok (Skip next)) = on next
+ending on (Ok (Reads k n f from next)) = on next
+ending on (Err (Mismatch p)) = p
+ending on (Err (Range p)) = p
+ending on (Err (Conflict p)) = p
 
 unfoldable pub end_from : List ℕ → List ℕ → ℕ → ℕ
 end_from [] s at = at

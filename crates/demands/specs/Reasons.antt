@@ -12,22 +12,23 @@ use Rattle.kinds.specs.Kinds.{day_kinds, hour_kinds}
 use Rattle.laws.specs.Lists.{every}
 use Rattle.matching.specs.Elements.{read_element}
 use Rattle.matching.specs.Extents.{extent, between, nowhere}
-use Rattle.matching.specs.declared.elements.Item.TheVariants.{Fact as Reads}
 use Rattle.matching.specs.declared.extents.Extent.{Extent}
 use Rattle.reasons.specs.Reasons.{explained_by, elements_explained_by}
 use Rattle.reasons.specs.declared.About.TheVariants.{Day as TheDay, Hour as TheHour}
 use Rattle.reasons.specs.declared.Part.{Part}
 use Rattle.reasons.specs.declared.Part.TheVariants.{Year, Month, Day}
-use Rattle.reasons.specs.declared.Reason.TheVariants.{NoReason, Quarrel, Differ, Hours}
 use Rattle.strftime.specs.declared.Fields.{Fields}
 use Rattle.strptime.specs.Answers.{reading_by}
-use Rattle.strptime.specs.declared.Shown.TheVariants.{Days, Hours as TwoHours}
 use Rattle.names.specs.Case.{fold}
 use Rattle.text.specs.Digits.{is_digit}
 use Rattle.text.specs.Space.{is_space}
-use Rattle.names.specs.declared.names.NameForm.{NameForm}
 use Rattle.demands.specs.Facts.{Fact, Says, facts}
 use Rattle.demands.specs.Writes.{WouldWrite, on_day, at_hour}
+use Rattle.std.specs.Prelude.{None, Ok, Option, Some}
+use Rattle.matching.specs.declared.elements.Item.TheVariants.{Fact as Reads}
+use Rattle.names.specs.declared.names.NameForm.{NameForm}
+use Rattle.reasons.specs.declared.Reason.TheVariants.{Differ, Hours, Quarrel}
+use Rattle.strptime.specs.declared.Shown.TheVariants.{Days, Hours as TwoHours}
 
 -- ---- words
 
@@ -48,7 +49,7 @@ pub record Spelled (s : List ℕ) (x : Fact) : Type 0 where
 -- an element that says a fact goes on from its offset over white space alone to the fact's first digit or letter
 abbrev pub FromTheFirst : Type 0
 FromTheFirst =
-    (e at k n from next : ℕ) (s : List ℕ) (f : NameForm) → read_element e s at ≡ Reads k n f from next
+    (e at k n from next : ℕ) (s : List ℕ) (f : Option NameForm) → read_element e s at ≡ Ok (Reads k n f from next)
     → every is_space (between s at from) ≡ true
 
 -- ---- the part in which two dates differ first
@@ -88,20 +89,20 @@ module _ (e : Engine) (f s : List ℕ) where
 
   pub record Reasons : Type 0 where
     -- a reason is there exactly with 9 and 10
-    pub none : ((explained_by e f s).reason ≡ NoReason)
+    pub none : ((explained_by e f s).reason ≡ None)
         ↔ (((reading_by e f s).number ≡ 9 → ⊥) × ((reading_by e f s).number ≡ 10 → ⊥))
     -- and words only with 9
     pub no_words_lem : ((reading_by e f s).number ≡ 9 → ⊥) → (k : ℕ) → words_of k ≡ nowhere
     -- 9, for the day and for the hour
     pub no_day : (reading_by e f s).number ≡ 9 → (reading_by e f s).place ≡ 1
-        → ((explained_by e f s).reason ≡ Quarrel TheDay) × Quarrels day_kinds IsDay on_day
+        → ((explained_by e f s).reason ≡ Some (Quarrel TheDay)) × Quarrels day_kinds IsDay on_day
     pub no_hour : (reading_by e f s).number ≡ 9 → (reading_by e f s).place ≡ 2
-        → ((explained_by e f s).reason ≡ Quarrel TheHour) × Quarrels hour_kinds IsHour at_hour
+        → ((explained_by e f s).reason ≡ Some (Quarrel TheHour)) × Quarrels hour_kinds IsHour at_hour
     -- 10, for the day and for the hour
-    pub two_days : (x y : Date) → (reading_by e f s).number ≡ 10 → (reading_by e f s).shown ≡ Days x y
-        → (p : Part) × ((explained_by e f s).reason ≡ Differ p) × FirstDiffers p x y
-    pub two_hours : (a b : ℕ) → (reading_by e f s).number ≡ 10 → (reading_by e f s).shown ≡ TwoHours a b
-        → (explained_by e f s).reason ≡ Hours a b
+    pub two_days : (x y : Date) → (reading_by e f s).number ≡ 10 → (reading_by e f s).shown ≡ Some (Days x y)
+        → (p : Part) × ((explained_by e f s).reason ≡ Some (Differ p)) × FirstDiffers p x y
+    pub two_hours : (a b : ℕ) → (reading_by e f s).number ≡ 10 → (reading_by e f s).shown ≡ Some (TwoHours a b)
+        → (explained_by e f s).reason ≡ Some (Hours a b)
     -- it is the same by every engine that does not refuse the reading by 11
     pub same : ((reading_by e f s).number ≡ 11 → ⊥) → explained_by e f s ≡ explained_by Skipping f s
     -- and by the elements that the format opens to

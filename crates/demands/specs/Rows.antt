@@ -7,21 +7,18 @@ use Rattle.conversions.specs.Conversions.{among}
 use Rattle.format.specs.Opening.{is_byte}
 use Rattle.judge.specs.declared.Engine.{Engine}
 use Rattle.judge.specs.declared.Engine.TheVariants.{Within}
-use Rattle.strftime.specs.Writing.{Result}
+use Rattle.strftime.specs.Writing.{Outcome}
 use Rattle.matching.specs.Steps.{no_forms}
-use Rattle.strptime.specs.declared.Day.TheVariants.{NoDate}
 use Rattle.strptime.specs.declared.Reading.{Reading}
-use Rattle.strptime.specs.declared.Said.TheVariants.{Unsaid}
-use Rattle.strptime.specs.declared.Shown.TheVariants.{Nothing}
-use Rattle.values.specs.declared.offsets.Offset.TheVariants.{Unsaid as NoOffset}
 use Rattle.demands.specs.Demand.{before_nine}
+use Rattle.std.specs.Prelude.{None}
 
 -- a number is one of these
 abbrev pub OneOf : List ℕ → ℕ → Type 0
 OneOf ns n = among n ns ≡ true
 
 -- a writing's result w, by a format f into a buffer b
-pub record WritingRow (f b : List ℕ) (w : Result) : Type 0 where
+pub record WritingRow (f b : List ℕ) (w : Outcome) : Type 0 where
   pub listed : OneOf (0 ∷ 1 ∷ 2 ∷ 3 ∷ 4 ∷ 12 ∷ []) w.answer.number
   -- a refusal changes no byte of the buffer
   pub untouched : (w.answer.number ≡ 0 → ⊥) → w.buffer ≡ b
@@ -44,13 +41,13 @@ reading_numbers = 0 ∷ 1 ∷ 3 ∷ 5 ∷ 6 ∷ 7 ∷ 8 ∷ 9 ∷ 10 ∷ 11 ∷ 
 pub record ReadingRow (e : Engine) (f s : List ℕ) (r : Reading) : Type 0 where
   pub listed : OneOf reading_numbers r.number
   -- nothing is handed out with another number than 0, and nothing is shown with another than 10
-  pub no_day : (r.number ≡ 0 → ⊥) → r.day ≡ NoDate
-  pub no_hour : (r.number ≡ 0 → ⊥) → r.hour ≡ Unsaid
-  pub no_minute : (r.number ≡ 0 → ⊥) → r.minute ≡ Unsaid
-  pub no_second : (r.number ≡ 0 → ⊥) → r.second ≡ Unsaid
-  pub no_offset : (r.number ≡ 0 → ⊥) → r.offset ≡ NoOffset
+  pub no_day : (r.number ≡ 0 → ⊥) → r.day ≡ None
+  pub no_hour : (r.number ≡ 0 → ⊥) → r.hour ≡ None
+  pub no_minute : (r.number ≡ 0 → ⊥) → r.minute ≡ None
+  pub no_second : (r.number ≡ 0 → ⊥) → r.second ≡ None
+  pub no_offset : (r.number ≡ 0 → ⊥) → r.offset ≡ None
   pub no_forms_lem : (r.number ≡ 0 → ⊥) → r.forms ≡ no_forms
-  pub unshown : (r.number ≡ 10 → ⊥) → r.shown ≡ Nothing
+  pub unshown : (r.number ≡ 10 → ⊥) → r.shown ≡ None
   -- places: 0; an offset of the format; an offset of the text, or its end; the day or the hour; the budget
   pub place_1_5 : OneOf (1 ∷ 5 ∷ []) r.number → r.place ≡ 0
   pub place_3 : r.number ≡ 3 → r.place < length f

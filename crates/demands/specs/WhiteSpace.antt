@@ -6,10 +6,10 @@ use Rattle.laws.specs.Bytes.{bytes}
 use Rattle.conversions.specs.Conversions.{among}
 use Rattle.values.specs.Moments.{moment_of}
 use Rattle.values.specs.declared.Moment.{Moment}
-use Rattle.values.specs.declared.MomentFields.TheVariants.{Valid}
 use Rattle.strftime.specs.Writing.{numbered, writing}
 use Rattle.strftime.specs.declared.Fields.{Fields}
 use Rattle.strptime.specs.Answers.{reading}
+use Rattle.std.specs.Prelude.{Ok}
 
 -- tab, newline, vertical tab, form feed, carriage return, blank
 unfoldable pub space_bytes : List ℕ
@@ -32,7 +32,7 @@ met b =
 -- a format of one byte writes it, for every moment, over a buffer's first byte
 abbrev pub Copied : ℕ → Type 0
 Copied b =
-    (t : Fields) (m : Moment) → moment_of t.year t.month t.day t.hour t.minute t.second t.offset ≡ Valid m
+    (t : Fields) (m : Moment) → moment_of t.year t.month t.day t.hour t.minute t.second t.offset ≡ Ok m
     → (c : ℕ) (rest : List ℕ) → writing (b ∷ []) t (c ∷ rest) ≡ record { answer = numbered 0 1; buffer = b ∷ rest }
 
 pub record WhiteSpace (b : ℕ) : Type 0 where

@@ -8,9 +8,9 @@ use Rattle.kinds.specs.Kinds.{half_of_day}
 use Rattle.calendar.specs.Calendar.{date_of}
 use Rattle.names.specs.Case.{fold}
 use Rattle.text.specs.Digits.{is_digit, decimal}
-use Rattle.values.specs.declared.offsets.Offset.TheVariants.{Unsaid as NoOffset}
-use Rattle.strftime.specs.Writing.{Result, writing}
+use Rattle.strftime.specs.Writing.{Outcome, writing}
 use Rattle.strftime.specs.declared.Fields.{Fields}
+use Rattle.std.specs.Prelude.{None}
 
 -- the conversion of each kind, 1 to 15 (RULES 7)
 unfoldable pub letters : List ℕ
@@ -20,7 +20,7 @@ unfoldable pub letter_for : ℕ → ℕ
 letter_for k = get_or letters (k - 1) 0
 
 -- the conversion of kind k is written, into nine bytes, as many as one of these letters writes at the most
-unfoldable pub wrote : ℕ → Fields → Result
+unfoldable pub wrote : ℕ → Fields → Outcome
 wrote k t = writing (code "%" ∷ letter_for k ∷ []) t (replicate 9 0)
 
 -- what stands there: the bytes that are counted
@@ -53,8 +53,8 @@ on_day d =
       hour = 0;
       minute = 0;
       second = 0;
-      offset = NoOffset;
+      offset = None;
     }
 
 unfoldable pub at_hour : ℕ → Fields
-at_hour h = record { year = 1; month = 1; day = 1; hour = h; minute = 0; second = 0; offset = NoOffset }
+at_hour h = record { year = 1; month = 1; day = 1; hour = h; minute = 0; second = 0; offset = None }

@@ -8,28 +8,29 @@ use borrow.Author.Tests.{le-leb, lt-leb}
 use lib.Dec.{eqb, lit≤}
 use lib.ListN.{length}
 use Rattle.format.specs.Opening.{opened}
-use Rattle.format.specs.declared.opening.Opened.{Opened}
-use Rattle.format.specs.declared.opening.Opened.TheVariants.{Done, TooLong, Bad}
 use Rattle.format.specs.declared.opening.Side.{Side}
 use Rattle.judge.specs.declared.Engine.TheVariants.{Skipping, Plain, Within}
 use Rattle.strptime.proofs.Places.{budget}
 use Rattle.larusqem.specs.Packed.{packed, engine_of, packed_opened, opened_for}
+use Rattle.std.specs.Prelude.{Err, Ok, Result, ℕ}
+use Rattle.format.specs.declared.opening.Unopened.TheVariants.{Bad, TooLong}
+use Rattle.format.specs.declared.opening.Unopened.{Unopened}
 
 -- r is the opening's answer, p what is returned
-module _ (d : Side) (f xs : List ℕ) {r : Opened} (a : r ≡ opened d f) {p : ℕ} where
-  pub all_fit : {n : ℕ} → r ≡ Done n → n ≤ length xs → p ≡ packed 0 n → p ≡ opened_for d f xs
+module _ (d : Side) (f xs : List ℕ) {r : Result ℕ Unopened} (a : r ≡ opened d f) {p : ℕ} where
+  pub all_fit : {n : ℕ} → r ≡ Ok n → n ≤ length xs → p ≡ packed 0 n → p ≡ opened_for d f xs
   unfolding opened_for packed_opened
   all_fit {n} e h q = rw (← a, e, le-leb n (length xs) h) q
 
-  pub too_many : {n : ℕ} → r ≡ Done n → length xs < n → p ≡ packed 4 n → p ≡ opened_for d f xs
+  pub too_many : {n : ℕ} → r ≡ Ok n → length xs < n → p ≡ packed 4 n → p ≡ opened_for d f xs
   unfolding opened_for packed_opened
   too_many {n} e h q = rw (← a, e, lt-leb n (length xs) h) q
 
-  pub too_long_lem : r ≡ TooLong → p ≡ packed 1 0 → p ≡ opened_for d f xs
+  pub too_long_lem : r ≡ Err TooLong → p ≡ packed 1 0 → p ≡ opened_for d f xs
   unfolding opened_for packed_opened
   too_long_lem e q = rw (← a, e) q
 
-  pub bad_conversion_lem : {k : ℕ} → r ≡ Bad k → p ≡ packed 3 k → p ≡ opened_for d f xs
+  pub bad_conversion_lem : {k : ℕ} → r ≡ Err (Bad k) → p ≡ packed 3 k → p ≡ opened_for d f xs
   unfolding opened_for packed_opened
   bad_conversion_lem e q = rw (← a, e) q
 

@@ -8,15 +8,14 @@ use Rattle.std.specs.Prelude.{ℕ, List, [], ◌∷◌, ◌++◌, get_or}
 use Rattle.calendar.specs.Calendar.{date}
 use Rattle.calendar.specs.declared.Date.{Date}
 use Rattle.strftime.specs.declared.Fields.{Fields}
-use Rattle.strptime.specs.declared.Day.{Day}
-use Rattle.strptime.specs.declared.Day.TheVariants.{NoDate, On}
 use Rattle.strptime.specs.declared.Reading.{Reading}
-use Rattle.strptime.specs.declared.Shown.{Shown}
-use Rattle.strptime.specs.declared.Shown.TheVariants.{Nothing, Days, Hours}
-use Rattle.names.specs.declared.names.NameForm.{NameForm}
-use Rattle.names.specs.declared.names.NameForm.TheVariants.{NoName, Full, Middle, Short}
 use Rattle.words.specs.Words as words
 use Rattle.words.specs.Words.{offset_from, offset_flag, offset_word, flag, number_or0}
+use Rattle.std.specs.Prelude.{None, Option, Some}
+use Rattle.names.specs.declared.names.NameForm.TheVariants.{Full, Middle, Short}
+use Rattle.names.specs.declared.names.NameForm.{NameForm}
+use Rattle.strptime.specs.declared.Shown.TheVariants.{Days, Hours}
+use Rattle.strptime.specs.declared.Shown.{Shown}
 
 -- the fields of a moment's words
 abbrev pub fields_of : List ℕ → Fields
@@ -32,28 +31,28 @@ fields_of ws =
     }
 
 -- an unsaid day is 0 0 0
-abbrev pub day_or_zero : Day → Date
-day_or_zero NoDate = date 0 0 0
-day_or_zero (On x) = x
+abbrev pub day_or_zero : Option Date → Date
+day_or_zero None = date 0 0 0
+day_or_zero (Some x) = x
 
 -- the form of a name: none, full, middle, short
-abbrev pub form_number : NameForm → ℕ
-form_number NoName = 0
-form_number Full = 1
-form_number Middle = 2
-form_number Short = 3
+abbrev pub form_number : Option NameForm → ℕ
+form_number None = 0
+form_number (Some Full) = 1
+form_number (Some Middle) = 2
+form_number (Some Short) = 3
 
 -- words 2 to 14, by what is shown: nothing, two days, or two hours
-unfoldable pub more : Reading → Shown → List ℕ
-more r Nothing =
+unfoldable pub more : Reading → Option Shown → List ℕ
+more r None =
     let x = day_or_zero r.day in
     x.year ∷ x.month ∷ x.day
     ∷ flag r.hour ∷ number_or0 r.hour
     ∷ flag r.minute ∷ number_or0 r.minute
     ∷ flag r.second ∷ number_or0 r.second
     ∷ 0 ∷ 0 ∷ 0 ∷ 0 ∷ []
-more r (Days a b) = a.year ∷ a.month ∷ a.day ∷ 0 ∷ 0 ∷ 0 ∷ 0 ∷ 0 ∷ 0 ∷ b.year ∷ b.month ∷ b.day ∷ 0 ∷ []
-more r (Hours a b) = 0 ∷ 0 ∷ 0 ∷ 0 ∷ a ∷ 0 ∷ 0 ∷ 0 ∷ 0 ∷ 0 ∷ 0 ∷ 0 ∷ b ∷ []
+more r (Some (Days a b)) = a.year ∷ a.month ∷ a.day ∷ 0 ∷ 0 ∷ 0 ∷ 0 ∷ 0 ∷ 0 ∷ b.year ∷ b.month ∷ b.day ∷ 0 ∷ []
+more r (Some (Hours a b)) = 0 ∷ 0 ∷ 0 ∷ 0 ∷ a ∷ 0 ∷ 0 ∷ 0 ∷ 0 ∷ 0 ∷ 0 ∷ 0 ∷ b ∷ []
 
 unfoldable pub words_of : Reading → List ℕ
 words_of r =

@@ -2,7 +2,7 @@
 // leaves in what it is lent. include/larusqem.h describes them for callers.
 #![tactic(auto)]
 
-ghost use Rattle.std.specs.Prelude.{◌≡◌, ◌<◌, ◌^◌};
+ghost use Rattle.std.specs.Prelude.{◌≡◌, ◌<◌, ◌^◌, Some};
 ghost use Rattle.calendar.specs.Calendar.{days};
 ghost use Rattle.calendar.specs.Dates.{from_fields, from_day_number};
 ghost use Rattle.format.specs.Opening.{opened_into};
@@ -15,14 +15,14 @@ ghost use Rattle.larusqem.specs.Dates.{value_from, three_in_one, date_word, vers
 ghost use Rattle.larusqem.specs.Packed.{packed, packed_writing, packed_reading, engine_of, side_of, opened_for};
 ghost use Rattle.larusqem.specs.Words.{fields_of, day_or_zero, form_number, words_of};
 
-use calendar::{Date, FromFields, FromNumber};
-use format::{Opened, Side, open};
+use calendar::Date;
+use format::{Opened, Side, Unopened, open};
 use judge::Engine;
 use matching::Forms;
 use names::NameForm;
 use strftime::{Fields, Writing, strftime, write_elements, writing_of};
-use strptime::{Answer, Day, Said, read_elements, strptime};
-use values::{Offset, date_value};
+use strptime::{Answer, Done, ReadRefusal, read_elements, strptime};
+use values::date_value;
 use words::{flag, number_or_0, offset_flag, offset_from, offset_word};
 
 fn packed(number: u32, place: usize) -> u64
@@ -80,13 +80,14 @@ pub extern "C" fn larusqem_write_words(elements: &[u32], moment: &[u32; 8], out:
 // ---- Opening a format
 
 // The side that a number asks for: 0 the reader, any other the writer.
+#[tactic(auto, unfolding(crate::specs::Packed::side_of))]
 fn side_of(for_writing: u32) -> Side
     ensures { result ≡ side_of for_writing }
 {
-    if for_writing == 0 {
-        return Side::Reader;
+    match for_writing {
+        0 => Side::Reader,
+        _ => Side::Writer,
     }
-    Side::Writer
 }
 
 // Opens a format into elements, for `larusqem_read_words` where `for_writing` is 0, and otherwise for `larusqem_write_words`.
@@ -96,41 +97,38 @@ pub extern "C" fn larusqem_open_words(format: &[u8], for_writing: u32, elements:
     ensures elements_after { elements.new ≡ opened_into (side_of for_writing) format.now elements.old }
 {
     match open(side_of(for_writing), format, elements) {
-        Opened::Done { count } => {
+        Ok(count) => {
             if elements.len() < count {
                 return packed(4, count);
             }
             packed(0, count)
         }
-        Opened::TooLong => packed(1, 0),
-        Opened::Bad { at } => packed(3, at),
+        Err(Unopened::TooLong) => packed(1, 0),
+        Err(Unopened::Bad { at }) => packed(3, at),
     }
 }
 
 // ---- Reading
 
-fn day_or_zero(day: Day) -> Date
+fn day_or_zero(day: Option<Date>) -> Date
     ensures { result ≡ day_or_zero day }
 {
-    match day {
-        Day::NoDate => Date {
-            year: 0,
-            month: 0,
-            day: 0,
-        },
-        Day::On(date) => date,
-    }
+    day.unwrap_or(Date {
+        year: 0,
+        month: 0,
+        day: 0,
+    })
 }
 
 // The number of a name's form: 0 none, 1 full, 2 middle, 3 short.
-fn form_number(form: NameForm) -> u32
+fn form_number(form: Option<NameForm>) -> u32
     ensures { result ≡ form_number form }
 {
     match form {
-        NameForm::NoName => 0,
-        NameForm::Full => 1,
-        NameForm::Middle => 2,
-        NameForm::Short => 3,
+        None => 0,
+        Some(NameForm::Full) => 1,
+        Some(NameForm::Middle) => 2,
+        Some(NameForm::Short) => 3,
     }
 }
 
@@ -168,7 +166,7 @@ fn refuse(number: u32, place: usize, examined: u32, words: &mut [u32; 20]) -> u6
 // Two days.
 fn show_days(first: Date, second: Date, examined: u32, words: &mut [u32; 20]) -> u64
     ensures value { result ≡ packed 10 1 }
-    ensures words_after { words.new ≡ words_of (examining examined (showing 10 1 (Days first second))) }
+    ensures words_after { words.new ≡ words_of (examining examined (showing 10 1 (Some (Days first second)))) }
 {
     *words = [
         10,
@@ -198,7 +196,7 @@ fn show_days(first: Date, second: Date, examined: u32, words: &mut [u32; 20]) ->
 // Two hours.
 fn show_hours(first: u32, second: u32, examined: u32, words: &mut [u32; 20]) -> u64
     ensures value { result ≡ packed 10 2 }
-    ensures words_after { words.new ≡ words_of (examining examined (showing 10 2 (Hours first second))) }
+    ensures words_after { words.new ≡ words_of (examining examined (showing 10 2 (Some (Hours first second)))) }
 {
     *words = [
         10, 2, 0, 0, 0, 0, first, 0, 0, 0, 0, 0, 0, 0, second, examined, 0, 0, 0, 0,
@@ -209,11 +207,11 @@ fn show_hours(first: u32, second: u32, examined: u32, words: &mut [u32; 20]) -> 
 // A finished reading: its values.
 fn finish(
     place: usize,
-    day: Day,
-    hour: Said,
-    minute: Said,
-    second: Said,
-    offset: Offset,
+    day: Option<Date>,
+    hour: Option<u32>,
+    minute: Option<u32>,
+    second: Option<u32>,
+    offset: Option<i32>,
     forms: Forms,
     examined: u32,
     words: &mut [u32; 20],
@@ -251,57 +249,63 @@ fn finish(
 }
 
 // The same of any answer. The words come from the answer itself: a Reading between costs some 5 ns.
+#[tactic(auto, unfolding(strptime::specs::Answers::computes))]
 fn tell(answer: Answer, words: &mut [u32; 20]) -> u64
     requires { (reading_of answer).place < 2 ^ 32 }
     ensures value { result ≡ packed_reading (reading_of answer) }
     ensures words_after { words.new ≡ words_of (reading_of answer) }
 {
     match answer {
-        Answer::Done {
-            unread,
-            day,
-            hour,
-            minute,
-            second,
-            offset,
-            forms,
-            examined,
-        } => finish(
+        Ok(
+            Done {
+                unread,
+                day,
+                hour,
+                minute,
+                second,
+                offset,
+                forms,
+                examined,
+            },
+        ) => finish(
             unread, day, hour, minute, second, offset, forms, examined, words,
         ),
-        Answer::FormatTooLong => refuse(1, 0, 0, words),
-        Answer::TextTooLong => refuse(5, 0, 0, words),
-        Answer::BadConversion { at } => refuse(3, at, 0, words),
-        Answer::NoMatch { at } => refuse(6, at, 0, words),
-        Answer::OutOfRange { at } => refuse(7, at, 0, words),
-        Answer::Contradiction { at } => refuse(8, at, 0, words),
-        Answer::OverBudget { budget } => refuse(11, budget as usize, budget, words),
-        Answer::NoDay { examined } => refuse(9, 1, examined, words),
-        Answer::NoHour { examined } => refuse(9, 2, examined, words),
-        Answer::OpenDay {
-            first,
-            second,
-            examined,
-        } => show_days(first, second, examined, words),
-        Answer::OpenHour {
-            first,
-            second,
-            examined,
-        } => show_hours(first, second, examined, words),
+        Err(ReadRefusal::FormatTooLong) => refuse(1, 0, 0, words),
+        Err(ReadRefusal::TextTooLong) => refuse(5, 0, 0, words),
+        Err(ReadRefusal::BadConversion { at }) => refuse(3, at, 0, words),
+        Err(ReadRefusal::NoMatch { at }) => refuse(6, at, 0, words),
+        Err(ReadRefusal::OutOfRange { at }) => refuse(7, at, 0, words),
+        Err(ReadRefusal::Contradiction { at }) => refuse(8, at, 0, words),
+        Err(ReadRefusal::OverBudget { budget }) => refuse(11, budget as usize, budget, words),
+        Err(ReadRefusal::NoDay { examined }) => refuse(9, 1, examined, words),
+        Err(ReadRefusal::NoHour { examined }) => refuse(9, 2, examined, words),
+        Err(
+            ReadRefusal::OpenDay {
+                first,
+                second,
+                examined,
+            },
+        ) => show_days(first, second, examined, words),
+        Err(
+            ReadRefusal::OpenHour {
+                first,
+                second,
+                examined,
+            },
+        ) => show_hours(first, second, examined, words),
     }
 }
 
 // The engine that a number asks for: 0 the one that skips, 1 the plain one, any other the plain one with the budget.
+#[tactic(auto, unfolding(crate::specs::Packed::engine_of))]
 fn engine_of(engine: u32, budget: u32) -> Engine
     ensures { result ≡ engine_of engine budget }
 {
-    if engine == 0 {
-        return Engine::Skipping;
+    match engine {
+        0 => Engine::Skipping,
+        1 => Engine::Plain,
+        _ => Engine::Within { budget },
     }
-    if engine == 1 {
-        return Engine::Plain;
-    }
-    Engine::Within { budget }
 }
 
 // Reads a text by a format, with the engine that a number asks for.
@@ -353,20 +357,14 @@ pub extern "C" fn larusqem_days() -> u32
 pub extern "C" fn larusqem_day_number(year: u32, month: u32, day: u32) -> u32
     ensures { result ≡ value_from day_number_of (from_fields year month day) }
 {
-    match Date::from_fields(year, month, day) {
-        FromFields::Valid(date) => date.day_number(),
-        FromFields::Bad(_) => 0,
-    }
+    Date::from_fields(year, month, day).map_or(0, |date| date.day_number())
 }
 
 // The value of a kind of fact that bears on the day.
 fn value_from(kind: u32, year: u32, month: u32, day: u32) -> u32
     ensures { result ≡ value_from (date_value kind) (from_fields year month day) }
 {
-    match Date::from_fields(year, month, day) {
-        FromFields::Valid(date) => date_value(kind, date),
-        FromFields::Bad(_) => 0,
-    }
+    Date::from_fields(year, month, day).map_or(0, |date| date_value(kind, date))
 }
 
 // Monday 1 to Sunday 7.
@@ -409,10 +407,7 @@ fn three_in_one(first: u16, second: u8, third: u8) -> u32
 pub extern "C" fn larusqem_date_word(number: u32) -> u32
     ensures { result ≡ date_word (from_day_number number) }
 {
-    match Date::from_day_number(number) {
-        FromNumber::Day(date) => three_in_one(date.year, date.month, date.day),
-        FromNumber::Outside => 0,
-    }
+    Date::from_day_number(number).map_or(0, |date| three_in_one(date.year, date.month, date.day))
 }
 
 // ---- The version

@@ -7,8 +7,9 @@ use Rattle.matching.specs.declared.extents.Extent.{Extent}
 use Rattle.reasons.specs.declared.Explained.{Explained}
 use Rattle.reasons.specs.declared.Part.{Part}
 use Rattle.reasons.specs.declared.Part.TheVariants.{Year, Month, Day}
+use Rattle.std.specs.Prelude.{None, Option, Some}
+use Rattle.reasons.specs.declared.Reason.TheVariants.{Differ, Hours, Quarrel}
 use Rattle.reasons.specs.declared.Reason.{Reason}
-use Rattle.reasons.specs.declared.Reason.TheVariants.{NoReason, Quarrel, Differ, Hours}
 
 abbrev pub part_number : Part → ℕ
 part_number Year = 1
@@ -16,11 +17,11 @@ part_number Month = 2
 part_number Day = 3
 
 -- 0 where no two days differ
-abbrev pub differ_number : Reason → ℕ
-differ_number NoReason = 0
-differ_number (Quarrel a) = 0
-differ_number (Differ p) = part_number p
-differ_number (Hours a b) = 0
+abbrev pub differ_number : Option Reason → ℕ
+differ_number None = 0
+differ_number (Some (Quarrel a)) = 0
+differ_number (Some (Differ p)) = part_number p
+differ_number (Some (Hours a b)) = 0
 
 -- how many kinds are told of
 abbrev pub told : ℕ

@@ -28,17 +28,12 @@ fn part_number(part: Part) -> u32
 }
 
 // The part in which two days differ, 0 where there are no two.
-fn differ_number(reason: Reason) -> u32
+fn differ_number(reason: Option<Reason>) -> u32
     ensures { result ≡ differ_number reason }
 {
     match reason {
-        Reason::NoReason => 0,
-        Reason::Quarrel(_) => 0,
-        Reason::Differ(part) => part_number(part),
-        Reason::Hours {
-            first: _,
-            second: _,
-        } => 0,
+        Some(Reason::Differ(part)) => part_number(part),
+        None | Some(Reason::Quarrel(_)) | Some(Reason::Hours { .. }) => 0,
     }
 }
 
@@ -48,12 +43,10 @@ fn extent_words(extents: [Extent; kinds::KINDS]) -> [u32; 33]
     ensures { result ≡ 0 ∷ extent_words extents (range 0 told) }
 {
     let mut words = [0; 33];
-    let mut kind = 0;
-    while kind < TOLD {
+    for kind in 0..TOLD {
         let extent = extents[kind];
         words[2 * kind + 1] = extent.from as u32;
         words[2 * kind + 2] = extent.next as u32;
-        kind += 1;
     }
     words
 }

@@ -9,7 +9,7 @@ use Rattle.larusqem_reasons.proofs.extent_words.Goals as goal
 
 pub loop-kind-init : goal.loop-kind-init
 unfolding range extent_words
-loop-kind-init c = (omega arith, refl)
+loop-kind-init c = refl
 
 pub overflow_cast-words : goal.overflow_cast-words
 unfolding nowhere
@@ -23,9 +23,9 @@ pub loop-kind-preserved : goal.loop-kind-preserved
 unfolding nowhere
 loop-kind-preserved c =
     let l = c.loop-kind in
-    (omega arith, tell_more c.args.extents l.words l.kind (omega arith) ∙ l.invariant.1)
+    tell_more c.args.extents l.words l.kind (omega arith) ∙ l.invariant
 
 pub returns : goal.returns
 returns c =
     let l = c.loop-kind in
-    sym (tell_done c.args.extents l.words l.kind (omega arith)) ∙ l.invariant.1
+    sym (tell_done c.args.extents l.words l.kind (omega arith)) ∙ l.invariant

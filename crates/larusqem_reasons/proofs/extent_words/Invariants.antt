@@ -1,4 +1,4 @@
-use Prim.Native.Nat.{◌+◌, ◌-◌, ◌*◌, ◌≤◌}
+use Prim.Native.Nat.{◌+◌, ◌-◌, ◌*◌}
 use mathlib.Core.List.{◌∷◌}
 use mathlib.Core.Path.{◌≡◌}
 use lib.Seq.{sets}
@@ -8,8 +8,4 @@ use Rattle.larusqem_reasons.proofs.extent_words.Given as goal
 
 abbrev pub invariant-loop-kind : goal.invariant-loop-kind
 invariant-loop-kind l =
-    (l.kind ≤ told)
-    × (sets l.words (2 * l.kind + 1) (extent_words l.extents (range l.kind (told - l.kind))) ≡ 0 ∷ extent_words l.extents (range 0 told))
-
-abbrev pub decreases-loop-kind : goal.decreases-loop-kind
-decreases-loop-kind l = told - l.kind
+    sets l.words (2 * l.kind + 1) (extent_words l.extents (range l.kind (told - l.kind))) ≡ 0 ∷ extent_words l.extents (range 0 told)
