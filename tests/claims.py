@@ -15,7 +15,7 @@ ROOT = os.path.dirname(os.path.dirname(os.path.abspath(__file__)))
 DOCUMENTS = ["README.md", "CHANGELOG.md", "CONTRIBUTING.md", "bindings/rust/README.md"] + [
     "docs/" + name for name in ["ARCHITECTURE.md", "BENCH.md", "CLAIMS.md", "DECISIONS.md", "RULES.md"]
 ]
-WORDS = r"unfoldable|abbrev|pub|pub\(crate\)|const|fn|struct|enum|record|data|extern|\"C\""
+WORDS = r"unfoldable|abbrev|pub|pub\(crate\)|const|static|fn|ruleset|struct|enum|record|data|extern|\"C\""
 
 
 def declared(path, name):
