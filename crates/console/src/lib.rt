@@ -2,10 +2,7 @@
 // themselves (RULES 9.1).
 #![tactic(auto)]
 
-ghost use Rattle.std.specs.Prelude.{◌≡◌, ◌<◌, ◌≤◌, ℕ, Result, length, option_copied};
-ghost use Rattle.format.specs.declared.opening.Unopened.{Unopened};
-ghost use Rattle.lists.specs.declared.First.{First};
-ghost use Rattle.lists.specs.declared.Next.{Next};
+ghost use Rattle.std.specs.Prelude.{◌≡◌, ◌<◌, ◌≤◌, length, option_copied};
 ghost use Rattle.console.specs.Arguments.{asked_by, asked};
 
 use format::{MOST_ELEMENTS, Opened};
@@ -98,8 +95,27 @@ fn shown<'a>(room: &'a mut [u8], value: &impl Display) -> &'a [u8] {
     &room[..count]
 }
 
-// Writes texts one after the other, and answers whether all was written, or why not.
+// Texts one after the other at the front of `room`, if they fit.
+fn joined<'a>(room: &'a mut [u8], texts: &[&[u8]]) -> Option<&'a [u8]> {
+    let most = room.len();
+    let mut rest = &mut *room;
+    for text in texts {
+        if let Err(_) = rest.write_all(text) {
+            return None;
+        }
+    }
+    let count = most.saturating_sub(rest.len());
+    Some(&room[..count])
+}
+
+// Writes texts one after the other, and answers whether all was written, or why not. Usual ones go in one write, so that the lines of two
+// programs that write to one file do not mix.
 fn put<W: Write>(rt: &HostRuntime, out: &mut W, texts: &[&[u8]]) -> io::Result<()> {
+    let mut room = [0u8; 2048];
+    if let Some(text) = joined(&mut room, texts) {
+        write_all(rt, out, text)?;
+        return Ok(());
+    }
     for text in texts {
         write_all(rt, out, text)?;
     }
@@ -110,10 +126,11 @@ fn put<W: Write>(rt: &HostRuntime, out: &mut W, texts: &[&[u8]]) -> io::Result<(
 pub fn fail(rt: &HostRuntime, program: &[u8], what: &[u8], why: io::Error) {
     let mut room = [0u8; 320];
     let why = words(shown(&mut room, &why));
-    let mut out = rt.stderr();
-    for text in [program, b": ", what, b": ", why, b"\n"] {
-        let _ = write_all(rt, &mut out, text);
-    }
+    let _ = put(
+        rt,
+        &mut rt.stderr(),
+        &[program, b": ", what, b": ", why, b"\n"],
+    );
 }
 
 // Says what failed where a text was not written whole.
@@ -151,20 +168,19 @@ fn refuse(rt: &HostRuntime, program: &[u8]) {
     let _ = put(rt, &mut rt.stderr(), &[b"usage: ", program, USAGE]);
 }
 
+// A report that a program writes on a list.
+pub trait Report {
+    // Writes the report on `input`, and answers whether all of it was taken, or why not.
+    fn write(&self, rt: &HostRuntime, input: &[u8]) -> io::Result<()>;
+}
+
 #[tactic(auto, unfolding(streams::specs::Got::Within))]
-fn report_on<R: Read, F: Fn(&HostRuntime, &[u8]) -> io::Result<()>>(
-    rt: &HostRuntime,
-    program: &str,
-    list: &mut R,
-    write_report: F,
-)
-    requires { F.IsAlwaysCallable write_report }
-{
+fn report_on<L: Read, R: Report>(rt: &HostRuntime, program: &str, list: &mut L, report: &R) {
     // One byte more than the longest input decides whether there is more.
     let mut input = [0u8; LONGEST_INPUT + 1];
     match read_all(rt, list, &mut input) {
         Ok(n) => {
-            if let Err(why) = write_report(rt, &input[..n]) {
+            if let Err(why) = report.write(rt, &input[..n]) {
                 fail(
                     rt,
                     program.as_bytes(),
@@ -182,70 +198,63 @@ fn report_on<R: Read, F: Fn(&HostRuntime, &[u8]) -> io::Result<()>>(
     }
 }
 
-fn report_on_file<F: Fn(&HostRuntime, &[u8]) -> io::Result<()>>(
-    rt: &HostRuntime,
-    program: &str,
-    name: &[u8],
-    write_report: F,
-)
-    requires { F.IsAlwaysCallable write_report }
-{
+fn report_on_file<R: Report>(rt: &HostRuntime, program: &str, name: &[u8], report: &R) {
     match open(rt, name) {
-        Ok(mut list) => report_on(rt, program, &mut list, write_report),
+        Ok(mut list) => report_on(rt, program, &mut list, report),
         Err(why) => fail(rt, program.as_bytes(), b"the file could not be opened", why),
     }
 }
 
 // Runs a program that reads a list, on standard input or in the file that its argument names, and writes a report on it. A list that was
 // not read to its end gets no report; what could not be done is said on standard error.
-pub fn run<F: Fn(&HostRuntime, &[u8]) -> io::Result<()>>(
-    rt: &HostRuntime,
-    program: &str,
-    more: &str,
-    write_report: F,
-)
-    requires { F.IsAlwaysCallable write_report }
-{
+pub fn run<R: Report>(rt: &HostRuntime, program: &str, more: &str, report: &R) {
     let mut argument = [0u8; 4096];
     let first = match rt.arg(1, &mut argument) {
         Ok(n) => Some(&argument[..n]),
         Err(_) => None,
     };
     match what_is_asked(argument_count(rt), first) {
-        Asked::Standard => report_on(rt, program, &mut rt.stdin(), write_report),
-        Asked::File => report_on_file(rt, program, first.unwrap_or(b""), write_report),
+        Asked::Standard => report_on(rt, program, &mut rt.stdin(), report),
+        Asked::File => report_on_file(rt, program, first.unwrap_or(b""), report),
         Asked::Help => print_help(rt, program.as_bytes(), more.as_bytes()),
         Asked::Version => print_version(rt, program.as_bytes()),
         Asked::Unknown => refuse(rt, program.as_bytes()),
     }
 }
 
-// Writes a report that is made in parts: the first, and then one after the other from where the one before ended, up to the input's end.
-pub fn write_parts<F, G>(
-    rt: &HostRuntime,
-    input: &[u8],
-    first_part: F,
-    next_part: G,
-) -> io::Result<()>
-where
-    F: Fn(&[u8], &mut [u32; MOST_ELEMENTS], &mut [u8; PART]) -> First,
-    G: Fn(Opened, &[u32; MOST_ELEMENTS], &[u8], usize, &mut [u8; PART]) -> Next,
-    requires first { F.IsAlwaysCallable first_part }
-    requires first_fits { (s es out : _) (part : First) (es' out' : _)
-        → F.post first_part s es out part es' out' → part.count ≤ length out'.now }
-    requires next { G.IsAlwaysCallable next_part }
-    requires next_fits { (o : Result ℕ Unopened) (es s : _) (from : ℕ) (out : _) (part : Next) (out' : _)
-        → G.post next_part o es s from out part out' → part.count ≤ length out'.now }
-    requires next_goes { (o : Result ℕ Unopened) (es s : _) (from : ℕ) (out : _) (part : Next) (out' : _)
-        → G.post next_part o es s from out part out' → from < length s.now → from < part.next }
-{
+// A report that is made in parts: the first, and then one after the other from where the one before ended, up to the input's end.
+pub trait Parts {
+    // Opens the format, and puts the first part at the front of `out`.
+    fn first_part(
+        &self,
+        input: &[u8],
+        elements: &mut [u32; MOST_ELEMENTS],
+        out: &mut [u8; PART],
+    ) -> First
+        ensures { result.count ≤ length out.new };
+
+    // Puts the part for the texts from `from` on at the front of `out`; where there is a text, it goes on in the input.
+    fn next_part(
+        &self,
+        opened: Opened,
+        elements: &[u32; MOST_ELEMENTS],
+        input: &[u8],
+        from: usize,
+        out: &mut [u8; PART],
+    ) -> Next
+        ensures fits { result.count ≤ length out.new }
+        ensures goes { from < length input.now → from < result.next };
+}
+
+// Writes a report that is made in parts, and answers whether all of it was taken, or why not.
+pub fn write_parts<P: Parts>(rt: &HostRuntime, input: &[u8], parts: &P) -> io::Result<()> {
     let mut elements = [0; MOST_ELEMENTS];
     let mut out = [0; PART];
-    let first = first_part(input, &mut elements, &mut out);
+    let first = parts.first_part(input, &mut elements, &mut out);
     write_all(rt, &mut rt.stdout(), &out[..first.count])?;
     let mut from = first.next;
     while from < input.len() {
-        let part = next_part(first.opened, &elements, input, from, &mut out);
+        let part = parts.next_part(first.opened, &elements, input, from, &mut out);
         write_all(rt, &mut rt.stdout(), &out[..part.count])?;
         from = part.next;
     }

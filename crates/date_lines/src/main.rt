@@ -1,7 +1,9 @@
 // Reads a list, a format and texts, from standard input or from a file, and writes the report on it (RULES 9.1).
 #![tactic(auto)]
 
-use console::write_parts;
+use console::{Parts, Report, write_parts};
+use format::{MOST_ELEMENTS, Opened};
+use lists::{First, Next, PART};
 use report::{first_part, next_part};
 use std::io;
 
@@ -16,11 +18,36 @@ why there is no answer; quarrels says it in words. A date that is not fixed\n\
 is -, an hour, minute or second --. A list over 32,768 bytes gets: too long\n\n\
 README.md, or date_lines(1) and larusqem(3), have numbers and conversions.\n";
 
-// Writes the report on `input`, and answers whether all of it was taken, or why not.
-fn write_report(rt: &HostRuntime, input: &[u8]) -> io::Result<()> {
-    write_parts(rt, input, first_part, next_part)
+struct Lines;
+
+impl Parts for Lines {
+    fn first_part(
+        &self,
+        input: &[u8],
+        elements: &mut [u32; MOST_ELEMENTS],
+        out: &mut [u8; PART],
+    ) -> First {
+        first_part(input, elements, out)
+    }
+
+    fn next_part(
+        &self,
+        opened: Opened,
+        elements: &[u32; MOST_ELEMENTS],
+        input: &[u8],
+        from: usize,
+        out: &mut [u8; PART],
+    ) -> Next {
+        next_part(opened, elements, input, from, out)
+    }
+}
+
+impl Report for Lines {
+    fn write(&self, rt: &HostRuntime, input: &[u8]) -> io::Result<()> {
+        write_parts(rt, input, self)
+    }
 }
 
 fn main(rt: HostRuntime) {
-    console::run(&rt, "date_lines", MORE, write_report);
+    console::run(&rt, "date_lines", MORE, &Lines);
 }

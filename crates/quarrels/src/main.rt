@@ -1,7 +1,9 @@
 // Reads a list, a format and texts, from standard input or from a file, and says what is wrong with each text that is refused (RULES 9.2).
 #![tactic(auto)]
 
-use console::write_parts;
+use console::{Parts, Report, write_parts};
+use format::{MOST_ELEMENTS, Opened};
+use lists::{First, Next, PART};
 use refusals::{first_part, next_part};
 use std::io;
 
@@ -18,11 +20,36 @@ A text that is read gets nothing: date_lines gives its date. A list of more\n\
 than 32,768 bytes gets the line: too long\n\n\
 README.md, or quarrels(1) and larusqem(3), have the sentences and conversions.\n";
 
-// Writes what is wrong with the texts of `input`, and answers whether all of it was taken, or why not.
-fn write_report(rt: &HostRuntime, input: &[u8]) -> io::Result<()> {
-    write_parts(rt, input, first_part, next_part)
+struct Quarrels;
+
+impl Parts for Quarrels {
+    fn first_part(
+        &self,
+        input: &[u8],
+        elements: &mut [u32; MOST_ELEMENTS],
+        out: &mut [u8; PART],
+    ) -> First {
+        first_part(input, elements, out)
+    }
+
+    fn next_part(
+        &self,
+        opened: Opened,
+        elements: &[u32; MOST_ELEMENTS],
+        input: &[u8],
+        from: usize,
+        out: &mut [u8; PART],
+    ) -> Next {
+        next_part(opened, elements, input, from, out)
+    }
+}
+
+impl Report for Quarrels {
+    fn write(&self, rt: &HostRuntime, input: &[u8]) -> io::Result<()> {
+        write_parts(rt, input, self)
+    }
 }
 
 fn main(rt: HostRuntime) {
-    console::run(&rt, "quarrels", MORE, write_report);
+    console::run(&rt, "quarrels", MORE, &Quarrels);
 }

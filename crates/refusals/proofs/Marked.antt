@@ -10,7 +10,9 @@ use Rattle.lists.specs.Putting.{each}
 use Rattle.matching.specs.Extents.{extent, nowhere}
 use Rattle.matching.specs.declared.extents.Extent.{Extent}
 use Rattle.strptime.specs.Answers as reader
-use Rattle.strptime.specs.Answers.{refusal_of}
+use Rattle.std.specs.Prelude.{Ok}
+use Rattle.strptime.specs.Answers.{refusal_of, reading_of}
+use Rattle.strptime.specs.declared.Done.{Done}
 use Rattle.strptime.specs.declared.ReadRefusal.{ReadRefusal}
 use Rattle.strptime.specs.declared.ReadRefusal.TheVariants.{FormatTooLong, TextTooLong, BadConversion, NoMatch, OutOfRange}
 use Rattle.strptime.specs.declared.ReadRefusal.TheVariants.{Contradiction, OverBudget, NoDay, NoHour, OpenDay, OpenHour}
@@ -64,3 +66,8 @@ by_words (NoDay n) words no0 no1 no2 = refl
 by_words (NoHour n) words no0 no1 no2 = refl
 by_words (OpenDay a b n) words no0 no1 no2 = refl
 by_words (OpenHour a b n) words no0 no1 no2 = refl
+
+-- nor has a text that is read a place that is marked
+pub read_by_words : (d : Done) (words : List Extent) → marked (reading_of (Ok d)) words ≡ words
+unfolding marked reader.computes among
+read_by_words d words = refl

@@ -200,6 +200,10 @@ module _ (h : Held) (v : Sound h) where
     list-fits : length (inserted x (list_of h)) ≤ length h.words
     list-fits = omega (arith, inserted_length x (list_of h), list_length, room_left)
 
+    pub with_words : length (with x h).words ≡ length h.words
+    unfolding with
+    with_words = over_length (inserted x (list_of h)) h.words list-fits
+
     pub with_sound : is_packing x ≡ true → Sound (with x h)
     unfolding with
     with_sound p =

@@ -1,54 +1,56 @@
--- Whether words are packings in ascending order: by two tests of std. Assumes nothing.
+-- Whether words are packings in ascending order, one word after another: what is left decides.
+-- Assumes nothing.
 use Prim.Native.Nat.{ℕ, suc, ◌+◌, ◌≤◌, ◌<◌}
 use mathlib.Core.Bool.{Bool, true, false, ◌&&◌}
-use mathlib.Core.List.{List, [], ◌∷◌}
-use mathlib.Core.Path.{◌≡◌, refl, sym, ap, ◌∙◌}
-use native.Mathlib.Omega.{arith}
-use borrow.Author.Tests.{le-leb}
-use lib.ListN.{length, get_or}
-use Rattle.std.specs.Bool.{MatchBool}
-use Rattle.std.specs.List.{list_all}
-use Rattle.std.specs.List.Sorted.{IsNonDecreasing}
+use mathlib.Core.List.{List, ◌∷◌}
+use mathlib.Core.Path.{◌≡◌, refl, sym, ◌∙◌}
+use native.Mathlib.Numerals.{add-one}
+use borrow.Author.Tests.{le-leb, lt-leb}
+use lib.ListN.{length, get_or, drop, drop_of_length-le}
+use lib.Seq.{drop-cons}
 use Rattle.laws.specs.Lists.{every}
 use Rattle.sheets.specs.Sheets.{is_packing}
-use Rattle.sheet_list.specs.Ascending.{ascending, ascending_from}
-use Rattle.sheet_list.proofs.Ranks.{rises}
+use Rattle.sheet_list.specs.Ascending.{ascending_from}
 
--- `is_sorted` answers whether words ascend
-ascends : (low : ℕ) (s : List ℕ) → ((d : ℕ) → 0 < length s → low ≤ get_or s 0 d) → IsNonDecreasing s → ascending_from low s ≡ true
-unfolding ascending_from
-ascends low [] l r = refl
-ascends low (x ∷ s) l r =
-    rw (le-leb low x (l 0 (omega arith)))
-    (ascends x s (λ d h. r 0 1 d (omega arith) (omega arith)) (λ i j d h k. r (suc i) (suc j) d (omega arith) (omega arith)))
+-- both tests of some words, from a lowest one on
+unfoldable pub tested : ℕ → List ℕ → Bool
+tested low s = every is_packing s && ascending_from low s
 
-pub sorted_is : (s : List ℕ) (r : Bool)
-    → MatchBool r (IsNonDecreasing s) ((k : ℕ) × (k + 1 < length s) × ((d : ℕ) → get_or s (k + 1) d < get_or s k d))
-    → r ≡ ascending s
-sorted_is s true n = sym (ascends 0 s (λ d h. omega arith) n)
-sorted_is s false n = go (ascending s) refl
-  where
-    go : (b : Bool) → ascending s ≡ b → false ≡ b
-    go true a = absurd (omega (arith, n.2 0, rises 0 s a n.0 (n.0 + 1) 0 (omega arith) n.1))
-    go false a = refl
-
--- so the tests of a list are std's
-every_is : (p : ℕ → Bool) (s : List ℕ) → list_all p s ≡ every p s
-unfolding every
-every_is p [] = refl
-every_is p (x ∷ s) = ap (λ (b : Bool). p x && b) (every_is p s)
-
-and-true : (a : Bool) → a ≡ (a && true)
-and-true true = refl
-and-true false = refl
-
-and-false : (a : Bool) → false ≡ (a && false)
+and-false : (a : Bool) → (a && false) ≡ false
 and-false true = refl
 and-false false = refl
 
-module _ (s : List ℕ) where
-  pub listed : (b : Bool) → ascending s ≡ true → b ≡ list_all is_packing s → b ≡ (every is_packing s && ascending s)
-  listed b a e = rw a (e ∙ every_is is_packing s ∙ and-true (every is_packing s))
+module _ (low x : ℕ) (s : List ℕ) where
+  not-ascending : x < low → tested low (x ∷ s) ≡ false
+  unfolding tested ascending_from
+  not-ascending h = rw (lt-leb low x h) (and-false (every is_packing (x ∷ s)))
 
-  pub unsorted : ascending s ≡ false → false ≡ (every is_packing s && ascending s)
-  unsorted a = rw a (and-false (every is_packing s))
+  no-packing : is_packing x ≡ false → tested low (x ∷ s) ≡ false
+  unfolding tested every
+  no-packing e = rw e
+
+  one_more : low ≤ x → is_packing x ≡ true → tested low (x ∷ s) ≡ tested x s
+  unfolding tested every ascending_from
+  one_more h e = rw (e, le-leb low x h)
+
+module _ (s : List ℕ) where
+  abbrev pub Listing : ℕ → ℕ → Type 0
+  Listing low i = tested low (drop i s) ≡ (every is_packing s && ascending_from 0 s)
+
+  pub listing_start : Listing 0 0
+  unfolding tested
+  listing_start = refl
+
+  pub listing_end : (low i : ℕ) → length s ≤ i → Listing low i → true ≡ (every is_packing s && ascending_from 0 s)
+  unfolding tested every ascending_from
+  listing_end low i h e = rw (drop_of_length-le s {i = i} h) at e
+
+  module _ (low i : ℕ) (h : i < length s) (e : Listing low i) where
+    pub listing_falls : get_or s i 0 < low → false ≡ (every is_packing s && ascending_from 0 s)
+    listing_falls l = sym (not-ascending low (get_or s i 0) (drop (suc i) s) l) ∙ (rw (drop-cons s i 0 h) at e)
+
+    pub listing_breaks : is_packing (get_or s i 0) ≡ false → false ≡ (every is_packing s && ascending_from 0 s)
+    listing_breaks l = sym (no-packing low (get_or s i 0) (drop (suc i) s) l) ∙ (rw (drop-cons s i 0 h) at e)
+
+    pub listing_on : low ≤ get_or s i 0 → is_packing (get_or s i 0) ≡ true → Listing (get_or s i 0) (i + 1)
+    listing_on l p = rw add-one (sym (one_more low (get_or s i 0) (drop (suc i) s) l p) ∙ (rw (drop-cons s i 0 h) at e))

@@ -3,7 +3,7 @@
 use Prim.Native.Nat.{ℕ, zero, suc, ◌+◌, ◌-◌, max, ◌≤◌, ◌<◌}
 use mathlib.Core.Bool.{true, false, not}
 use mathlib.Core.List.{List}
-use mathlib.Core.Path.{◌≡◌, refl, ap, ◌∙◌}
+use mathlib.Core.Path.{◌≡◌, refl, sym, ap, ◌∙◌}
 use native.Mathlib.Decide.{ℕ_discrete}
 use native.Mathlib.Numerals.{add-one}
 use native.Mathlib.Omega.{arith}
@@ -18,7 +18,7 @@ use Rattle.sheet_list.specs.Adding.{adding_word, adding_packed, adding, adding_a
 use Rattle.sheet_list.specs.Ascending.{inserted}
 use Rattle.sheet_list.specs.Private.{counted_in, week_in}
 use Rattle.sheet_list.specs.Weeks.{table_of}
-use Rattle.sheet_list.proofs.Holding.{Sound, sound, is_held_lem, list_length, table_with, week_among, with_sound}
+use Rattle.sheet_list.proofs.Holding.{Sound, sound, is_held_lem, list_length, table_with, week_among, with_sound, with_words}
 use Rattle.sheet_list.proofs.Ranks.{inserted_length}
 use Rattle.std.specs.Prelude.{Err, Ok, Result, ℕ}
 use Rattle.sheets.specs.declared.Unpackable.TheVariants.{Bad, NoDay}
@@ -105,6 +105,20 @@ module _ (P : Outcome → Type 0) (i : ℕ) (f : SheetFields) (h : Held) (refuse
       go (Err NoDay) e = refused 13 0 (omega arith)
       go (Err (Bad k)) e = refused 2 (field_number k) (omega arith)
       go (Ok x) e = word-cases x e
+
+-- the arrays keep their lengths
+pub record Lengths (h g : Held) : Type 0 where
+  pub words : length g.words ≡ length h.words
+  pub table : length g.table ≡ length h.table
+
+pub adding_lengths : (i : ℕ) (f : SheetFields) (h : Held) → Lengths h (adding i f h).held
+adding_lengths i f h =
+    sheet_cases (λ o. Lengths h o.held) i f h
+    (λ n p l. record { words = refl; table = refl })
+    (λ x p e r.
+    let v = sound h e in
+    let w = with_sound h v x r (packing_word f p) in
+    record { words = with_words h v x r; table = w.size ∙ sym v.size })
 
 -- a sheet that is added is counted, and both arrays hold what they should
 pub record Taken (i : ℕ) (h : Held) (o : Outcome) : Type 0 where

@@ -14,11 +14,18 @@ pub(crate) const MOST_WORDS: usize = 65536;
 // How many words the array of the table has.
 pub const TABLE_LENGTH: usize = 1024;
 
-// Whether each word is a packing, and none is lower than the one before it.
+// Whether each word is a packing, and none is lower than the one before it. One loop, which ends at the first that is wrong.
 fn is_list(words: &[u64]) -> bool
     ensures { result ≡ (every is_packing words.now && ascending words.now) }
 {
-    words.is_sorted() && words.iter().all(|word| is_packing(*word))
+    let mut low = 0;
+    for word in words {
+        if *word < low || !is_packing(*word) {
+            return false;
+        }
+        low = *word;
+    }
+    true
 }
 
 // Whether both arrays hold what they should up to their counts.

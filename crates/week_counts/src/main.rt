@@ -1,6 +1,7 @@
 // Reads a list, a format and texts, from standard input or from a file, and writes the report on its weeks (RULES 9.3).
 #![tactic(auto)]
 
+use console::Report;
 use lists::PART;
 use std::io;
 use streams::write_all;
@@ -20,14 +21,17 @@ one of a week for which there is no room: a list has at most 1,024 weeks. A\n\
 list over 32,768 bytes gets: too long\n\n\
 README.md, or week_counts(1) and larusqem(3), have numbers and conversions.\n";
 
-// Writes the report on `input`, and answers whether all of it was taken, or why not.
-fn write_report(rt: &HostRuntime, input: &[u8]) -> io::Result<()> {
-    let mut out = [0; PART];
-    let count = report(input, &mut out);
-    write_all(rt, &mut rt.stdout(), &out[..count])?;
-    Ok(())
+struct Weeks;
+
+impl Report for Weeks {
+    fn write(&self, rt: &HostRuntime, input: &[u8]) -> io::Result<()> {
+        let mut out = [0; PART];
+        let count = report(input, &mut out);
+        write_all(rt, &mut rt.stdout(), &out[..count])?;
+        Ok(())
+    }
 }
 
 fn main(rt: HostRuntime) {
-    console::run(&rt, "week_counts", MORE, write_report);
+    console::run(&rt, "week_counts", MORE, &Weeks);
 }

@@ -1,22 +1,30 @@
 -- `refusals::line_number` meets its contract. Assumes nothing.
-use mathlib.Core.Path.{◌≡◌, sym, ap, ◌∙◌}
-use Prim.Native.Nat.{min}
-use lib.ListN.{length, take}
-use Rattle.lists.specs.Lines.{newline}
-use Rattle.std.specs.List.{count_by}
-use Rattle.std.specs.Prelude.{◌==◌}
-use Rattle.std.proofs.Common.{rules}
-use Rattle.refusals.specs.Blocks.{newlines, line_number}
-use Rattle.lists.proofs.Formats.{first_few}
-use Rattle.refusals.proofs.Numbering.{newlines_is}
 use native.Mathlib.Omega.{arith}
+use mathlib.Core.Path.{sym, ◌∙◌}
+use lib.ListN.{take, length-take}
+use Rattle.refusals.proofs.Numbering.{first_number, number_most, after_newline, after_other, number_before}
 use Rattle.refusals.proofs.line_number.Goals as goal
+use Rattle.refusals.proofs.line_number.Goals.{then-b-eq10, else-b-eq10}
+
+pub loop-b-init : goal.loop-b-init
+loop-b-init c = sym (first_number _)
+
+pub overflow_add-number : goal.overflow_add-number
+overflow_add-number c =
+    let l = c.loop-b in
+    let s = take c.min.result c.args.input.now in
+    record { fits = omega (arith, l.invariant, (number_most s l.b-index).0, length-take c.min.result c.args.input.now, c.requires) }
+
+pub loop-b-preserved : goal.loop-b-preserved
+loop-b-preserved c =
+    let l = c.loop-b in
+    let s = take c.min.result c.args.input.now in
+    elim c.if-b-eq10.branch [
+      | then-b-eq10 w ↦ omega (arith, w.number-is, l.invariant, after_newline s l.b-index (omega arith) w.if-b-eq10.true)
+      | else-b-eq10 w ↦ omega (arith, w.number-is, l.invariant, after_other s l.b-index (omega arith) w.if-b-eq10.false)
+    ]
 
 pub returns : goal.returns
-unfolding line_number
 returns c =
-    let p : c.count.result ≡ count_by (λ b. b == newline) (take (min c.args.from (length c.args.input.now)) c.args.input.now) =
-    search rules in
-    let q : c.count.result ≡ newlines (take c.args.from c.args.input.now)
-    = p ∙ sym (newlines_is _) ∙ ap newlines (first_few c.args.input.now c.args.from) in
-    omega arith
+    let l = c.loop-b in
+    l.invariant ∙ number_before c.args.input.now c.min.result l.b-index c.args.from c.min.ensures (omega arith)
