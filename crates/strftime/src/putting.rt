@@ -9,7 +9,7 @@ ghost use Rattle.strftime.specs.Private.{HasRoom};
 ghost use Rattle.converted.specs.Converted.{number, name, converted};
 ghost use Rattle.strftime.specs.Writing.{element, text};
 
-use crate::moments::ValidMoment;
+use crate::moments::{ValidMoment, value_of};
 use crate::zones::{put_seconds, put_zone};
 use conversions::{Conversion, Form, Style, conversion_of};
 use converted::{case_by, fill_by, full_length, places_by, short_length};
@@ -52,7 +52,7 @@ fn put_converted(out: &mut [u8], at: usize, c: Conversion, moment: Moment) -> us
     ensures { Puts (converted unstyled c moment) out.old at out.new result }
 {
     let width = c.width;
-    let value = moment.value(c.kind);
+    let value = value_of(moment, c.kind);
     match c.form {
         Form::Zeros => put_number(out, at, width, b'0', value),
         Form::Blanks => put_number(out, at, width, b' ', value),
@@ -72,7 +72,7 @@ fn put_styled(out: &mut [u8], at: usize, style: Style, c: Conversion, moment: Mo
     ensures { Puts (converted style c moment) out.old at out.new result }
 {
     let width = c.width;
-    let value = moment.value(c.kind);
+    let value = value_of(moment, c.kind);
     match c.form {
         Form::Zeros => put_styled_number(out, at, style, b'0', width, value),
         Form::Blanks => put_styled_number(out, at, style, b' ', width, value),

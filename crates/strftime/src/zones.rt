@@ -9,6 +9,8 @@ use converted::{BILLION, zone_sign};
 use text::digit_count;
 use values::{Moment, is_negative, magnitude};
 
+// Not in place, where the digits would be worked out ahead of the elements, whatever they write.
+#[inline(never)]
 pub(crate) fn put_zone(out: &mut [u8], at: usize, moment: Moment) -> usize
     requires { at + length (zone moment.offset) ≤ length out.old }
     ensures { Puts (zone moment.offset) out.old at out.new result }
