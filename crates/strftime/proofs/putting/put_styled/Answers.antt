@@ -30,7 +30,8 @@ put_styled_number-requires-in-Blanks c = room (goal.at.put_styled_number-require
 
 pub put_styled_number-requires-in-FromSunday : goal.put_styled_number-requires-in-FromSunday
 unfolding formed
-put_styled_number-requires-in-FromSunday c = room (goal.at.put_styled_number-requires-in-FromSunday c).After-value_of-value c.in-FromSunday.is
+put_styled_number-requires-in-FromSunday c =
+    room (goal.at.put_styled_number-requires-in-FromSunday c).After-value_of-value c.in-FromSunday.is
 
 pub put_styled_name-requires : goal.put_styled_name-requires
 unfolding formed
