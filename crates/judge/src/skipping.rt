@@ -31,9 +31,13 @@ fn search_years(facts: Facts, horizon: u32) -> Found
     let step = year_step(&facts) as usize;
     let mut found = Found::Nothing;
     'years: for year in (first..years.last + 1).step_by(step) {
+        let months = month_span(&facts, year);
+        // Most years, where the ISO year in the century was said: their days are not worked out.
+        if months.last < months.first {
+            continue;
+        }
         let before = date_at(year, 1, 1).day_number() - 1;
         let days = year_days(&facts, before, year_length(year));
-        let months = month_span(&facts, year);
         for month in months.first..months.last + 1 {
             let start = month_start(before, year, month);
             let span = month_days(&facts, days, start, month_length(year, month));

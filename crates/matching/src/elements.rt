@@ -23,6 +23,8 @@ pub enum Item {
     },
 }
 
+// The space that is skipped ends within the text. `min` says so to the compiler, which otherwise puts `next` together from four parts for
+// each byte of a format: a long one took a third more instructions.
 #[tactic(auto, using(crate::proofs::Ways::byte_ways))]
 fn read_byte(b: u8, s: &[u8], at: usize) -> Result<Item, Refused>
     requires { at ≤ length s.now }
@@ -30,7 +32,7 @@ fn read_byte(b: u8, s: &[u8], at: usize) -> Result<Item, Refused>
 {
     if is_space(b) {
         return Ok(Item::Skip {
-            next: skip_space(s, at),
+            next: skip_space(s, at).min(s.len()),
         });
     }
     if s.len() <= at || s[at] != b {

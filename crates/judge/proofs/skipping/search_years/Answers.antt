@@ -22,7 +22,7 @@ use Rattle.judge.proofs.skipping.search_years.Goals as goal
 use Rattle.judge.proofs.skipping.search_years.Goals.{In-years, After-day_number-before, After-year_days-days, In-loop-month}
 use Rattle.judge.proofs.skipping.search_years.Goals.{After-month_start-start, After-month_days-span, In-loop-number}
 use Rattle.judge.proofs.skipping.search_years.Goals.{After-date_at-date, After-day_agrees, then-day_agrees+else-is_two}
-use Rattle.judge.proofs.skipping.search_years.Goals.{else-day_agrees, After-loop-month}
+use Rattle.judge.proofs.skipping.search_years.Goals.{else-day_agrees, After-loop-month, Then-months}
 
 -- ---- in a year that can agree
 some_year : (c : In-years) → 0 < c.years.year
@@ -301,7 +301,27 @@ returns-then-is_two c =
     let h = on-hit d (sym (tested (goal.at.returns-then-is_two c).After-day_agrees) ∙ c.if-day_agrees.true) in
     upto_two _ _ _ _ (rw (← c.hit-found.ensures) at h.upto) (sym c.is_two.ensures ∙ c.if-is_two.true)
 
-pub returns-2 : goal.returns-2
-returns-2 c =
-    no_more_years _ _ c.requires _ _ (next (goal.at.returns-2 c).After-loop-month)
+pub returns-else-months : goal.returns-else-months
+returns-else-months c =
+    no_more_years _ _ c.requires _ _ (next (goal.at.returns-else-months c).After-loop-month)
+    (omega (arith, ap (λ (x : Span). x.last) c.year_span-years.ensures))
+
+-- no month of the year can agree
+skipped : (c : Then-months) → AtYear c.args.facts c.args.horizon (c.years.year + c.year_step-step.result) c.years.found
+skipped c =
+    let e = c.month_span-months.ensures in
+    rw c.year_step-step.ensures
+    (next_year _ _ c.requires _ _ _ (some_year (goal.at.Then-months c).In-years) (c.years.invariant.low, c.years.invariant.stepped)
+    (first_month _ _ c.requires _ _ c.years.invariant)
+    (omega (arith, c.if-months.true, ap (λ (x : Span). x.first) e, ap (λ (x : Span). x.last) e)))
+
+pub years-smaller-then-months : goal.years-smaller-then-months
+years-smaller-then-months c = omega (arith, c.year_step-step.ensures, steps c.args.facts 0)
+
+pub years-preserved-then-months : goal.years-preserved-then-months
+years-preserved-then-months c = skipped (goal.at.years-preserved-then-months c).Then-months
+
+pub returns-then-months : goal.returns-then-months
+returns-then-months c =
+    no_more_years _ _ c.requires _ _ (skipped (goal.at.returns-then-months c).Then-months)
     (omega (arith, ap (λ (x : Span). x.last) c.year_span-years.ensures))
